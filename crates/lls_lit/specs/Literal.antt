@@ -1,0 +1,26 @@
+-- A literal is a whole number that isn't 0: v for a variable, -v for its negation, as DIMACS CNF writes them.
+use Rattle.std.specs.Prelude.{◌≡◌, ◌<◌, ◌≤◌, ℕ, zero, suc, ◌+◌, ◌-◌, ◌*◌, ℤ, pos, negsuc}
+
+-- a variable's number
+abbrev pub IsVariable : ℕ → Type 0
+IsVariable n = (1 ≤ n) × (n ≤ 16777216)
+
+-- the variable of a literal; 0, which is no literal, has none
+abbrev pub variable_of : ℤ → ℕ
+variable_of (pos n) = n
+variable_of (negsuc n) = n + 1
+
+-- a literal's number
+abbrev pub IsLiteral : ℤ → Type 0
+IsLiteral l = IsVariable (variable_of l)
+
+-- -l
+abbrev pub negation : ℤ → ℤ
+negation (pos zero) = pos 0
+negation (pos (suc n)) = negsuc n
+negation (negsuc n) = pos (n + 1)
+
+-- where a literal stands in a table of two entries a variable
+abbrev pub index_of : ℤ → ℕ
+index_of (pos n) = 2 * (n - 1)
+index_of (negsuc n) = 2 * n + 1

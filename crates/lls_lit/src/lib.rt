@@ -1,0 +1,8 @@
+//! Variables and literals of propositional formulas. The meaning of clauses, formulas and assignments stands in specs/.
+#![tactic(auto)]
+
+mod lit;
+mod var;
+
+pub use lit::Lit;
+pub use var::Var;
