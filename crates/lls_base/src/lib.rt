@@ -2,9 +2,13 @@
 #![tactic(auto)]
 
 mod memory;
+mod name;
 mod shelf;
 mod sink;
+mod writing;
 
 pub use memory::Memory;
+pub use name::Name;
 pub use shelf::{OpenFault, Shelf};
 pub use sink::{Failed, Sink};
+pub use writing::write_all;

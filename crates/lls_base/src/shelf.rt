@@ -1,5 +1,5 @@
 // Named files, of which one at a time is read and one at a time is written.
-ghost use Rattle.std.specs.Prelude.{◌≡◌, ◌<◌, ◌≤◌, ℕ, Bool, true, false, is_ok, length, IsTrue, IfOk, IsErrOf, OnErr, IfSome, Option, List};
+ghost use Rattle.std.specs.Prelude.{◌≡◌, ◌<◌, ◌≤◌, ◌^◌, ℕ, Bool, true, false, is_ok, length, IsTrue, IfOk, IsErrOf, OnErr, IfSome, Option, List};
 ghost use Rattle.std.specs.Option.{option_map};
 ghost use Rattle.lls_base.specs.Faults.{Counts, Rose};
 ghost use Rattle.lls_base.specs.Sink.{TookNone};
@@ -74,4 +74,7 @@ pub trait Shelf {
 
     /// Whether there is an input and an output is as told.
     ghost agrees: { (shelf : Self) → IfSome (told shelf) (Agrees (has_input shelf) (has_output shelf)) };
+
+    /// A count of faults has 64 bits.
+    ghost faults_fit: { (shelf : Self) → faults shelf < 2 ^ 64 };
 }

@@ -1,5 +1,5 @@
 // A place that takes bytes, as the standard output does.
-ghost use Rattle.std.specs.Prelude.{◌≡◌, ℕ, ◌<◌, ◌≤◌, List, length, Option, IfOk, OnErr};
+ghost use Rattle.std.specs.Prelude.{◌≡◌, ℕ, ◌<◌, ◌≤◌, ◌^◌, List, length, Option, IfOk, OnErr};
 ghost use Rattle.std.specs.Io.KnownBytes.{append_known};
 ghost use Rattle.lls_base.specs.Faults.{Counts, Rose};
 ghost use Rattle.lls_base.specs.Sink.{bytes_taken, TookNone};
@@ -25,4 +25,7 @@ pub trait Sink {
         // `Failed`, and none taken of a piece that isn't empty, are faults.
         ensures failed { OnErr result (Rose (faults self.old) (faults self.new)) }
         ensures none { TookNone result bytes.now → Rose (faults self.old) (faults self.new) };
+
+    /// A count of faults has 64 bits.
+    ghost faults_fit: { (sink : Self) → faults sink < 2 ^ 64 };
 }
