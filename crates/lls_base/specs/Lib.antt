@@ -1,3 +1,4 @@
 pub mod Faults
 pub mod Sink
 pub mod Shelf
+pub mod Reading

@@ -1,5 +1,5 @@
 -- What a shelf tells, and what each of its calls does to that.
-use Rattle.std.specs.Prelude.{◌≡◌, ◌<◌, ◌≤◌, ℕ, Bool, true, false, List, [], ◌++◌, length, take, drop, Option, None, Some, Result, Ok, Err, IsSome, IsNone, IfSome, MatchOption, is_some, is_none, unwrap_or}
+use Rattle.std.specs.Prelude.{◌≡◌, ◌<◌, ◌≤◌, ℕ, Bool, true, false, List, [], ◌++◌, length, take, drop, Option, None, Some, Result, Ok, Err, IsSome, IsNone, IfSome, MatchOption, is_some, is_none, unwrap_or, option_and_then}
 use Rattle.std.specs.Ordering.{nat_cmp}
 use Rattle.std.specs.Option.{option_map}
 use Rattle.std.specs.Cmp.Lexicographic.{slice_cmp}
@@ -63,3 +63,15 @@ after_write piece (Err e) c = c
 pub record Agrees (has_input has_output : Bool) (c : Contents) : Type 0 where
   pub input : is_some c.rest ≡ has_input
   pub output : is_some c.target ≡ has_output
+
+-- the files, where the shelf tells them
+abbrev pub known_files : Option Contents → Option Files
+known_files told = option_map (λ c. c.files) told
+
+-- the output's name, where the shelf tells it
+abbrev pub known_target : Option Contents → Option (Option (List ℕ))
+known_target told = option_map (λ c. c.target) told
+
+-- what is left of the input, where there is one and the shelf tells it
+abbrev pub known_rest : Option Contents → Option (List ℕ)
+known_rest told = option_and_then (λ c. c.rest) told

@@ -3,12 +3,14 @@
 
 mod memory;
 mod name;
+mod reading;
 mod shelf;
 mod sink;
 mod writing;
 
 pub use memory::Memory;
 pub use name::Name;
+pub use reading::{ReadError, read_all};
 pub use shelf::{OpenFault, Shelf};
 pub use sink::{Failed, Sink};
 pub use writing::write_all;
