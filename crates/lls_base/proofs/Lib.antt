@@ -1,3 +1,5 @@
 pub mod Faults
+pub mod FileMaps
+pub mod Outputs
 pub mod Pieces
 pub mod Rest

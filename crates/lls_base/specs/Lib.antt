@@ -2,3 +2,4 @@ pub mod Faults
 pub mod Sink
 pub mod Shelf
 pub mod Reading
+pub mod Writing

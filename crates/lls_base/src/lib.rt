@@ -13,4 +13,4 @@ pub use name::Name;
 pub use reading::{ReadError, read_all};
 pub use shelf::{OpenFault, Shelf};
 pub use sink::{Failed, Sink};
-pub use writing::write_all;
+pub use writing::{FileFault, write_all, write_file};

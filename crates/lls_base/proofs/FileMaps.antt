@@ -1,0 +1,40 @@
+-- Files by name: what is found, and what is put in another's place.
+use Rattle.std.proofs.Common.{◌≡◌, ℕ, Bool, true, false, cond, List, [], ◌++◌, Option, Some, None, refl, sym, ap, ◌∙◌, unwrap_or}
+use Rattle.std.specs.Ordering.{nat_cmp, eq_by_cmp}
+use Rattle.std.specs.Cmp.Lexicographic.{slice_cmp}
+use Rattle.std.specs.Cmp.{eq_by_cmp_equiv}
+use Rattle.std.proofs.lemmas.Cmp.{nat_list_cmp_total}
+use Rattle.std.specs.FinMap.{get-insert, same_map, slice_cmp-IsAntisymmetric, nat_cmp-IsAntisymmetric}
+use Rattle.std.specs.FinMap as map
+use Rattle.lls_base.specs.Shelf.{Files, bytes_of, append_file}
+
+-- two names are one
+abbrev pub same_name : List ℕ → List ℕ → Bool
+same_name = eq_by_cmp (slice_cmp nat_cmp)
+
+pub same_files : (old new : Files) → ((name : List ℕ) → map.get old name ≡ map.get new name) → old ≡ new
+same_files old new alike = same_map nat_list_cmp_total (slice_cmp-IsAntisymmetric nat_cmp-IsAntisymmetric) old new alike
+
+pub same_name-refl : (name : List ℕ) → same_name name name ≡ true
+same_name-refl name = (eq_by_cmp_equiv nat_list_cmp_total).refl name
+
+cond-cond : {A : Type 0} (b : Bool) (x y z : A) → cond b x (cond b y z) ≡ cond b x z
+cond-cond true x y z = refl
+cond-cond false x y z = refl
+
+pub get-insert_same : (files : Files) (name bytes : List ℕ) → map.get (map.insert files name bytes) name ≡ Some bytes
+get-insert_same files name bytes =
+    get-insert nat_list_cmp_total files name bytes name ∙ ap (λ same. cond same (Some bytes) (map.get files name)) (same_name-refl name)
+
+pub insert-insert : (files : Files) (name first next : List ℕ) → map.insert (map.insert files name first) name next ≡ map.insert files name next
+insert-insert files name first next =
+    same_files _ _ (λ other.
+    get-insert nat_list_cmp_total (map.insert files name first) name next other
+    ∙ ap (cond (same_name other name) (Some next)) (get-insert nat_list_cmp_total files name first other)
+    ∙ cond-cond (same_name other name) (Some next) (Some first) (map.get files other)
+    ∙ sym (get-insert nat_list_cmp_total files name next other))
+
+pub append_file-insert : (files : Files) (name bytes more : List ℕ) → append_file (map.insert files name bytes) name more ≡ map.insert files name (bytes ++ more)
+append_file-insert files name bytes more =
+    ap (λ found. map.insert (map.insert files name bytes) name (unwrap_or found [] ++ more)) (get-insert_same files name bytes)
+    ∙ insert-insert files name bytes (bytes ++ more)
