@@ -3,3 +3,5 @@ pub mod Sink
 pub mod Shelf
 pub mod Reading
 pub mod Writing
+pub mod Schedule
+pub mod MemSink

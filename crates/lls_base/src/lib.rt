@@ -1,13 +1,17 @@
 //! The outside as the program sees it: a sink of bytes, a shelf of named files, whole reads and whole writes.
 #![tactic(auto)]
 
+mod mem_sink;
 mod memory;
 mod name;
 mod reading;
+mod schedule;
 mod shelf;
 mod sink;
+mod tally;
 mod writing;
 
+pub use mem_sink::MemSink;
 pub use memory::Memory;
 pub use name::Name;
 pub use reading::{ReadError, read_all};
