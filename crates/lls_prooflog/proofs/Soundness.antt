@@ -1,0 +1,180 @@
+-- A good step keeps what follows from the formula.
+use Rattle.std.proofs.Common.{◌≡◌, ℕ, zero, suc, ◌+◌, Bool, true, false, not, ◌&&◌, ◌||◌, cond, List, [], ◌∷◌, ◌++◌, map, length, Option, Some, None, refl, sym, ap, ◌∙◌, arith, add-one, eqb}
+use Rattle.std.specs.Prelude.{ℤ, pos, negsuc, filter, is_some, is_none}
+use Rattle.std.specs.List.{list_any, list_all, enumerate_from}
+use Rattle.std.specs.Ordering.{int_eq}
+use Rattle.std.proofs.lemmas.Bool.Decides.{Decides-int_eq}
+use Rattle.std.proofs.lemmas.List.{map-append}
+use Rattle.std.proofs.lemmas.List.Folds.{list_all-append}
+use Rattle.lls_lit.specs.Literal.{negation}
+use Rattle.lls_lit.specs.Formula.{Clause, Cnf, is_true, value_at, satisfies_clause, satisfies, IsUnsatisfiable}
+use Rattle.lls_prooflog.specs.declared.step.Step.{Step}
+use Rattle.lls_prooflog.specs.declared.step.Step.TheVariants.{Add, Del}
+use Rattle.lls_prooflog.specs.UnitWalk.{Fault, IdLive, NoClause, NotUnit, NoConflict, RatHint, Live, find_clause, is_among, remaining, at_clause, at_hint, unit_walk}
+use Rattle.lls_prooflog.specs.Steps.{numbered, fault_of, after, is_empty_addition, are_accepted, IsEntailed}
+
+abbrev pub clauses_of : Live → List Clause
+clauses_of live = map (λ pair. pair.1) live
+
+-- every one of these literals is false
+abbrev pub are_false : List Bool → List ℤ → Bool
+are_false values lits = list_all (λ l. not (is_true values l)) lits
+
+both_true : (a b : Bool) → (a && b) ≡ true → (a ≡ true) × (b ≡ true)
+both_true true b e = (refl, e)
+both_true false b e = absurd cc
+
+-- a clause that is found is satisfied where all are
+found_satisfied : (values : List Bool) (live : Live) (id : ℕ) (clause : Clause) → satisfies values (clauses_of live) ≡ true → find_clause live id ≡ Some clause → satisfies_clause values clause ≡ true
+found_satisfied values [] id clause all e = absurd cc
+found_satisfied values (pair ∷ rest) id clause all e =
+    let both = both_true (satisfies_clause values pair.1) (satisfies values (clauses_of rest)) all in
+    elim (eqb pair.0 id) as (λ b. cond b (Some pair.1) (find_clause rest id) ≡ Some clause → satisfies_clause values clause ≡ true) [
+      | true ↦ λ h. let same : pair.1 ≡ clause = grind arith in rw (← same) both.0
+      | false ↦ λ h. found_satisfied values rest id clause both.1 h
+    ] e
+
+not_true : (b : Bool) → not b ≡ true → b ≡ false
+not_true true e = absurd cc
+not_true false e = refl
+
+second_true : (a b : Bool) → a ≡ false → (a || b) ≡ true → b ≡ true
+second_true true b h e = absurd cc
+second_true false b h e = e
+
+-- among false literals, each is false
+among_false : (values : List Bool) (assumed : List ℤ) (l : ℤ) → are_false values assumed ≡ true → is_among assumed l ≡ true → is_true values l ≡ false
+among_false values [] l all e = absurd cc
+among_false values (m ∷ ms) l all e =
+    let both = both_true (not (is_true values m)) (are_false values ms) all in
+    elim (int_eq l m) as (λ b. int_eq l m ≡ b → (b || is_among ms l) ≡ true → is_true values l ≡ false) [
+      | true ↦ λ is _. let same : l ≡ m = (Decides-int_eq l m).0 is in rw same (not_true (is_true values m) both.0)
+      | false ↦ λ _ h. among_false values ms l both.1 h
+    ] refl e
+
+-- a satisfied clause has a true literal that remains
+remaining_satisfied : (values : List Bool) (assumed : List ℤ) (clause : Clause) → are_false values assumed ≡ true → satisfies_clause values clause ≡ true → satisfies_clause values (remaining assumed clause) ≡ true
+remaining_satisfied values assumed [] all e = absurd cc
+remaining_satisfied values assumed (l ∷ ls) all e =
+    elim (is_among assumed l) as (λ b. is_among assumed l ≡ b → satisfies_clause values (cond (not b) (l ∷ remaining assumed ls) (remaining assumed ls)) ≡ true) [
+      | true ↦ λ is. remaining_satisfied values assumed ls all (second_true (is_true values l) (satisfies_clause values ls) (among_false values assumed l all is) e)
+      | false ↦ λ _. elim (is_true values l) as (λ t. (t || satisfies_clause values ls) ≡ true → (t || satisfies_clause values (remaining assumed ls)) ≡ true) [
+        | true ↦ λ _. refl
+        | false ↦ λ h. remaining_satisfied values assumed ls all h
+      ] e
+    ] refl
+
+or_false : (a : Bool) → (a || false) ≡ true → a ≡ true
+or_false true e = refl
+or_false false e = e
+
+or_twice : (a b : Bool) → (a || (a || b)) ≡ true → (a || b) ≡ true
+or_twice true b e = refl
+or_twice false b e = e
+
+-- where all are the first, and one is true, the first is true
+only_true : (values : List Bool) (l : ℤ) (ls : List ℤ) → list_all (int_eq l) ls ≡ true → satisfies_clause values (l ∷ ls) ≡ true → is_true values l ≡ true
+only_true values l [] all e = or_false (is_true values l) e
+only_true values l (m ∷ ms) all e =
+    let both = both_true (int_eq l m) (list_all (int_eq l) ms) all in
+    let same : l ≡ m = (Decides-int_eq l m).0 both.0 in
+    let twice : (is_true values l || (is_true values l || satisfies_clause values ms)) ≡ true = rw same (rw same at e) in
+    only_true values l ms both.1 (or_twice (is_true values l) (satisfies_clause values ms) twice)
+
+negation_false : (values : List Bool) (l : ℤ) → is_true values l ≡ true → is_true values (negation l) ≡ false
+negation_false values (pos zero) e = absurd cc
+negation_false values (pos (suc n)) e = ap not e
+negation_false values (negsuc n) e = rw add-one (not_true (value_at values n) e)
+
+clause_refutes : (values : List Bool) (hint : ℤ) (lits : List ℤ) (goes_on : ℤ → Option Fault) → satisfies_clause values lits ≡ true → at_clause hint lits goes_on ≡ None → ((l : ℤ) → is_true values l ≡ true → goes_on l ≡ None → ⊥) → ⊥
+clause_refutes values hint [] goes_on one e next = cc
+clause_refutes values hint (l ∷ ls) goes_on one e next =
+    elim (list_all (int_eq l) ls) as (λ b. list_all (int_eq l) ls ≡ b → cond b (goes_on l) (Some (NotUnit hint)) ≡ None → ⊥) [
+      | true ↦ λ same h. next l (only_true values l ls same one) h
+      | false ↦ λ _ h. cc
+    ] refl e
+
+-- no assignment satisfies the live clauses with the assumed literals false, where the hints lead to a conflict
+pub walk_refutes : (values : List Bool) (live : Live) (assumed hints : List ℤ) → satisfies values (clauses_of live) ≡ true → are_false values assumed ≡ true → unit_walk live assumed hints ≡ None → ⊥
+walk_refutes values live assumed [] all none e = cc
+walk_refutes values live assumed (pos id ∷ hints) all none e =
+    elim (find_clause live id) as (λ o. find_clause live id ≡ o → at_hint (pos id) assumed o (λ l. unit_walk live (assumed ++ negation l ∷ []) hints) ≡ None → ⊥) [
+      | None ↦ λ _ h. cc
+      | Some clause ↦ λ found h.
+          clause_refutes values (pos id) (remaining assumed clause) (λ l. unit_walk live (assumed ++ negation l ∷ []) hints)
+          (remaining_satisfied values assumed clause none (found_satisfied values live id clause all found))
+          h
+          (λ l is next. walk_refutes values live (assumed ++ negation l ∷ []) hints all (rw (list_all-append (λ m. not (is_true values m)) assumed (negation l ∷ []), none, negation_false values l is) refl) next)
+    ] refl e
+walk_refutes values live assumed (negsuc n ∷ hints) all none e = cc
+
+none_true : (values : List Bool) (lits : List ℤ) → satisfies_clause values lits ≡ false → are_false values lits ≡ true
+none_true values [] e = refl
+none_true values (l ∷ ls) e =
+    elim (is_true values l) as (λ t. (t || satisfies_clause values ls) ≡ false → (not t && are_false values ls) ≡ true) [
+      | true ↦ λ h. absurd cc
+      | false ↦ λ h. none_true values ls h
+    ] e
+
+kept_satisfied : (values : List Bool) (keep : ℕ × Clause → Bool) (live : Live) → satisfies values (clauses_of live) ≡ true → satisfies values (clauses_of (filter keep live)) ≡ true
+kept_satisfied values keep [] all = refl
+kept_satisfied values keep (pair ∷ rest) all =
+    let both = both_true (satisfies_clause values pair.1) (satisfies values (clauses_of rest)) all in
+    let others = kept_satisfied values keep rest both.1 in
+    elim (keep pair) as (λ b. satisfies values (clauses_of (cond b (pair ∷ filter keep rest) (filter keep rest))) ≡ true) [
+      | true ↦ rw (both.0, others) refl
+      | false ↦ others
+    ]
+
+-- a good addition's hints lead to a conflict
+pub walk_is_good : (live : Live) (id : ℕ) (lits hints : List ℤ) → fault_of live (Add id lits hints) ≡ None → unit_walk live lits hints ≡ None
+walk_is_good live id lits hints e =
+    elim (is_some (find_clause live id)) as (λ b. cond b (Some (IdLive id)) (unit_walk live lits hints) ≡ None → unit_walk live lits hints ≡ None) [
+      | true ↦ λ h. absurd cc
+      | false ↦ λ h. h
+    ] e
+
+-- what satisfies the live clauses satisfies those after a good step
+pub good_step_satisfied : (values : List Bool) (live : Live) (step : Step) → satisfies values (clauses_of live) ≡ true → fault_of live step ≡ None → satisfies values (clauses_of (after live step)) ≡ true
+good_step_satisfied values live (Add id lits hints) all good =
+    let walk = walk_is_good live id lits hints good in
+    let one : satisfies_clause values lits ≡ true =
+    elim (satisfies_clause values lits) as (λ b. satisfies_clause values lits ≡ b → b ≡ true) [
+      | true ↦ λ _. refl
+      | false ↦ λ none. absurd (walk_refutes values live lits hints all (none_true values lits none) walk)
+    ] refl
+    in rw (map-append (λ (pair : ℕ × Clause). pair.1) live ((id, lits) ∷ []), list_all-append (satisfies_clause values) (clauses_of live) (lits ∷ []), all, one) refl
+good_step_satisfied values live (Del ids) all good = kept_satisfied values _ live all
+
+clauses_of-enumerate : (n : ℕ) (clauses : List Clause) → clauses_of (enumerate_from n clauses) ≡ clauses
+clauses_of-enumerate n [] = refl
+clauses_of-enumerate n (c ∷ cs) = ap (λ (l : List Clause). c ∷ l) (clauses_of-enumerate (n + 1) cs)
+
+-- a formula entails its own clauses
+pub IsEntailed-numbered : (formula : Cnf) → IsEntailed formula (numbered formula.clauses)
+IsEntailed-numbered formula values len all = rw (clauses_of-enumerate 1 formula.clauses) all
+
+pub IsEntailed-after : (formula : Cnf) (live : Live) (step : Step) → IsEntailed formula live → fault_of live step ≡ None → IsEntailed formula (after live step)
+IsEntailed-after formula live step entailed good values len all = good_step_satisfied values live step (entailed values len all) good
+
+-- where the empty clause can be added, no assignment satisfies the formula
+pub unsatisfiable_at_empty : (formula : Cnf) (live : Live) (step : Step) → IsEntailed formula live → fault_of live step ≡ None → is_empty_addition step ≡ true → IsUnsatisfiable formula
+unsatisfiable_at_empty formula live (Add id [] hints) entailed good empty values len =
+    elim (satisfies values formula.clauses) as (λ b. satisfies values formula.clauses ≡ b → b ≡ false) [
+      | true ↦ λ all. absurd (walk_refutes values live [] hints (entailed values len all) refl (walk_is_good live id [] hints good))
+      | false ↦ λ _. refl
+    ] refl
+unsatisfiable_at_empty formula live (Add id (l ∷ ls) hints) entailed good empty values len = absurd cc
+unsatisfiable_at_empty formula live (Del ids) entailed good empty values len = absurd cc
+
+-- no assignment satisfies a formula with an accepted proof
+pub unsatisfiable_if_accepted : (formula : Cnf) (live : Live) (steps : List Step) → IsEntailed formula live → are_accepted live steps ≡ true → IsUnsatisfiable formula
+unsatisfiable_if_accepted formula live [] entailed e = absurd cc
+unsatisfiable_if_accepted formula live (step ∷ steps) entailed e =
+    elim (fault_of live step) as (λ o. fault_of live step ≡ o → cond (is_none o) (is_empty_addition step || are_accepted (after live step) steps) false ≡ true → IsUnsatisfiable formula) [
+      | None ↦ λ good h. elim (is_empty_addition step) as (λ b. is_empty_addition step ≡ b → (b || are_accepted (after live step) steps) ≡ true → IsUnsatisfiable formula) [
+        | true ↦ λ empty _. unsatisfiable_at_empty formula live step entailed good empty
+        | false ↦ λ _ k. unsatisfiable_if_accepted formula (after live step) steps (IsEntailed-after formula live step entailed good) k
+      ] refl h
+      | Some fault ↦ λ _ h. absurd cc
+    ] refl e

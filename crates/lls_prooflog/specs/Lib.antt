@@ -1,0 +1,3 @@
+pub mod UnitWalk
+pub mod Steps
+pub mod Worked

@@ -1,0 +1,32 @@
+-- Good steps, the clauses that are live after a step, and accepted proofs.
+use Rattle.std.specs.Prelude.{◌≡◌, ℕ, ℤ, Bool, true, false, not, ◌||◌, List, [], ◌∷◌, ◌++◌, map, length, Option, Some, None, is_some, is_none, filter, if◌then◌else◌, ◌==◌}
+use Rattle.std.specs.List.{list_any}
+use Rattle.lls_prooflog.specs.declared.step.Step.{Step}
+use Rattle.lls_prooflog.specs.declared.step.Step.TheVariants.{Add, Del}
+use Rattle.lls_lit.specs.Formula.{Clause, Cnf, satisfies}
+pub use Rattle.lls_prooflog.specs.UnitWalk.{Fault, IdLive, NoClause, NotUnit, NoConflict, RatHint, Live, numbered, find_clause, unit_walk}
+
+-- what is wrong with a step: None where it is good. Every deletion is
+abbrev pub fault_of : Live → Step → Option Fault
+fault_of live (Add id lits hints) = if is_some (find_clause live id) then Some (IdLive id) else unit_walk live lits hints
+fault_of live (Del ids) = None
+
+-- the live clauses after a good step
+abbrev pub after : Live → Step → Live
+after live (Add id lits hints) = live ++ (id, lits) ∷ []
+after live (Del ids) = filter (λ pair. not (list_any (λ id. id == pair.0) ids)) live
+
+abbrev pub is_empty_addition : Step → Bool
+is_empty_addition (Add id [] hints) = true
+is_empty_addition (Add id (l ∷ ls) hints) = false
+is_empty_addition (Del ids) = false
+
+-- the steps up to and with the first addition of the empty clause are good in turn, and there is one
+abbrev pub are_accepted : Live → List Step → Bool
+are_accepted live [] = false
+are_accepted live (step ∷ steps) =
+    if is_none (fault_of live step) then (is_empty_addition step || are_accepted (after live step) steps) else false
+
+-- an assignment of the formula's variables that satisfies the formula satisfies each live clause
+abbrev pub IsEntailed : Cnf → Live → Type 0
+IsEntailed formula live = (values : List Bool) → length values ≡ formula.vars → satisfies values formula.clauses ≡ true → satisfies values (map (λ pair. pair.1) live) ≡ true
