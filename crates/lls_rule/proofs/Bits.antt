@@ -65,22 +65,22 @@ length-table_in words h = length-bits_in 64 words ∙ ap (λ n. 64 * n) h.eight
 word_bits_changed : (k word new bit : ℕ) (live : Bool) → bit < k → has_bit new bit ≡ live → ((i : ℕ) → i < k → i ≢ bit → has_bit new i ≡ has_bit word i) → word_bits k new ≡ set (word_bits k word) bit live
 word_bits_changed k word new bit live h same others =
     same_lists (word_bits k new) (set (word_bits k word) bit live) (length-word_bits k new ∙ sym (length-set (word_bits k word) bit live ∙ length-word_bits k word)) (λ i d g.
-        let within : i < k = omega (arith, length-word_bits k new, g) in
-        get_or-word_bits k new i d within ∙ (elim (eqb_tells i bit) [
-            inl t ↦ ap (has_bit new) t.1 ∙ (same ∙ sym (get_or-set_at (word_bits k word) bit i live d t.1 (omega (arith, length-word_bits k word))))
-          | inr t ↦ others i within t.1 ∙ sym (get_or-set_other (word_bits k word) bit i live d t.1 ∙ get_or-word_bits k word i d within)
-        ]))
+    let within : i < k = omega (arith, length-word_bits k new, g) in
+    get_or-word_bits k new i d within ∙ (elim (eqb_tells i bit) [
+      | inl t ↦ ap (has_bit new) t.1 ∙ (same ∙ sym (get_or-set_at (word_bits k word) bit i live d t.1 (omega (arith, length-word_bits k word))))
+      | inr t ↦ others i within t.1 ∙ sym (get_or-set_other (word_bits k word) bit i live d t.1 ∙ get_or-word_bits k word i d within)
+    ]))
 
 pub bits_of_word_set : (word bit : ℕ) → bit < 64 → bits_of_word (bit_or word (1 * 2 ^ bit % 2 ^ 64)) ≡ set (bits_of_word word) bit true
 unfolding bits_of_word
 bits_of_word_set word bit h =
     word_bits_changed 64 word (bit_or word (1 * 2 ^ bit % 2 ^ 64)) bit true h
-        (ap (λ n. nat_eq n 1) (bit_at_set_same w64 word bit h))
-        (λ i within other. ap (λ n. nat_eq n 1) (bit_at_set_other w64 word bit h i other))
+    (ap (λ n. nat_eq n 1) (bit_at_set_same w64 word bit h))
+    (λ i within other. ap (λ n. nat_eq n 1) (bit_at_set_other w64 word bit h i other))
 
 pub bits_of_word_cleared : (word bit : ℕ) → bit < 64 → bits_of_word (bit_and word (2 ^ 64 - 1 - 1 * 2 ^ bit % 2 ^ 64)) ≡ set (bits_of_word word) bit false
 unfolding bits_of_word
 bits_of_word_cleared word bit h =
     word_bits_changed 64 word (bit_and word (2 ^ 64 - 1 - 1 * 2 ^ bit % 2 ^ 64)) bit false h
-        (ap (λ n. nat_eq n 1) (bit_at_clear_same w64 word bit h))
-        (λ i within other. ap (λ n. nat_eq n 1) (bit_at_clear_other w64 word bit h i within other))
+    (ap (λ n. nat_eq n 1) (bit_at_clear_same w64 word bit h))
+    (λ i within other. ap (λ n. nat_eq n 1) (bit_at_clear_other w64 word bit h i within other))

@@ -1,5 +1,5 @@
 -- What the masks of the centre and of the eight round it give, for each of the 512 neighbourhoods.
-use Rattle.std.proofs.Common.{◌≡◌, ℕ, ◌<◌, ◌≤◌, [], ◌∷◌, nat_eq, Bool, true, bit_and, refl, ap, ◌∙◌, sym, arith}
+use Rattle.std.proofs.Common.{◌≡◌, ℕ, ◌<◌, ◌≤◌, [], ◌∷◌, nat_eq, true, bit_and, refl, arith}
 use Rattle.std.specs.Prelude.{count_ones}
 use Rattle.std.specs.Int.Count.{ones}
 use Rattle.std.proofs.lemmas.Bool.{agree_below, agree_below_at}

@@ -1,10 +1,7 @@
 -- Tables of 512 answers.
-use Rattle.std.proofs.Common.{◌≡◌, ℕ, ◌+◌, ◌<◌, List, [], ◌∷◌, suc, zero, Bool, length, ◌≢◌, set, refl, ap, ◌∙◌, sym, get_or, arith}
+use Rattle.std.proofs.Common.{◌≡◌, ℕ, ◌<◌, List, Bool, length, ◌≢◌, set, ◌∙◌, sym, arith}
 use Rattle.std.proofs.lemmas.List.FromFn.{length-map-range_with_len, get_or-map-range_with_len}
 use Rattle.std.proofs.lemmas.List.{same_lists, get_or_default, get_or-set_same, get_or-set_other}
-use Rattle.std.proofs.Math.ListN.{get_or-eq_default}
-use Rattle.std.specs.List.{range_with_len}
-use Rattle.std.specs.Prelude.{map}
 use Rattle.lls_rule.specs.Rule.{table_of, answer}
 
 pub length-table_of : (f : ℕ → Bool) → length (table_of f) ≡ 512

@@ -1,5 +1,5 @@
 -- A rule as a table of 512 answers, by the number of a neighbourhood, and what follows from it.
-use Rattle.std.specs.Prelude.{ℕ, ◌+◌, ◌*◌, ◌/◌, ◌%◌, ◌^◌, ◌==◌, suc, zero, Bool, true, false, cond, List, [], ◌∷◌, map, fold, count_by, replicate, slice_index_or}
+use Rattle.std.specs.Prelude.{ℕ, ◌+◌, ◌*◌, ◌/◌, ◌%◌, ◌^◌, ◌==◌, suc, zero, Bool, false, cond, List, [], ◌∷◌, map, fold, count_by, replicate, slice_index_or}
 use Rattle.std.specs.List.{range_with_len}
 
 -- the number of a list of bits, from the greatest weight to the least

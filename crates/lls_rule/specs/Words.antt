@@ -1,6 +1,6 @@
 -- How a rule keeps its 512 answers in eight words of 64 bits, and gets the words back from the answers.
 use Rattle.std.specs.Prelude.{ℕ, ◌+◌, ◌*◌, ◌/◌, ◌^◌, ◌<◌, ◌≡◌, suc, zero, Bool, cond, List, [], ◌∷◌, ◌++◌, take, drop, length, flat_map, refl}
-use Rattle.std.proofs.Common.{get_or, ap, ◌∙◌, sym, arith, subst}
+use Rattle.std.proofs.Common.{get_or, ap, ◌∙◌, arith, subst}
 use Rattle.std.proofs.Math.Seq.{take-append_seam, drop-append_seam}
 use Rattle.std.proofs.Math.Nat.{pow-suc}
 use Rattle.std.proofs.lemmas.Bool.Decides.{nat_tests}
@@ -73,7 +73,7 @@ words_in-bits_in width (word ∷ words) within =
     let len = length-word_bits width word in
     let first : word_of (take width (bits ++ rest)) ≡ word = ap word_of (split-take width bits rest len) ∙ word_of-word_bits width word (within 0) in
     let others : words_in width (length words) (drop width (bits ++ rest)) ≡ words =
-            ap (words_in width (length words)) (split-drop width bits rest len) ∙ words_in-bits_in width words (λ k. within (suc k)) in
+    ap (words_in width (length words)) (split-drop width bits rest len) ∙ words_in-bits_in width words (λ k. within (suc k)) in
     ap (λ n. n ∷ words_in width (length words) (drop width (bits ++ rest))) first ∙ ap (λ ws. word ∷ ws) others
 
 -- a rule's words are those that its table gives

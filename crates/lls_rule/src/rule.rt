@@ -161,6 +161,7 @@ mod tests {
             (0b101_010_101, false),
             (511, false),
         ] {
+            assert!(rt; nine < 512);
             assert_eq!(rt; life.next(nine), live, "at {nine}");
         }
     }
@@ -173,7 +174,12 @@ mod tests {
             (1, 0b1_0000_0000, [false, true, true, true]),
         ] {
             let rule = Rule::from_counts(birth, survive);
-            let found = [rule.background(0), rule.background(1), rule.background(2), rule.background(3)];
+            let found = [
+                rule.background(0),
+                rule.background(1),
+                rule.background(2),
+                rule.background(3),
+            ];
             assert_eq!(rt; found, first, "at {birth} {survive}");
         }
     }

@@ -1,4 +1,4 @@
-use Rattle.std.proofs.Common.{◌≡◌, ℕ, ◌<◌, ◌∙◌, sym, ap, arith, below_more, length, subst}
+use Rattle.std.proofs.Common.{◌∙◌, ap, arith, below_more, length}
 use Rattle.lls_rule.specs.Rule.{answer, by_counts}
 use Rattle.lls_rule.proofs.Tables.{length-table_of, same_table_of, answer-set_same, answer-set_other}
 use Rattle.lls_rule.proofs.rule.Rule.from_counts.Goals as goal
@@ -7,10 +7,12 @@ pub loop-nine-init : goal.loop-nine-init
 loop-nine-init c = (ap length c.dead-rule.ensures ∙ length-table_of _, λ n h. absurd (omega arith))
 
 pub loop-nine-preserved : goal.loop-nine-preserved
-loop-nine-preserved c =
-    (c.set.ensures.whole, below_more _ _
-        (λ n h. ap (λ table. answer table n) c.set.ensures.sets ∙ (answer-set_other c.loop-nine.rule c.loop-nine.nine n c.lives.result (λ e. absurd (omega arith)) ∙ c.loop-nine.invariant.1 n h))
-        (ap (λ table. answer table c.loop-nine.nine) c.set.ensures.sets ∙ (answer-set_same c.loop-nine.rule c.loop-nine.nine c.lives.result (omega (arith, c.loop-nine.invariant.0)) ∙ c.lives.ensures)))
+loop-nine-preserved c = (
+  c.set.ensures.whole,
+  below_more _ _
+      (λ n h. ap (λ table. answer table n) c.set.ensures.sets ∙ (answer-set_other c.loop-nine.rule c.loop-nine.nine n c.lives.result (λ e. absurd (omega arith)) ∙ c.loop-nine.invariant.1 n h))
+      (ap (λ table. answer table c.loop-nine.nine) c.set.ensures.sets ∙ (answer-set_same c.loop-nine.rule c.loop-nine.nine c.lives.result (omega (arith, c.loop-nine.invariant.0)) ∙ c.lives.ensures)),
+)
 
 pub returns : goal.returns
 returns c =

@@ -1,4 +1,4 @@
-use Rattle.std.proofs.Common.{◌≡◌, ◌∙◌, sym, ap, subst, List, Bool, length}
+use Rattle.std.proofs.Common.{◌∙◌, sym, ap, length}
 use Rattle.lls_rule.specs.Rule.{answer}
 use Rattle.lls_rule.proofs.Bits.{answer-table_in, length-table_in}
 use Rattle.lls_rule.proofs.rule.Rule.next.Goals as goal
