@@ -1,0 +1,78 @@
+-- Reading a history that is folded from its cells in order.
+use Rattle.std.proofs.Common.{◌≡◌, ◌<◌, ◌≤◌, ℕ, zero, suc, ◌+◌, ◌*◌, ℤ, pos, negsuc, Bool, true, false, List, [], ◌∷◌, length, map, refl, sym, ap, ◌∙◌, arith, Option, None, Some, slice_get, get_or, rules, replicate}
+use Rattle.std.specs.List.{range_with_len}
+use Rattle.std.proofs.lemmas.List.{get_or_past}
+use Rattle.std.proofs.lemmas.List.FromFn.{length-map-range_with_len, get_or-map-range_with_len}
+use Rattle.std.proofs.lemmas.Option.{slice_get-get_or, slice_get_past}
+use Rattle.lls_grid.specs.History.{History, folded, rows_at, cell_at, height_of, width_of, dead}
+
+-- the row y of generation t, and the rows of that generation
+abbrev row_at : ℕ → ℕ → List Bool → ℕ → ℕ → List Bool
+row_at height width cells t y = map (λ x. get_or cells (x + width * (y + height * t)) false) (range_with_len 0 width)
+
+abbrev all_rows : ℕ → ℕ → List Bool → ℕ → List (List Bool)
+all_rows height width cells t = map (row_at height width cells t) (range_with_len 0 height)
+
+pub length-folded : (generations height width : ℕ) (cells : List Bool) → length (folded generations height width cells) ≡ generations
+unfolding folded
+length-folded generations height width cells = length-map-range_with_len _ 0 generations
+
+pub rows_at-folded : (generations height width : ℕ) (cells : List Bool) (t : ℕ) → t < generations → rows_at (folded generations height width cells) t ≡ all_rows height width cells t
+unfolding folded
+rows_at-folded generations height width cells t lt = get_or-map-range_with_len (all_rows height width cells) 0 generations t t [] lt refl
+
+row-all_rows : (height width : ℕ) (cells : List Bool) (t y : ℕ) → y < height → get_or (all_rows height width cells t) y [] ≡ row_at height width cells t y
+row-all_rows height width cells t y lt = get_or-map-range_with_len (row_at height width cells t) 0 height y y [] lt refl
+
+-- a cell inside the grid
+pub cell_at-folded : (generations height width : ℕ) (cells : List Bool) (t y x : ℕ) → t < generations → y < height → x < width
+    → cell_at (folded generations height width cells) t y x ≡ Some (get_or cells (x + width * (y + height * t)) false)
+cell_at-folded generations height width cells t y x t_in y_in x_in =
+    ap (λ rows. slice_get (get_or rows y []) x) (rows_at-folded generations height width cells t t_in)
+    ∙ ap (λ row. slice_get row x) (row-all_rows height width cells t y y_in)
+    ∙ slice_get-get_or (row_at height width cells t y) x false (rw length-map-range_with_len x_in)
+    ∙ ap Some (get_or-map-range_with_len _ 0 width x x false x_in refl)
+
+-- no cell below the grid, and none to the right of it
+pub cell_at-folded_below : (generations height width : ℕ) (cells : List Bool) (t y x : ℕ) → t < generations → height ≤ y
+    → cell_at (folded generations height width cells) t y x ≡ None
+cell_at-folded_below generations height width cells t y x t_in y_out =
+    ap (λ rows. slice_get (get_or rows y []) x) (rows_at-folded generations height width cells t t_in)
+    ∙ ap (λ row. slice_get row x) (get_or_past (all_rows height width cells t) y [] (rw length-map-range_with_len y_out))
+
+pub cell_at-folded_right : (generations height width : ℕ) (cells : List Bool) (t y x : ℕ) → t < generations → y < height → width ≤ x
+    → cell_at (folded generations height width cells) t y x ≡ None
+cell_at-folded_right generations height width cells t y x t_in y_in x_out =
+    ap (λ rows. slice_get (get_or rows y []) x) (rows_at-folded generations height width cells t t_in)
+    ∙ ap (λ row. slice_get row x) (row-all_rows height width cells t y y_in)
+    ∙ slice_get_past (row_at height width cells t y) x (rw length-map-range_with_len x_out)
+
+-- its sizes
+pub height_of-folded : (generations height width : ℕ) (cells : List Bool) → 0 < generations → height_of (folded generations height width cells) ≡ height
+height_of-folded generations height width cells some =
+    ap length (rows_at-folded generations height width cells 0 some) ∙ length-map-range_with_len _ 0 height
+
+pub width_of-folded : (generations height width : ℕ) (cells : List Bool) → 0 < generations → 0 < height → width_of (folded generations height width cells) ≡ width
+width_of-folded generations height width cells some rows =
+    ap (λ all. length (get_or all 0 [])) (rows_at-folded generations height width cells 0 some)
+    ∙ ap length (row-all_rows height width cells 0 0 rows)
+    ∙ length-map-range_with_len _ 0 width
+
+-- dead cells fold into a dead history
+map_const : {X : Type 0} (x : X) (a n : ℕ) → map (λ (k : ℕ). x) (range_with_len a n) ≡ replicate n x
+map_const x a zero = refl
+map_const x a (suc n) = ap (λ xs. x ∷ xs) (map_const x (a + 1) n)
+
+get_or-replicate : (n i : ℕ) → get_or (replicate n false) i false ≡ false
+get_or-replicate zero i = refl
+get_or-replicate (suc n) zero = refl
+get_or-replicate (suc n) (suc i) = get_or-replicate n i
+
+map_same : {X : Type 0} (f : ℕ → X) (x : X) (a n : ℕ) → ((k : ℕ) → f k ≡ x) → map f (range_with_len a n) ≡ replicate n x
+map_same f x a zero same = refl
+map_same f x a (suc n) same = simp (same a) (ap (λ xs. x ∷ xs) (map_same f x (a + 1) n same))
+
+pub folded-replicate : (generations height width n : ℕ) → folded generations height width (replicate n false) ≡ dead generations height width
+unfolding folded
+folded-replicate generations height width n =
+    map_same _ _ 0 generations (λ t. map_same _ _ 0 height (λ y. map_same _ _ 0 width (λ x. get_or-replicate n (x + width * (y + height * t)))))

@@ -1,0 +1,72 @@
+-- Histories of two-state cells on the square grid, the values of places in and around the grid, and neighbourhoods.
+use Rattle.std.specs.Prelude.{◌≡◌, ◌<◌, ◌≤◌, ℕ, zero, suc, ◌+◌, ◌*◌, ◌-◌, ℤ, pos, negsuc, ◌+ℤ◌, ◌-ℤ◌, Bool, true, false, List, [], ◌∷◌, length, map, Option, None, Some, unwrap_or, replicate, slice_get, slice_index_or, nat_eq, ◌==◌, ◌&&◌}
+use Rattle.std.specs.List.{list_all, flat_map, range_with_len, count_by}
+use Rattle.lls_rule.specs.Rule.{background}
+
+-- generations, each of rows from the top, each of cells from the left, live or dead
+abbrev pub History : Type 0
+History = List (List (List Bool))
+
+-- every generation has that many rows of that many cells
+abbrev pub has_shape : ℕ → ℕ → List (List Bool) → Bool
+has_shape height width rows = (length rows == height) && list_all (λ row. length row == width) rows
+
+abbrev pub HasSizes : ℕ → ℕ → ℕ → History → Type 0
+HasSizes generations height width history =
+    (length history ≡ generations) × (list_all (has_shape height width) history ≡ true)
+
+-- the sizes of a history whose generations are alike
+abbrev pub height_of : History → ℕ
+height_of history = length (slice_index_or history 0 [])
+
+abbrev pub width_of : History → ℕ
+width_of history = length (slice_index_or (slice_index_or history 0 []) 0 [])
+
+-- the rows of a generation, and a row of it; past the end there is none
+abbrev pub rows_at : History → ℕ → List (List Bool)
+rows_at history t = slice_index_or history t []
+
+-- the cell inside the grid at generation t, row y and column x, from 0
+abbrev pub cell_at : History → ℕ → ℕ → ℕ → Option Bool
+cell_at history t y x = slice_get (slice_index_or (rows_at history t) y []) x
+
+-- the value of any place: the cell inside the grid, the generation's background outside
+abbrev pub at : List Bool → History → ℕ → ℤ → ℤ → Bool
+at table history t (pos y) (pos x) = unwrap_or (cell_at history t y x) (background table t)
+at table history t (pos y) (negsuc x) = background table t
+at table history t (negsuc y) (pos x) = background table t
+at table history t (negsuc y) (negsuc x) = background table t
+
+-- three neighbours in a row
+abbrev pub three : List Bool → History → ℕ → ℤ → ℤ → List Bool → List Bool
+three table history t y x rest =
+    at table history t y (x -ℤ pos 1) ∷ at table history t y x ∷ at table history t y (x +ℤ pos 1) ∷ rest
+
+-- the neighbourhood of a place: nine values from top left to bottom right
+abbrev pub nine : List Bool → History → ℕ → ℤ → ℤ → List Bool
+nine table history t y x =
+    three table history t (y -ℤ pos 1) x (three table history t y x (three table history t (y +ℤ pos 1) x []))
+
+-- the cells of a generation and of a history in the order generation, row, column
+abbrev pub cells_of_rows : List (List Bool) → List Bool
+cells_of_rows rows = flat_map (λ row. row) rows
+
+abbrev pub cells_of : History → List Bool
+cells_of history = flat_map cells_of_rows history
+
+-- a history of these sizes whose cells are all dead
+abbrev pub dead : ℕ → ℕ → ℕ → History
+dead generations height width = replicate generations (replicate height (replicate width false))
+
+-- the cells in that order, folded into rows and generations
+unfoldable pub folded : ℕ → ℕ → ℕ → List Bool → History
+folded generations height width cells =
+    map (λ t. map (λ y. map (λ x. slice_index_or cells (x + width * (y + height * t)) false) (range_with_len 0 width)) (range_with_len 0 height)) (range_with_len 0 generations)
+
+-- sizes within the limits, and a cell for each place
+pub record IsShaped (generations height width : ℕ) (cells : List Bool) : Type 0 where
+  pub generations_fit : (1 ≤ generations) × (generations ≤ 64)
+  pub height_fits : (1 ≤ height) × (height ≤ 64)
+  pub width_fits : (1 ≤ width) × (width ≤ 64)
+  pub count : length cells ≡ width * (height * generations)
+  pub most : length cells ≤ 8192

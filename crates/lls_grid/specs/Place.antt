@@ -1,0 +1,7 @@
+-- Places along one side of a grid.
+use Rattle.std.specs.Prelude.{ℕ, ℤ, pos, negsuc, nat_lt, Option, None, Some, if◌then◌else◌}
+
+-- the row or the column of a place, where it is one of `size`
+abbrev pub inside : ℤ → ℕ → Option ℕ
+inside (pos n) size = if nat_lt n size then Some n else None
+inside (negsuc n) size = None

@@ -1,0 +1,100 @@
+// A history.
+ghost use Rattle.std.specs.Prelude.{◌≡◌, ◌×◌, ◌<◌, ◌≤◌, ◌*◌, ℕ, ℤ, pos, negsuc, ◌≤ℤ◌, length, IfOk};
+ghost use Rattle.lls_rule.specs.Rule.{number_of};
+ghost use Rattle.lls_grid.specs.History.{HasSizes, at, nine, dead, height_of, width_of};
+
+use crate::place::index_within;
+use lls_base::Memory;
+use lls_rule::Rule;
+use std::alloc::Global;
+use std::marker::Model;
+
+/// 1 to 64 generations of 1 to 64 rows of 1 to 64 cells, at most 8,192 cells in all.
+#[derive(Drop)]
+pub struct History {
+    generations: u32,
+    height: u32,
+    width: u32,
+    cells: Vec<bool>,
+}
+
+impl Model for History {
+    ghost use Rattle.std.specs.Prelude.{List, Bool};
+    ghost use Rattle.lls_grid.specs.History.{folded, IsShaped};
+
+    ghost Value = { List (List (List Bool)) };
+
+    ghost view = { λ h. folded h.generations h.height h.width h.cells.items };
+
+    ghost invariant = { λ h. IsShaped h.generations h.height h.width h.cells.items };
+}
+
+impl History {
+    /// A history of these sizes whose cells are all dead.
+    pub fn new(alloc: Global, generations: u32, height: u32, width: u32) -> Result<History, Memory>
+        requires generations { (1 ≤ generations) × (generations ≤ 64) }
+        requires height { (1 ≤ height) × (height ≤ 64) }
+        requires width { (1 ≤ width) × (width ≤ 64) }
+        requires most { width * (height * generations) ≤ 8192 }
+        ensures { IfOk result (λ history. history ≡ dead generations height width) }
+    {
+        let count = width * (height * generations);
+        Ok(History {
+            generations,
+            height,
+            width,
+            cells: vec![in alloc; false; count as usize]?,
+        })
+    }
+
+    pub fn generations(&self) -> u32
+        ensures { result ≡ length self.now }
+    {
+        self.generations
+    }
+
+    pub fn height(&self) -> u32
+        ensures { result ≡ height_of self.now }
+    {
+        self.height
+    }
+
+    pub fn width(&self) -> u32
+        ensures { result ≡ width_of self.now }
+    {
+        self.width
+    }
+
+    /// The value of a place: the cell inside the grid, the rule's background of that generation outside.
+    /// Generations count from 0, y from the top row and x from the left column, from 0.
+    pub fn at(&self, rule: &Rule, t: u32, y: i32, x: i32) -> bool
+        requires generation { t < length self.now }
+        requires row { (negsuc 199 ≤ℤ y) × (y ≤ℤ pos 200) }
+        requires column { (negsuc 199 ≤ℤ x) × (x ≤ℤ pos 200) }
+        ensures { result ≡ at rule.now self.now t y x }
+    {
+        match (index_within(y, self.height), index_within(x, self.width)) {
+            (Some(row), Some(column)) => {
+                self.cells[(column + self.width * (row + self.height * t)) as usize]
+            }
+            _ => rule.background(t),
+        }
+    }
+
+    /// The number of a place's neighbourhood, with the weights 256 128 64 / 32 16 8 / 4 2 1 from top left to bottom right.
+    pub fn nine(&self, rule: &Rule, t: u32, y: i32, x: i32) -> u16
+        requires generation { t < length self.now }
+        requires row { (negsuc 198 ≤ℤ y) × (y ≤ℤ pos 199) }
+        requires column { (negsuc 198 ≤ℤ x) × (x ≤ℤ pos 199) }
+        ensures number { result ≡ number_of (nine rule.now self.now t y x) }
+        ensures neighbourhood { result < 512 }
+    {
+        let mut number = 0u16;
+        for row in 0..3i32 {
+            for column in 0..3i32 {
+                number = 2 * number + u16::from(self.at(rule, t, y + row - 1, x + column - 1));
+            }
+        }
+        number
+    }
+}

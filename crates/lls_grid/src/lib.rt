@@ -1,0 +1,7 @@
+//! Histories of two-state cells: generations of rows of cells, and the values of places in and around the grid.
+#![tactic(auto)]
+
+mod history;
+mod place;
+
+pub use history::History;
