@@ -1,10 +1,14 @@
 -- Reading a history that is folded from its cells in order.
-use Rattle.std.proofs.Common.{◌≡◌, ◌<◌, ◌≤◌, ℕ, zero, suc, ◌+◌, ◌*◌, ℤ, pos, negsuc, Bool, true, false, List, [], ◌∷◌, length, map, refl, sym, ap, ◌∙◌, arith, Option, None, Some, slice_get, get_or, rules, replicate}
+use Rattle.std.proofs.Common.{◌≡◌, ◌<◌, ◌≤◌, ℕ, zero, suc, ◌+◌, ◌*◌, ℤ, pos, negsuc, Bool, true, false, List, [], ◌∷◌, length, map, refl, sym, ap, ◌∙◌, arith, Option, None, Some, slice_get, get_or, rules, replicate, subst, ltb}
 use Rattle.std.specs.List.{range_with_len}
 use Rattle.std.proofs.lemmas.List.{get_or_past}
 use Rattle.std.proofs.lemmas.List.FromFn.{length-map-range_with_len, get_or-map-range_with_len}
 use Rattle.std.proofs.lemmas.Option.{slice_get-get_or, slice_get_past}
-use Rattle.lls_grid.specs.History.{History, folded, rows_at, cell_at, height_of, width_of, dead}
+use Rattle.std.proofs.lemmas.Option.{cond_some}
+use Rattle.std.proofs.lemmas.Bool.{ltb-true}
+use Rattle.std.proofs.lemmas.Bool.Decides.{nat_tests}
+use Rattle.lls_grid.specs.Place.{inside}
+use Rattle.lls_grid.specs.History.{History, folded, rows_at, cell_at, place_cell, height_of, width_of, dead}
 
 -- the row y of generation t, and the rows of that generation
 abbrev row_at : ℕ → ℕ → List Bool → ℕ → ℕ → List Bool
@@ -19,10 +23,10 @@ length-folded generations height width cells = length-map-range_with_len _ 0 gen
 
 pub rows_at-folded : (generations height width : ℕ) (cells : List Bool) (t : ℕ) → t < generations → rows_at (folded generations height width cells) t ≡ all_rows height width cells t
 unfolding folded
-rows_at-folded generations height width cells t lt = get_or-map-range_with_len (all_rows height width cells) 0 generations t t [] lt refl
+rows_at-folded generations height width cells t lt = get_or-map-range_with_len (all_rows height width cells) 0 generations t t [] lt (omega arith)
 
 row-all_rows : (height width : ℕ) (cells : List Bool) (t y : ℕ) → y < height → get_or (all_rows height width cells t) y [] ≡ row_at height width cells t y
-row-all_rows height width cells t y lt = get_or-map-range_with_len (row_at height width cells t) 0 height y y [] lt refl
+row-all_rows height width cells t y lt = get_or-map-range_with_len (row_at height width cells t) 0 height y y [] lt (omega arith)
 
 -- a cell inside the grid
 pub cell_at-folded : (generations height width : ℕ) (cells : List Bool) (t y x : ℕ) → t < generations → y < height → x < width
@@ -31,7 +35,7 @@ cell_at-folded generations height width cells t y x t_in y_in x_in =
     ap (λ rows. slice_get (get_or rows y []) x) (rows_at-folded generations height width cells t t_in)
     ∙ ap (λ row. slice_get row x) (row-all_rows height width cells t y y_in)
     ∙ slice_get-get_or (row_at height width cells t y) x false (rw length-map-range_with_len x_in)
-    ∙ ap Some (get_or-map-range_with_len _ 0 width x x false x_in refl)
+    ∙ ap Some (get_or-map-range_with_len _ 0 width x x false x_in (omega arith))
 
 -- no cell below the grid, and none to the right of it
 pub cell_at-folded_below : (generations height width : ℕ) (cells : List Bool) (t y x : ℕ) → t < generations → height ≤ y
@@ -46,6 +50,42 @@ cell_at-folded_right generations height width cells t y x t_in y_in x_out =
     ap (λ rows. slice_get (get_or rows y []) x) (rows_at-folded generations height width cells t t_in)
     ∙ ap (λ row. slice_get row x) (row-all_rows height width cells t y y_in)
     ∙ slice_get_past (row_at height width cells t y) x (rw length-map-range_with_len x_out)
+
+-- the cell at a place by the row and the column that it has in the grid
+some_row : (y : ℤ) (height row : ℕ) → inside y height ≡ Some row → (y ≡ pos row) × (row < height)
+some_row (pos y) height row e =
+    let found = cond_some (ltb y height) y row e in
+    (ap pos found.1, subst (λ n. n < height) found.1 (ltb-true y height found.0))
+some_row (negsuc y) height row e = cc
+
+pub place_cell-folded : (generations height width : ℕ) (cells : List Bool) (t row column : ℕ) (y x : ℤ) → t < generations
+    → inside y height ≡ Some row → inside x width ≡ Some column
+    → place_cell (folded generations height width cells) t y x ≡ Some (get_or cells (column + width * (row + height * t)) false)
+place_cell-folded generations height width cells t row column y x t_in at_row at_column =
+    let r = some_row y height row at_row in
+    let c = some_row x width column at_column in
+    rw (r.0, c.0) (cell_at-folded generations height width cells t row column t_in r.1 c.1)
+
+-- no cell in a place that has no row or no column in the grid
+no_row : (y height : ℕ) → inside (pos y) height ≡ None → height ≤ y
+no_row y height e = grind (arith, nat_tests)
+
+pub place_cell-folded_above : (generations height width : ℕ) (cells : List Bool) (t : ℕ) (y x : ℤ) → t < generations
+    → inside y height ≡ None → place_cell (folded generations height width cells) t y x ≡ None
+place_cell-folded_above generations height width cells t (pos y) (pos x) t_in e = cell_at-folded_below generations height width cells t y x t_in (no_row y height e)
+place_cell-folded_above generations height width cells t (pos y) (negsuc x) t_in e = refl
+place_cell-folded_above generations height width cells t (negsuc y) (pos x) t_in e = refl
+place_cell-folded_above generations height width cells t (negsuc y) (negsuc x) t_in e = refl
+
+pub place_cell-folded_beside : (generations height width : ℕ) (cells : List Bool) (t row : ℕ) (y x : ℤ) → t < generations
+    → inside y height ≡ Some row → inside x width ≡ None → place_cell (folded generations height width cells) t y x ≡ None
+place_cell-folded_beside generations height width cells t row (pos y) (pos x) t_in at_row e =
+    let r = some_row (pos y) height row at_row in
+    let same : y ≡ row = cc in
+    rw same (cell_at-folded_right generations height width cells t row x t_in r.1 (no_row x width e))
+place_cell-folded_beside generations height width cells t row (pos y) (negsuc x) t_in at_row e = refl
+place_cell-folded_beside generations height width cells t row (negsuc y) (pos x) t_in at_row e = refl
+place_cell-folded_beside generations height width cells t row (negsuc y) (negsuc x) t_in at_row e = refl
 
 -- its sizes
 pub height_of-folded : (generations height width : ℕ) (cells : List Bool) → 0 < generations → height_of (folded generations height width cells) ≡ height

@@ -30,12 +30,16 @@ rows_at history t = slice_index_or history t []
 abbrev pub cell_at : History → ℕ → ℕ → ℕ → Option Bool
 cell_at history t y x = slice_get (slice_index_or (rows_at history t) y []) x
 
+-- the cell at any place, where there is one
+abbrev pub place_cell : History → ℕ → ℤ → ℤ → Option Bool
+place_cell history t (pos y) (pos x) = cell_at history t y x
+place_cell history t (pos y) (negsuc x) = None
+place_cell history t (negsuc y) (pos x) = None
+place_cell history t (negsuc y) (negsuc x) = None
+
 -- the value of any place: the cell inside the grid, the generation's background outside
 abbrev pub at : List Bool → History → ℕ → ℤ → ℤ → Bool
-at table history t (pos y) (pos x) = unwrap_or (cell_at history t y x) (background table t)
-at table history t (pos y) (negsuc x) = background table t
-at table history t (negsuc y) (pos x) = background table t
-at table history t (negsuc y) (negsuc x) = background table t
+at table history t y x = unwrap_or (place_cell history t y x) (background table t)
 
 -- three neighbours in a row
 abbrev pub three : List Bool → History → ℕ → ℤ → ℤ → List Bool → List Bool

@@ -1,9 +1,9 @@
 // A history.
-ghost use Rattle.std.specs.Prelude.{◌≡◌, ◌×◌, ◌<◌, ◌≤◌, ◌*◌, ℕ, ℤ, pos, negsuc, ◌≤ℤ◌, length, IfOk};
+ghost use Rattle.std.specs.Prelude.{◌≡◌, ◌<◌, ◌≤◌, ◌*◌, [], ℤ, pos, negsuc, ◌≤ℤ◌, length, IfOk, if◌then◌else◌};
 ghost use Rattle.lls_rule.specs.Rule.{number_of};
-ghost use Rattle.lls_grid.specs.History.{HasSizes, at, nine, dead, height_of, width_of};
+ghost use Rattle.lls_grid.specs.History.{at, nine, place_cell, three, dead, height_of, width_of};
 
-use crate::place::index_within;
+use crate::place::{cell_index, index_within};
 use lls_base::Memory;
 use lls_rule::Rule;
 use std::alloc::Global;
@@ -38,12 +38,13 @@ impl History {
         requires most { width * (height * generations) ≤ 8192 }
         ensures { IfOk result (λ history. history ≡ dead generations height width) }
     {
-        let count = width * (height * generations);
+        let count = (width * (height * generations)) as usize;
+        let cells = vec![in alloc; false; count]?;
         Ok(History {
             generations,
             height,
             width,
-            cells: vec![in alloc; false; count as usize]?,
+            cells,
         })
     }
 
@@ -73,12 +74,20 @@ impl History {
         requires column { (negsuc 199 ≤ℤ x) × (x ≤ℤ pos 200) }
         ensures { result ≡ at rule.now self.now t y x }
     {
-        match (index_within(y, self.height), index_within(x, self.width)) {
-            (Some(row), Some(column)) => {
-                self.cells[(column + self.width * (row + self.height * t)) as usize]
-            }
-            _ => rule.background(t),
+        match self.cell(t, y, x) {
+            Some(live) => live,
+            None => rule.background(t),
         }
+    }
+
+    /// The cell at a place, None outside the grid.
+    fn cell(&self, t: u32, y: i32, x: i32) -> Option<bool>
+        requires { t < length self.now }
+        ensures { result ≡ place_cell self.now t y x }
+    {
+        let row = index_within(y, self.height)?;
+        let column = index_within(x, self.width)?;
+        Some(self.cells[cell_index(self.generations, self.height, self.width, t, row, column)])
     }
 
     /// The number of a place's neighbourhood, with the weights 256 128 64 / 32 16 8 / 4 2 1 from top left to bottom right.
@@ -89,12 +98,31 @@ impl History {
         ensures number { result ≡ number_of (nine rule.now self.now t y x) }
         ensures neighbourhood { result < 512 }
     {
-        let mut number = 0u16;
-        for row in 0..3i32 {
-            for column in 0..3i32 {
-                number = 2 * number + u16::from(self.at(rule, t, y + row - 1, x + column - 1));
-            }
-        }
-        number
+        let above = self.three(rule, t, y - 1, x);
+        let here = self.three(rule, t, y, x);
+        let below = self.three(rule, t, y + 1, x);
+        64 * above + 8 * here + below
     }
+
+    /// The number of a place and its neighbours to the left and to the right.
+    fn three(&self, rule: &Rule, t: u32, y: i32, x: i32) -> u16
+        requires generation { t < length self.now }
+        requires row { (negsuc 199 ≤ℤ y) × (y ≤ℤ pos 200) }
+        requires column { (negsuc 198 ≤ℤ x) × (x ≤ℤ pos 199) }
+        ensures number { result ≡ number_of (three rule.now self.now t y x []) }
+        ensures small { result < 8 }
+    {
+        let left = weight(self.at(rule, t, y, x - 1));
+        let middle = weight(self.at(rule, t, y, x));
+        let right = weight(self.at(rule, t, y, x + 1));
+        4 * left + 2 * middle + right
+    }
+}
+
+/// What a cell adds to a number in the place of weight 1.
+fn weight(live: bool) -> u16
+    ensures weight { result ≡ (if live then 1 else 0) }
+    ensures small { result ≤ 1 }
+{
+    if live { 1 } else { 0 }
 }

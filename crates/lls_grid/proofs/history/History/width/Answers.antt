@@ -1,0 +1,7 @@
+use Rattle.std.proofs.Common.{sym, arith}
+use Rattle.lls_grid.proofs.Folded.{width_of-folded}
+use Rattle.lls_grid.proofs.history.History.width.Goals as goal
+
+pub returns : goal.returns
+returns c =
+    rw (← c.self.view_is) (sym (width_of-folded _ _ _ _ (omega (arith, c.self.invariant.generations_fit)) (omega (arith, c.self.invariant.height_fits))))
