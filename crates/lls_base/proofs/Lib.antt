@@ -1,5 +1,6 @@
 pub mod Faults
 pub mod FileMaps
+pub mod NamedBytes
 pub mod Outputs
 pub mod Pieces
 pub mod Rest

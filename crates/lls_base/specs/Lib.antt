@@ -5,3 +5,4 @@ pub mod Reading
 pub mod Writing
 pub mod Schedule
 pub mod MemSink
+pub mod Files

@@ -1,6 +1,7 @@
 //! The outside as the program sees it: a sink of bytes, a shelf of named files, whole reads and whole writes.
 #![tactic(auto)]
 
+mod files;
 mod mem_sink;
 mod memory;
 mod name;
