@@ -1,0 +1,69 @@
+-- What a solution of a problem is. It is said of whole histories, by reading cells and comparing them.
+use Rattle.std.specs.Prelude.{◌≡◌, ◌<◌, ◌≤◌, ℕ, ◌+◌, ◌*◌, ℤ, pos, negsuc, ◌≤ℤ◌, ◌<ℤ◌, Bool, true, false, not, ◌&&◌, nat_lt, List, length, slice_index_or}
+use Rattle.lls_rule.specs.Rule.{successor}
+use Rattle.lls_grid.specs.History.{History, HasSizes, at, nine, cells_of}
+use Rattle.lls_search_file.specs.declared.cell.Cell.{Cell}
+use Rattle.lls_search_file.specs.declared.cell.Kind.{Kind}
+use Rattle.lls_search_file.specs.declared.cell.Kind.TheVariants.{Dead, Live, Free, Named, Negated}
+use Rattle.lls_search_file.specs.Posed.{PosedFile}
+use Rattle.lls_problem.specs.declared.demands.Edge.{Edge}
+use Rattle.lls_problem.specs.declared.demands.Edge.TheVariants.{Framed, Bare}
+use Rattle.lls_problem.specs.Problem.{PosedProblem}
+
+-- the cell at a place of the order generation, row, column; past the end a free one
+abbrev pub cell_number : List Cell → ℕ → Cell
+cell_number cells k = slice_index_or cells k (record { mark = false; kind = Free })
+
+-- where the cell of generation t, row y and column x stands in that order
+abbrev pub place_of : PosedFile → ℕ → ℕ → ℕ → ℕ
+place_of file t y x = x + file.width * (y + file.height * t)
+
+-- a fixed cell has its bit
+abbrev pub HasItsBit : Kind → Bool → Type 0
+HasItsBit Dead value = value ≡ false
+HasItsBit Live value = value ≡ true
+HasItsBit Free value = Unit {0}
+HasItsBit (Named n) value = Unit {0}
+HasItsBit (Negated n) value = Unit {0}
+
+-- two cells of one name are equal where both stand with or both without `-`, and different otherwise
+abbrev pub AreTied : Kind → Kind → Bool → Bool → Type 0
+AreTied (Named m) (Named n) a b = m ≡ n → a ≡ b
+AreTied (Named m) (Negated n) a b = m ≡ n → a ≡ not b
+AreTied (Negated m) (Named n) a b = m ≡ n → a ≡ not b
+AreTied (Negated m) (Negated n) a b = m ≡ n → a ≡ b
+AreTied kind other a b = Unit {0}
+
+-- the values, in the order of the cells, are as the cells say
+pub record MeetsCells (cells : List Cell) (values : List Bool) : Type 0 where
+  pub fixed : (k : ℕ) → k < length cells → HasItsBit (cell_number cells k).kind (slice_index_or values k false)
+  pub tied : (j k : ℕ) → j < length cells → k < length cells → AreTied (cell_number cells j).kind (cell_number cells k).kind (slice_index_or values j false) (slice_index_or values k false)
+
+-- a place into which a transition has to obey the rule: in the grid, or under a closed edge in the ring round it too
+abbrev pub IsFramed : Edge → ℕ → ℕ → ℤ → ℤ → Type 0
+IsFramed Framed height width y x = (negsuc 0 ≤ℤ y) × (y ≤ℤ pos height) × (negsuc 0 ≤ℤ x) × (x ≤ℤ pos width)
+IsFramed Bare height width y x = (pos 0 ≤ℤ y) × (y <ℤ pos height) × (pos 0 ≤ℤ x) × (x <ℤ pos width)
+
+-- the place is a marked cell of generation t; no place of the ring is
+abbrev pub is_marked : PosedFile → ℕ → ℤ → ℤ → Bool
+is_marked file t (pos y) (pos x) = nat_lt y file.height && nat_lt x file.width && (cell_number file.cells (place_of file t y x)).mark
+is_marked file t (pos y) (negsuc x) = false
+is_marked file t (negsuc y) (pos x) = false
+is_marked file t (negsuc y) (negsuc x) = false
+
+-- from each generation to the next, each framed place that no mark frees has the rule's successor
+abbrev pub Obeys : PosedProblem → History → Type 0
+Obeys problem history = (t : ℕ) (y x : ℤ) → t + 1 < problem.posed.generations
+    → IsFramed problem.demands.edge problem.posed.height problem.posed.width y x
+    → is_marked problem.posed (t + 1) y x ≡ false
+    → at problem.rule history (t + 1) y x ≡ successor problem.rule (nine problem.rule history t y x)
+
+-- the history meets the file and every demand
+pub record IsSolution (problem : PosedProblem) (history : History) : Type 0 where
+  pub sizes : HasSizes problem.posed.generations problem.posed.height problem.posed.width history
+  pub cells : MeetsCells problem.posed.cells (cells_of history)
+  pub rule : Obeys problem history
+
+-- no history is a solution
+abbrev pub IsAbsent : PosedProblem → Type 0
+IsAbsent problem = (history : History) → IsSolution problem history → ⊥

@@ -1,0 +1,53 @@
+// A posed file.
+ghost use Rattle.std.specs.Prelude.{◌≡◌, List, ℕ};
+
+use crate::Cells;
+use lls_base::Name;
+use std::marker::Model;
+
+/// Names of cells in order.
+#[derive(Drop)]
+pub struct Names {
+    items: Vec<Name>,
+}
+
+impl Model for Names {
+    ghost Value = { List (List ℕ) };
+
+    ghost view = { λ n. n.items.items };
+}
+
+impl Names {
+    pub fn new(items: Vec<Name>) -> Names
+        ensures { result ≡ items.items }
+    {
+        Names { items }
+    }
+
+    pub fn items(&self) -> &[Name]
+        ensures { result.now ≡ self.now }
+    {
+        &self.items
+    }
+}
+
+/// What a search file asks for: 1 to 64 generations of 1 to 64 rows of 1 to 64 cells, at most 8,192 cells in all,
+/// in the order generation, row, column. Names are distinct and numbered from 0 by first appearance in that order.
+#[derive(Drop)]
+pub struct Posed {
+    pub generations: u32,
+    pub height: u32,
+    pub width: u32,
+    pub cells: Cells,
+    pub names: Names,
+}
+
+impl Model for Posed {
+    ghost use Rattle.lls_search_file.specs.Posed.{PosedFile, IsPosed};
+
+    ghost Value = { PosedFile };
+
+    ghost view = { λ p. record { generations = p.generations; height = p.height; width = p.width; cells = p.cells; names = p.names } };
+
+    ghost invariant = { λ p. IsPosed (record { generations = p.generations; height = p.height; width = p.width; cells = p.cells; names = p.names }) };
+}
