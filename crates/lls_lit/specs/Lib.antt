@@ -1,2 +1,3 @@
 pub mod Literal
 pub mod Formula
+pub mod Marked

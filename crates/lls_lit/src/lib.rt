@@ -2,7 +2,9 @@
 #![tactic(auto)]
 
 mod lit;
+mod marks;
 mod var;
 
 pub use lit::Lit;
+pub use marks::Marks;
 pub use var::Var;

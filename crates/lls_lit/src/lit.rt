@@ -60,7 +60,8 @@ impl Lit {
 
     /// Where the literal stands in a table of two entries a variable: 2(v-1) for v, 2(v-1)+1 for -v.
     pub fn index(self) -> usize
-        ensures { result ≡ index_of self }
+        ensures place { result ≡ index_of self }
+        ensures literal { IsLiteral self }
     {
         let place = (self.number.unsigned_abs() as usize - 1) * 2;
         if self.number > 0 { place } else { place + 1 }
