@@ -6,3 +6,4 @@ pub mod Writing
 pub mod Schedule
 pub mod MemSink
 pub mod Files
+pub mod MemShelf

@@ -2,6 +2,7 @@
 #![tactic(auto)]
 
 mod files;
+mod mem_shelf;
 mod mem_sink;
 mod memory;
 mod name;
@@ -12,6 +13,7 @@ mod sink;
 mod tally;
 mod writing;
 
+pub use mem_shelf::{MemShelf, Plan};
 pub use mem_sink::MemSink;
 pub use memory::Memory;
 pub use name::Name;
