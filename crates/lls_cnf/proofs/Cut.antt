@@ -1,12 +1,9 @@
 -- The pieces of a buffer: how many they are, the one at a place, and one more.
 use Rattle.std.proofs.Common.{◌≡◌, ℕ, zero, suc, ◌+◌, ◌-◌, ◌<◌, ◌≤◌, Bool, true, false, ◌&&◌, List, [], ◌∷◌, ◌++◌, length, get_or, take, drop, Some, refl, sym, ap, ◌∙◌, arith}
 use Rattle.std.specs.Prelude.{ℤ, slice_get}
-use Rattle.std.specs.List.{list_all}
 use Rattle.std.proofs.lemmas.List.{take-append-le, drop-append-le, drop_at, take_all, length-drop, length-append, length_push}
-use Rattle.std.proofs.lemmas.List.Folds.{list_all-append}
-use Rattle.std.proofs.lemmas.Option.{same_Some}
-use Rattle.lls_lit.specs.Formula.{Clause, is_within}
-use Rattle.lls_cnf.specs.Pieces.{pieces, AreEnds, IsFlat}
+use Rattle.lls_lit.specs.Formula.{Clause}
+use Rattle.lls_cnf.specs.Pieces.{pieces, AreEnds}
 
 pub length-pieces : (from : ℕ) (ends : List ℕ) (buffer : List ℤ) → length (pieces from ends buffer) ≡ length ends
 length-pieces from [] buffer = refl
@@ -46,22 +43,3 @@ pieces-push from (e ∷ es) buffer more h =
 pub AreEnds-push : (from : ℕ) (ends : List ℕ) (total more : ℕ) → AreEnds from ends total → AreEnds from (ends ++ (total + more) ∷ []) (total + more)
 AreEnds-push from [] total more h = (omega arith, refl)
 AreEnds-push from (e ∷ es) total more h = (h.0, AreEnds-push e es total more h.1)
-
--- what holds of a formula's parts holds after one more clause
-pub IsFlat-push : (vars : ℕ) (ends : List ℕ) (buffer more : List ℤ) → IsFlat vars ends buffer → is_within vars more ≡ true → length ends < 1000000000 → IsFlat vars (ends ++ (length buffer + length more) ∷ []) (buffer ++ more)
-IsFlat-push vars ends buffer more h w lt = record {
-  vars_fit = h.vars_fit;
-  clauses_fit = omega (arith, length_push ends (length buffer + length more));
-  ends_fit = rw (length-append buffer more) (AreEnds-push 0 ends (length buffer) (length more) h.ends_fit);
-  within = rw (pieces-push 0 ends buffer more h.ends_fit, list_all-append (is_within vars) (pieces 0 ends buffer) (more ∷ []), h.within, w) refl;
-}
-
-both_true : (a b : Bool) → (a && b) ≡ true → (a ≡ true) × (b ≡ true)
-both_true true b e = (refl, e)
-both_true false b e = absurd cc
-
--- what each of a list passes, the one at a place passes
-pub passes_at : {X : Type 0} (p : X → Bool) (xs : List X) (k : ℕ) (x : X) → list_all p xs ≡ true → slice_get xs k ≡ Some x → p x ≡ true
-passes_at p [] k x h e = absurd cc
-passes_at p (y ∷ ys) zero x h e = let same : y ≡ x = same_Some y x e in rw (← same) ((both_true (p y) (list_all p ys) h).0)
-passes_at p (y ∷ ys) (suc k) x h e = passes_at p ys k x ((both_true (p y) (list_all p ys) h).1) e

@@ -1,32 +1,29 @@
-// A formula, its clauses flat in one buffer.
-ghost use Rattle.std.specs.Prelude.{◌≡◌, ◌+◌, ◌<◌, ◌≤◌, ◌==◌, true, List, [], ◌∷◌, ◌++◌, length, IsTrue, ◌↔◌, OnOk, OnErr, slice_get, slice_index, take, drop, ◌-◌};
-ghost use Rattle.lls_lit.specs.Formula.{Cnf, is_within};
-ghost use Rattle.lls_cnf.specs.Pieces.{pieces, AreEnds};
+// A formula: variables and clauses over them.
+ghost use Rattle.std.specs.Prelude.{◌≡◌, ◌<◌, ◌≤◌, ◌↔◌, true, [], ◌∷◌, ◌++◌, length, IsTrue, OnOk, OnErr, slice_get};
+ghost use Rattle.lls_lit.specs.Formula.{is_within};
 
+use crate::clauses::Clauses;
 use lls_base::Memory;
-use lls_lit::{Lit, Var};
+use lls_lit::Lit;
 use std::alloc::Global;
 use std::marker::Model;
 
-/// A number of variables, and clauses over them.
-///
-/// The literals of all clauses stand in one buffer, and the place where each clause ends in another.
+/// A number of variables, and a list of clauses over them.
 #[derive(Debug, Drop)]
 pub struct Formula {
     vars: u32,
-    lits: Vec<Lit>,
-    ends: Vec<usize>,
+    clauses: Clauses,
 }
 
 impl Model for Formula {
     ghost use Rattle.lls_lit.specs.Formula.{Cnf};
-    ghost use Rattle.lls_cnf.specs.Pieces.{pieces, IsFlat};
+    ghost use Rattle.lls_cnf.specs.Formula.{IsFormula};
 
     ghost Value = { Cnf };
 
-    ghost view = { λ f. record { vars = f.vars; clauses = pieces 0 f.ends.items f.lits.items } };
+    ghost view = { λ f. record { vars = f.vars; clauses = f.clauses } };
 
-    ghost invariant = { λ f. IsFlat f.vars f.ends.items f.lits.items };
+    ghost invariant = { λ f. IsFormula f.vars f.clauses };
 }
 
 impl Formula {
@@ -40,8 +37,7 @@ impl Formula {
     {
         Formula {
             vars,
-            lits: Vec::new(alloc),
-            ends: Vec::new(alloc),
+            clauses: Clauses::new(alloc),
         }
     }
 
@@ -58,14 +54,14 @@ impl Formula {
         ensures len { result ≡ length self.now.clauses }
         ensures most { result ≤ 1000000000 }
     {
-        self.ends.len()
+        self.clauses.len()
     }
 
     /// Whether the formula has no clause.
     pub fn is_empty(&self) -> bool
         ensures { IsTrue result ↔ (self.now.clauses ≡ []) }
     {
-        self.len() == 0
+        self.clauses.is_empty()
     }
 
     /// The clause of that number, counted from 0.
@@ -74,7 +70,7 @@ impl Formula {
         ensures value { slice_get self.now.clauses k ≡ Some result.now }
         ensures within { is_within self.now.vars result.now ≡ true }
     {
-        piece(&self.lits, &self.ends, k)
+        self.clauses.clause(k)
     }
 
     /// Appends a clause. After `Memory` the formula is as before.
@@ -85,50 +81,7 @@ impl Formula {
             (self.new ≡ record self.old { clauses = self.old.clauses ++ lits.now ∷ [] }) }
         ensures err { OnErr result (self.new ≡ self.old) }
     {
-        append(&mut self.lits, &mut self.ends, lits)?;
+        self.clauses.push(lits)?;
         Ok(())
     }
-}
-
-// Where the piece of that number begins.
-fn start(ends: &[usize], k: usize) -> usize
-    requires { k < length ends.now }
-    ensures { result ≡ slice_index (0 ∷ ends.now) k }
-{
-    if k == 0 { 0 } else { ends[k - 1] }
-}
-
-// The piece of that number, where the ends cut the buffer.
-fn piece<'a>(buffer: &'a [Lit], ends: &[usize], k: usize) -> &'a [Lit]
-    requires ends { AreEnds 0 ends.now (length buffer.now) }
-    requires place { k < length ends.now }
-    ensures { slice_get (pieces 0 ends.now buffer.now) k ≡ Some result.now }
-{
-    cut(buffer, start(ends, k), ends[k])
-}
-
-fn cut(buffer: &[Lit], from: usize, to: usize) -> &[Lit]
-    requires start { from ≤ to }
-    requires end { to ≤ length buffer.now }
-    ensures { result.now ≡ take (to - from) (drop from buffer.now) }
-{
-    &buffer[from..to]
-}
-
-// Puts one more piece at the end of the buffer. After `Memory` both vectors have the items that they had.
-fn append(buffer: &mut Vec<Lit>, ends: &mut Vec<usize>, lits: &[Lit]) -> Result<(), Memory>
-    ensures buffer { OnOk result (buffer.new.items ≡ buffer.old.items ++ lits.now) }
-    ensures ends { OnOk result
-        (ends.new.items
-            ≡ ends.old.items ++ (length buffer.old.items + length lits.now) ∷ []) }
-    ensures err_buffer { OnErr result (buffer.new.items ≡ buffer.old.items) }
-    ensures err_ends { OnErr result (ends.new.items ≡ ends.old.items) }
-{
-    let start = buffer.len();
-    buffer.extend_from_slice(lits)?;
-    if ends.push(buffer.len()).is_err() {
-        buffer.truncate(start);
-        return Err(Memory);
-    }
-    Ok(())
 }

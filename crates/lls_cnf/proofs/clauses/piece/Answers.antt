@@ -1,6 +1,6 @@
 use Rattle.std.proofs.Common.{◌≡◌, ◌-◌, ap, get_or, take, drop, arith}
 use Rattle.lls_cnf.proofs.Cut.{bounds, slice_get-pieces}
-use Rattle.lls_cnf.proofs.formula.piece.Goals as goal
+use Rattle.lls_cnf.proofs.clauses.piece.Goals as goal
 
 pub cut-requires : goal.cut-requires
 cut-requires c =
