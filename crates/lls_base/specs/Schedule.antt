@@ -3,10 +3,10 @@ use Rattle.std.specs.Prelude.{ℕ, ◌+◌, ◌-◌, ◌^◌, ◌==◌, min, Boo
 use Rattle.std.specs.List.{list_any}
 use Rattle.lls_base.specs.declared.schedule.Schedule.{Schedule}
 
--- the number of the next call; a count of 64 bits stays at its end
-abbrev pub next_call : Schedule → ℕ
-next_call schedule = min (schedule.calls + 1) (2 ^ 64 - 1)
+-- one call more; a count of 64 bits stays at its end
+abbrev pub after_call : Schedule → Schedule
+after_call schedule = record schedule { calls = min (schedule.calls + 1) (2 ^ 64 - 1) }
 
--- the next call is to fail
+-- the call after these is to fail
 abbrev pub is_due : Schedule → Bool
-is_due schedule = list_any (λ call. call == next_call schedule) schedule.listed.items
+is_due schedule = list_any (λ call. call == (after_call schedule).calls) schedule.listed.items

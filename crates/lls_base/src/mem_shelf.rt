@@ -1,9 +1,10 @@
 // A shelf in memory, for tests.
-ghost use Rattle.std.specs.Prelude.{◌≡◌, ◌<◌, ◌≤◌, ◌⊎◌, IsTrue, length, Some, None, true, false, IfOk, OnErr, IfSome, drop};
+ghost use Rattle.std.specs.Prelude.{◌≡◌, ◌<◌, ◌≤◌, ◌⊎◌, ◌↔◌, IsTrue, length, min, Some, None, false, is_some, is_ok, IfOk, IsErr, IsErrOf, OnErr, IfSome, drop};
 ghost use Rattle.std.specs.FinMap as map;
 ghost use Rattle.std.specs.Option.{option_map, ForSome};
 ghost use Rattle.lls_base.specs.Faults.{Counts, Rose};
-ghost use Rattle.lls_base.specs.Shelf.{ReadsFront};
+ghost use Rattle.lls_base.specs.Sink.{TookNone};
+ghost use Rattle.lls_base.specs.Shelf.{OpensAsTold, ReadsFront, after_open, after_read, after_create, after_write};
 ghost use Rattle.lls_base.specs.Files.{files_of, name_at, IsFirst};
 
 use crate::files::{append_at, empty_file, stored};
@@ -21,6 +22,15 @@ pub struct Plan {
     pub writes: Vec<u64>,
 }
 
+// The same, with how many calls of each kind there have been.
+#[derive(Drop)]
+struct Schedules {
+    opens: Schedule,
+    reads: Schedule,
+    creates: Schedule,
+    writes: Schedule,
+}
+
 // The bytes of a file that is being read, and how many of them were taken.
 #[derive(Drop)]
 struct Input {
@@ -35,6 +45,7 @@ impl Input {
     fn read(&mut self, buf: &mut [u8], most: usize) -> usize
         requires { 0 < most }
         ensures within { result ≤ length buf.old }
+        ensures most { result ≤ most }
         ensures front { ReadsFront result (input_rest self.old) buf.new }
         ensures rest { input_rest self.new ≡ drop result (input_rest self.old) }
     {
@@ -53,10 +64,7 @@ pub struct MemShelf {
     files: Vec<(Name, Vec<u8>)>,
     input: Option<Input>,
     output: Option<usize>,
-    opens: Schedule,
-    reads: Schedule,
-    creates: Schedule,
-    writes: Schedule,
+    schedules: Schedules,
     most: usize,
     tally: Tally,
     ghost takes_some: { 0 < most },
@@ -64,7 +72,7 @@ pub struct MemShelf {
 }
 
 impl MemShelf {
-    ghost use Rattle.lls_base.specs.MemShelf.{shelf_files, shelf_lacked};
+    ghost use Rattle.lls_base.specs.MemShelf.{shelf_contents, shelf_schedules, shelf_most, shelf_lacked};
 
     /// A shelf with these files, of which none is being read or written. Where a name stands twice, the first counts.
     /// A call reads or writes at most `most` bytes.
@@ -76,6 +84,11 @@ impl MemShelf {
         ensures output { ⟦<MemShelf as Shelf>⟧.has_output result ≡ false }
         ensures faults { ⟦<MemShelf as Shelf>⟧.faults result ≡ 0 }
         ensures lacked { shelf_lacked result ≡ 0 }
+        ensures opens { (shelf_schedules result).opens ≡ record { listed = plan.opens; calls = 0 } }
+        ensures reads { (shelf_schedules result).reads ≡ record { listed = plan.reads; calls = 0 } }
+        ensures creates { (shelf_schedules result).creates ≡ record { listed = plan.creates; calls = 0 } }
+        ensures writes { (shelf_schedules result).writes ≡ record { listed = plan.writes; calls = 0 } }
+        ensures most { shelf_most result ≡ most }
     {
         let Plan {
             opens,
@@ -88,10 +101,12 @@ impl MemShelf {
             files,
             input: None,
             output: None,
-            opens: Schedule::new(opens),
-            reads: Schedule::new(reads),
-            creates: Schedule::new(creates),
-            writes: Schedule::new(writes),
+            schedules: Schedules {
+                opens: Schedule::new(opens),
+                reads: Schedule::new(reads),
+                creates: Schedule::new(creates),
+                writes: Schedule::new(writes),
+            },
             most,
             tally: Tally::NONE,
         }
@@ -99,7 +114,7 @@ impl MemShelf {
 
     /// The bytes for which a name stands.
     pub fn file(&self, name: &str) -> Option<&[u8]>
-        ensures { option_map (λ bytes. bytes.now) result ≡ map.get (shelf_files self.now) name.now }
+        ensures { option_map (λ bytes. bytes.now) result ≡ map.get (shelf_contents self.now).files name.now }
     {
         stored(&self.files, name)
     }
@@ -115,23 +130,39 @@ impl MemShelf {
 impl Shelf for MemShelf {
     ghost use Rattle.std.specs.Prelude.{Some, is_some};
     ghost use Rattle.std.proofs.Common.{rules};
-    ghost use Rattle.lls_base.specs.MemShelf.{shelf_contents};
+    ghost use Rattle.lls_base.specs.Schedule.{is_due};
+    ghost use Rattle.lls_base.specs.MemShelf.{shelf_contents, shelf_schedules, shelf_most, shelf_faults, shelf_lacked, after_open_call, after_read_call, after_create_call, after_write_call};
 
     ghost told = { λ shelf. Some (shelf_contents shelf) };
 
-    ghost has_input = { λ shelf. is_some shelf.input };
+    ghost has_input = { λ shelf. is_some (shelf_contents shelf).rest };
 
-    ghost has_output = { λ shelf. is_some shelf.output };
+    ghost has_output = { λ shelf. is_some (shelf_contents shelf).target };
 
-    ghost faults = { λ shelf. shelf.tally.faults };
+    ghost faults = { shelf_faults };
 
     ghost agrees = { Prim.search rules };
 
     ghost faults_fit = { λ shelf. shelf.tally.faults_fit };
 
-    fn open_input(&mut self, name: &str) -> Result<(), OpenFault> {
+    fn open_input(&mut self, name: &str) -> Result<(), OpenFault>
+        ensures told { shelf_contents self.new ≡ after_open name.now result (shelf_contents self.old) }
+        ensures absent { OpensAsTold name.now result (shelf_contents self.old) }
+        ensures input { is_some (shelf_contents self.new).rest ≡ is_ok result }
+        ensures output { is_some (shelf_contents self.new).target ≡ is_some (shelf_contents self.old).target }
+        ensures counts { Counts (shelf_faults self.old) (shelf_faults self.new) }
+        ensures failed { IsErrOf result OpenFault.Failed → Rose (shelf_faults self.old) (shelf_faults self.new) }
+        ensures absent_is_no_fault { IsErrOf result OpenFault.Absent → shelf_faults self.new ≡ shelf_faults self.old }
+
+        // Each call that is listed fails, and no other does but for want of memory.
+        ensures listed { IsTrue (is_due (shelf_schedules self.old).opens) → IsErrOf result OpenFault.Failed }
+        ensures unlisted { IsErrOf result OpenFault.Failed
+            → IsTrue (is_due (shelf_schedules self.old).opens) ⊎ Rose (shelf_lacked self.old) (shelf_lacked self.new) }
+        ensures counted { shelf_schedules self.new ≡ after_open_call (shelf_schedules self.old) }
+        ensures same_most { shelf_most self.new ≡ shelf_most self.old }
+    {
         self.input = None;
-        if self.opens.strikes() {
+        if self.schedules.opens.strikes() {
             self.tally.fail();
             return Err(OpenFault::Failed);
         }
@@ -146,8 +177,24 @@ impl Shelf for MemShelf {
         Ok(())
     }
 
-    fn read(&mut self, buf: &mut [u8]) -> Result<usize, Failed> {
-        if self.reads.strikes() {
+    fn read(&mut self, buf: &mut [u8]) -> Result<usize, Failed>
+        requires { IsTrue (is_some (shelf_contents self.old).rest) }
+        ensures within { IfOk result (λ n. n ≤ length buf.old) }
+        ensures told { shelf_contents self.new ≡ after_read result (shelf_contents self.old) }
+        ensures front { IfOk result (λ n. IfSome (shelf_contents self.old).rest (λ rest. ReadsFront n rest buf.new)) }
+        ensures input { is_some (shelf_contents self.new).rest ≡ is_some (shelf_contents self.old).rest }
+        ensures output { is_some (shelf_contents self.new).target ≡ is_some (shelf_contents self.old).target }
+        ensures counts { Counts (shelf_faults self.old) (shelf_faults self.new) }
+        ensures failed { OnErr result (Rose (shelf_faults self.old) (shelf_faults self.new)) }
+
+        // Each call that is listed fails, and no other does.
+        ensures most { IfOk result (λ n. n ≤ shelf_most self.old) }
+        ensures listed { IsErr result ↔ IsTrue (is_due (shelf_schedules self.old).reads) }
+        ensures counted { shelf_schedules self.new ≡ after_read_call (shelf_schedules self.old) }
+        ensures same_most { shelf_most self.new ≡ shelf_most self.old }
+        ensures lacked { shelf_lacked self.new ≡ shelf_lacked self.old }
+    {
+        if self.schedules.reads.strikes() {
             self.tally.fail();
             return Err(Failed);
         }
@@ -157,9 +204,22 @@ impl Shelf for MemShelf {
         }
     }
 
-    fn create_output(&mut self, name: &str) -> Result<(), Failed> {
+    fn create_output(&mut self, name: &str) -> Result<(), Failed>
+        ensures told { shelf_contents self.new ≡ after_create name.now result (shelf_contents self.old) }
+        ensures input { is_some (shelf_contents self.new).rest ≡ is_some (shelf_contents self.old).rest }
+        ensures output { is_some (shelf_contents self.new).target ≡ is_ok result }
+        ensures counts { Counts (shelf_faults self.old) (shelf_faults self.new) }
+        ensures failed { OnErr result (Rose (shelf_faults self.old) (shelf_faults self.new)) }
+
+        // Each call that is listed fails, and no other does but for want of memory.
+        ensures listed { IsTrue (is_due (shelf_schedules self.old).creates) → IsErr result }
+        ensures unlisted { OnErr result
+            (IsTrue (is_due (shelf_schedules self.old).creates) ⊎ Rose (shelf_lacked self.old) (shelf_lacked self.new)) }
+        ensures counted { shelf_schedules self.new ≡ after_create_call (shelf_schedules self.old) }
+        ensures same_most { shelf_most self.new ≡ shelf_most self.old }
+    {
         self.output = None;
-        if self.creates.strikes() {
+        if self.schedules.creates.strikes() {
             self.tally.fail();
             return Err(Failed);
         }
@@ -171,8 +231,25 @@ impl Shelf for MemShelf {
         Ok(())
     }
 
-    fn write(&mut self, bytes: &[u8]) -> Result<usize, Failed> {
-        if self.writes.strikes() {
+    fn write(&mut self, bytes: &[u8]) -> Result<usize, Failed>
+        requires { IsTrue (is_some (shelf_contents self.old).target) }
+        ensures within { IfOk result (λ n. n ≤ length bytes.now) }
+        ensures told { shelf_contents self.new ≡ after_write bytes.now result (shelf_contents self.old) }
+        ensures input { is_some (shelf_contents self.new).rest ≡ is_some (shelf_contents self.old).rest }
+        ensures output { is_some (shelf_contents self.new).target ≡ is_some (shelf_contents self.old).target }
+        ensures counts { Counts (shelf_faults self.old) (shelf_faults self.new) }
+        ensures failed { OnErr result (Rose (shelf_faults self.old) (shelf_faults self.new)) }
+        ensures none { TookNone result bytes.now → Rose (shelf_faults self.old) (shelf_faults self.new) }
+
+        // Each call that is listed fails, and no other does but for want of memory.
+        ensures most { IfOk result (λ n. n ≡ min (length bytes.now) (shelf_most self.old)) }
+        ensures listed { IsTrue (is_due (shelf_schedules self.old).writes) → IsErr result }
+        ensures unlisted { OnErr result
+            (IsTrue (is_due (shelf_schedules self.old).writes) ⊎ Rose (shelf_lacked self.old) (shelf_lacked self.new)) }
+        ensures counted { shelf_schedules self.new ≡ after_write_call (shelf_schedules self.old) }
+        ensures same_most { shelf_most self.new ≡ shelf_most self.old }
+    {
+        if self.schedules.writes.strikes() {
             self.tally.fail();
             return Err(Failed);
         }

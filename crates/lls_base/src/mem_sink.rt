@@ -1,5 +1,5 @@
 // A sink in memory, for tests.
-ghost use Rattle.std.specs.Prelude.{◌≡◌, ◌<◌, ◌≤◌, ◌⊎◌, [], length, min, Some, true, false, IfOk, OnErr};
+ghost use Rattle.std.specs.Prelude.{◌≡◌, ◌<◌, ◌≤◌, ◌⊎◌, [], length, min, Some, IsTrue, true, IfOk, IsErr, OnErr};
 ghost use Rattle.std.specs.Io.KnownBytes.{append_known};
 ghost use Rattle.lls_base.specs.Faults.{Counts, Rose};
 ghost use Rattle.lls_base.specs.Sink.{bytes_taken, TookNone};
@@ -20,14 +20,16 @@ pub struct MemSink {
 }
 
 impl MemSink {
-    ghost use Rattle.lls_base.specs.MemSink.{sink_lacked, IsNewSink};
+    ghost use Rattle.lls_base.specs.MemSink.{sink_schedule, sink_most, sink_lacked};
 
     /// An empty sink. It fails at the calls whose numbers, from 1 on, are listed, and takes at most `most` bytes at a call.
     pub fn new(alloc: Global, fails: Vec<u64>, most: usize) -> Self
         requires { 0 < most }
         ensures written { ⟦<MemSink as Sink>⟧.written result ≡ Some [] }
         ensures faults { ⟦<MemSink as Sink>⟧.faults result ≡ 0 }
-        ensures new { IsNewSink fails.items most result }
+        ensures lacked { sink_lacked result ≡ 0 }
+        ensures schedule { sink_schedule result ≡ record { listed = fails; calls = 0 } }
+        ensures most { sink_most result ≡ most }
     {
         MemSink {
             bytes: Vec::new(alloc),
@@ -53,11 +55,12 @@ impl MemSink {
 }
 
 impl Sink for MemSink {
-    ghost use Rattle.lls_base.specs.MemSink.{sink_bytes, sink_faults, sink_lacked, sink_most, sink_is_due, SinkGoesOn};
+    ghost use Rattle.lls_base.specs.Schedule.{after_call, is_due};
+    ghost use Rattle.lls_base.specs.MemSink.{sink_bytes, sink_schedule, sink_most, sink_faults, sink_lacked};
 
-    ghost written = { λ sink. Some sink.bytes.items };
+    ghost written = { λ sink. Some (sink_bytes sink) };
 
-    ghost faults = { λ sink. sink.tally.faults };
+    ghost faults = { sink_faults };
 
     ghost faults_fit = { λ sink. sink.tally.faults_fit };
 
@@ -70,9 +73,10 @@ impl Sink for MemSink {
 
         // Each call that is listed fails, and no other does but for want of memory.
         ensures most { IfOk result (λ n. n ≡ min (length bytes.now) (sink_most self.old)) }
-        ensures listed { IfOk result (λ _. sink_is_due self.old ≡ false) }
-        ensures unlisted { OnErr result ((sink_is_due self.old ≡ true) ⊎ Rose (sink_lacked self.old) (sink_lacked self.new)) }
-        ensures goes_on { SinkGoesOn self.old self.new }
+        ensures listed { IsTrue (is_due (sink_schedule self.old)) → IsErr result }
+        ensures unlisted { OnErr result (IsTrue (is_due (sink_schedule self.old)) ⊎ Rose (sink_lacked self.old) (sink_lacked self.new)) }
+        ensures counted { sink_schedule self.new ≡ after_call (sink_schedule self.old) }
+        ensures same_most { sink_most self.new ≡ sink_most self.old }
     {
         if self.schedule.strikes() {
             self.tally.fail();

@@ -9,11 +9,10 @@ pub struct Schedule {
 }
 
 impl Schedule {
-    ghost use Rattle.lls_base.specs.Schedule.{is_due, next_call};
+    ghost use Rattle.lls_base.specs.Schedule.{after_call, is_due};
 
     pub fn new(listed: Vec<u64>) -> Self
-        ensures listed { result.listed ≡ listed }
-        ensures calls { result.calls ≡ 0 }
+        ensures { result ≡ record { listed = listed; calls = 0 } }
     {
         Schedule { listed, calls: 0 }
     }
@@ -21,8 +20,7 @@ impl Schedule {
     /// Counts a call, and says whether it is to fail.
     pub fn strikes(&mut self) -> bool
         ensures due { result ≡ is_due self.old }
-        ensures listed { self.new.listed ≡ self.old.listed }
-        ensures calls { self.new.calls ≡ next_call self.old }
+        ensures counted { self.new ≡ after_call self.old }
     {
         self.calls = self.calls.saturating_add(1);
         self.listed.contains(&self.calls)
