@@ -1,0 +1,43 @@
+-- Eight neighbours as numbers below 256, and how a class is found by them.
+use Rattle.std.specs.Prelude.{ℕ, ◌-◌, ◌==◌, nat_lt, min, Bool, cond, List, [], ◌∷◌, map, find, option_map, Option, count_ones, ◌||◌}
+use Rattle.std.specs.List.{list_any}
+use Rattle.lls_rule.specs.Rule.{number_of}
+use Rattle.lls_hensel.specs.Neighbours.{eight_of, around, quarter_turn, mirror}
+use Rattle.lls_hensel.specs.Class.{lettered}
+use Rattle.lls_hensel.specs.declared.class.Class.{Class}
+use Rattle.lls_hensel.specs.declared.class.Representative.{Representative}
+
+-- the number of the eight after a quarter turn
+unfoldable pub turned : ℕ → ℕ
+turned eight = number_of (quarter_turn (eight_of eight))
+
+-- the number of the eight in the mirror
+unfoldable pub mirrored : ℕ → ℕ
+mirrored eight = number_of (mirror (eight_of eight))
+
+-- whether turns and the mirror take the first number to the second
+unfoldable pub images_by_number : ℕ → ℕ → Bool
+images_by_number first second =
+    list_any (λ n. n == second || mirrored n == second) (first ∷ turned first ∷ turned (turned first) ∷ turned (turned (turned first)) ∷ [])
+
+-- the live neighbours, or the dead ones where those are fewer
+unfoldable pub fewer_of : ℕ → ℕ
+fewer_of eight = cond (nat_lt 4 (count_ones eight)) (255 - eight) eight
+
+-- the letters of a count up to four, with eight neighbours of their class
+unfoldable pub representatives_of_fewer : ℕ → List Representative
+representatives_of_fewer count = map (λ p. record { letter = p.0; eight = number_of (around p.1) }) (lettered count)
+
+-- the letters of a count, each with at most four live neighbours
+unfoldable pub representatives_of : ℕ → List Representative
+representatives_of count = representatives_of_fewer (min count (8 - count))
+
+-- the letter of a count whose class has these neighbours, of which at most four are live
+unfoldable pub letter_by_number : ℕ → ℕ → Option ℕ
+letter_by_number count few =
+    option_map (λ r. r.letter) (find (λ r. images_by_number r.eight few) (representatives_of count))
+
+-- the class of the eight by the letters of their count
+unfoldable pub class_by_number : ℕ → Class
+class_by_number eight =
+    record { count = count_ones eight; letter = letter_by_number (count_ones eight) (fewer_of eight) }

@@ -1,0 +1,111 @@
+// The classes of the eight neighbours of a cell.
+ghost use Rattle.std.specs.Prelude.{◌≡◌, ℕ, ◌≤◌, [], ◌∷◌};
+ghost use Rattle.lls_hensel.specs.Class.{classes_of};
+ghost use Rattle.lls_hensel.specs.Neighbours.{eight_of};
+ghost use Rattle.lls_hensel.specs.Numbers.{representatives_of, letter_by_number, images_by_number, fewer_of, turned, mirrored};
+
+/// A class of eight neighbours: those that turns and the mirror of the square take to one another.
+#[derive(Clone, Copy, Debug, PartialEq, Eq)]
+pub struct Class {
+    /// How many of the eight are live.
+    pub count: u8,
+    /// The letter of Hensel notation; none where there is only one class of this count.
+    pub letter: Option<u8>,
+}
+
+/// A letter of Hensel notation with eight neighbours of its class, as in [`class_of`].
+#[derive(Clone, Copy, Debug)]
+pub(crate) struct Representative {
+    pub(crate) letter: u8,
+    pub(crate) eight: u8,
+}
+
+/// The class of eight neighbours, of which bits 7 to 0 are top left, top, top right, left, right, bottom left, bottom and bottom right.
+///
+/// The letters are those of Hensel notation for isotropic rules.
+pub fn class_of(eight: u8) -> Class
+    ensures { classes_of (eight_of eight) ≡ result ∷ [] }
+{
+    let count = eight.count_ones() as u8;
+    let letter = letter_of(count, fewer(eight));
+    Class { count, letter }
+}
+
+/// The letter of a count whose class has these neighbours, of which at most four are live.
+#[tactic(auto, unfolding(crate::specs::Numbers::letter_by_number))]
+fn letter_of(count: u8, few: u8) -> Option<u8>
+    requires { count ≤ 8 }
+    ensures { result ≡ letter_by_number count few }
+{
+    representatives(count)
+        .iter()
+        .find(|representative| are_images(representative.eight, few))
+        .map(|representative| representative.letter)
+}
+
+/// The letters of a count in alphabetical order, each with at most four live neighbours: above four, those of as many dead ones.
+pub(crate) fn representatives(count: u8) -> &'static [Representative]
+    requires { count ≤ 8 }
+    ensures { result.now ≡ representatives_of count }
+{
+    // Each letter with the number of a neighbourhood by the weights 256 128 64 / 32 16 8 / 4 2 1.
+    macro_rules! table {
+        ($($letter:literal $nine:literal),*) => {
+            &[$(Representative { letter: $letter, eight: ($nine / 32 * 16 + $nine % 16) as u8 }),*]
+        };
+    }
+    match count.min(8 - count) {
+        1 => table![b'c' 1, b'e' 2],
+        2 => table![b'a' 3, b'c' 5, b'e' 10, b'i' 40, b'k' 33, b'n' 68],
+        3 => table![
+            b'a' 11, b'c' 69, b'e' 42, b'i' 7, b'j' 14, b'k' 98, b'n' 13, b'q' 70, b'r' 41, b'y' 97
+        ],
+        4 => table![
+            b'a' 15, b'c' 325, b'e' 170, b'i' 45, b'j' 106, b'k' 99, b'n' 71, b'q' 102, b'r' 43, b't' 105, b'w' 78,
+            b'y' 101, b'z' 108
+        ],
+        _ => &[],
+    }
+}
+
+/// The live neighbours, or the dead ones where those are fewer.
+#[tactic(auto, unfolding(crate::specs::Numbers::fewer_of))]
+fn fewer(eight: u8) -> u8
+    ensures { result ≡ fewer_of eight }
+{
+    if eight.count_ones() > 4 { !eight } else { eight }
+}
+
+/// Whether turns and the mirror take the first eight neighbours to the second.
+#[tactic(auto, unfolding(crate::specs::Numbers::images_by_number))]
+fn are_images(first: u8, second: u8) -> bool
+    ensures { result ≡ images_by_number first second }
+{
+    let once = quarter_turn(first);
+    let twice = quarter_turn(once);
+    let thrice = quarter_turn(twice);
+    [first, once, twice, thrice].iter().any(|turned| *turned == second || mirror(*turned) == second)
+}
+
+/// The eight neighbours after a quarter turn.
+fn quarter_turn(eight: u8) -> u8
+    ensures { result ≡ turned eight }
+{
+    (eight & 0b0000_0100) << 5
+        | (eight & 0b0001_0001) << 2
+        | (eight & 0b0000_0010) << 3
+        | (eight & 0b1000_1000) >> 2
+        | (eight & 0b0100_0000) >> 3
+        | (eight & 0b0010_0000) >> 5
+}
+
+/// The eight neighbours in the mirror.
+fn mirror(eight: u8) -> u8
+    ensures { result ≡ mirrored eight }
+{
+    (eight & 0b1000_0100) >> 2
+        | (eight & 0b0010_0001) << 2
+        | (eight & 0b0001_0000) >> 1
+        | (eight & 0b0000_1000) << 1
+        | eight & 0b0100_0010
+}
