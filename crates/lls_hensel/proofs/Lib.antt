@@ -1,2 +1,4 @@
 pub mod Numbers
 pub mod Classes
+pub mod Letters
+pub mod Tells

@@ -47,3 +47,7 @@ classes =
 -- those of the 51 classes that eight neighbours are of
 unfoldable pub classes_of : List Bool → List Class
 classes_of eight = filter (is_of_class eight) classes
+
+-- whether a byte is one of the letters of a count
+abbrev pub letter_among : ℕ → ℕ → Bool
+letter_among count byte = list_any (λ p. same_letter p.letter (Some byte)) (pictures count)

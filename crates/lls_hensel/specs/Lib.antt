@@ -1,3 +1,6 @@
 pub mod Neighbours
 pub mod Class
 pub mod Numbers
+pub mod Entries
+pub mod Reading
+pub mod Groups

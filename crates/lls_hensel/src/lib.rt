@@ -2,5 +2,8 @@
 #![tactic(auto)]
 
 mod class;
+mod group;
+mod read;
 
 pub use class::{Class, class_of};
+pub use read::RuleError;

@@ -1,0 +1,84 @@
+// A group of a rule text, and what it adds to a rule.
+ghost use Rattle.std.specs.Prelude.{◌≡◌, ◌==◌, ℕ, ◌<◌, ◌≤◌, length};
+ghost use Rattle.std.specs.List.{list_any};
+ghost use Rattle.lls_hensel.specs.Class.{letter_among};
+ghost use Rattle.lls_hensel.specs.Entries.{next_of, with_entries, entries_of_group, stands_for};
+ghost use Rattle.lls_hensel.specs.Groups.{seen_group, around_number};
+
+use crate::class::{Representative, class_of, representatives};
+use lls_rule::Rule;
+
+/// The weight of the centre in a neighbourhood's number.
+const CENTRE: u16 = 16;
+
+/// A digit, perhaps `-`, and letters.
+#[derive(Clone, Copy, Debug)]
+pub(crate) struct Group<'t> {
+    pub(crate) count: u8,
+    pub(crate) minus: bool,
+    pub(crate) letters: &'t [u8],
+}
+
+impl Group<'_> {
+    /// Whether the group stands for one of its digit's letters.
+    fn stands_for(&self, letter: Option<u8>) -> bool
+        ensures { result ≡ stands_for (seen_group self.now) letter }
+    {
+        if self.letters.is_empty() {
+            return true;
+        }
+        match letter {
+            Some(letter) => self.minus != self.letters.contains(&letter),
+            None => self.minus,
+        }
+    }
+
+    /// Whether the group says that the centre of a neighbourhood lives on.
+    fn tells(&self, survival: bool, nine: u16) -> bool
+        requires { nine < 512 }
+        ensures { result ≡ next_of (entries_of_group survival (seen_group self.now)) nine }
+    {
+        if (nine & CENTRE == 0) == survival {
+            return false;
+        }
+        let class = class_of(around(nine));
+        class.count == self.count && self.stands_for(class.letter)
+    }
+
+    /// The rule with what the group says beside it.
+    pub(crate) fn beside(&self, rule: Rule, survival: bool) -> Rule
+        requires { length rule ≡ 512 }
+        ensures { result ≡ with_entries rule (entries_of_group survival (seen_group self.now)) }
+    {
+        let mut both = rule;
+        for nine in 0..512 {
+            if self.tells(survival, nine) {
+                both.set(nine, true);
+            }
+        }
+        both
+    }
+}
+
+/// Whether a byte is one of the letters of a count.
+pub(crate) fn is_letter_of(count: u8, byte: u8) -> bool
+    requires { count ≤ 8 }
+    ensures { result ≡ letter_among count byte }
+{
+    has_letter(representatives(count), byte)
+}
+
+fn has_letter(representatives: &[Representative], byte: u8) -> bool
+    ensures { result ≡ list_any (λ r. r.letter == byte) representatives.now }
+{
+    representatives.iter().any(|representative| representative.letter == byte)
+}
+
+#[tactic(auto, unfolding(crate::specs::Groups::around_number))]
+/// The eight neighbours in a neighbourhood's number.
+fn around(nine: u16) -> u8
+    requires { nine < 512 }
+    ensures { result ≡ around_number nine }
+{
+    (nine >> 1 & 0b1111_0000 | nine & 0b0000_1111) as u8
+}
