@@ -31,7 +31,7 @@ impl Tally {
         ensures counts { Counts self.old.faults self.new.faults }
         ensures lacked { Rose self.old.lacked self.new.lacked }
     {
-        self.faults = self.faults.saturating_add(1);
+        self.fail();
         self.lacked = self.lacked.saturating_add(1);
     }
 }

@@ -48,15 +48,15 @@ pub fn write_file<S: Shelf>(shelf: &mut S, name: &Name, bytes: &[u8]) -> Result<
     if let Err(Failed) = shelf.create_output(name.text()) {
         return Err(FileFault::CreateFailed);
     }
-    let mut done = 0;
-    while done < bytes.len() {
-        let Ok(taken) = shelf.write(&bytes[done..]) else {
+    let mut written = 0;
+    while written < bytes.len() {
+        let Ok(taken) = shelf.write(&bytes[written..]) else {
             return Err(FileFault::WriteFailed);
         };
         if taken == 0 {
             return Err(FileFault::WriteFailed);
         }
-        done += taken;
+        written += taken;
     }
     Ok(())
 }
