@@ -1,4 +1,4 @@
-use Rattle.std.proofs.Common.{◌≡◌, length, ap, ◌∙◌, rules}
+use Rattle.std.proofs.Common.{◌≡◌, ℕ, Vec, Global, length, ap, ◌∙◌, rules}
 use Rattle.std.specs.FinMap as map
 use Rattle.lls_base.specs.Files.{files_of}
 use Rattle.lls_base.proofs.NamedBytes.{files_of-written, IsFirst-written, files_of-pushed, IsFirst-pushed}
@@ -6,8 +6,9 @@ use Rattle.lls_base.proofs.files.empty_file.Goals as goal
 
 pub returns-in-Some-clause-emptied : goal.returns-in-Some-clause-emptied
 returns-in-Some-clause-emptied c =
-    files_of-written _ _ _ c.index_mut-file.ensures.value _ _ (rw c.deref.ensures.value at c.in-Some.ensures.first)
-    ∙ ap (map.insert (files_of c.args.files.now.items) c.args.name.now) c.clear.ensures.items
+    let first = rw c.deref.ensures.value at c.in-Some.ensures.first in
+    let written = λ (new : Vec ℕ Global). files_of-written _ _ _ c.index_mut-file.ensures.value c.args.name.now new first in
+    rw written (cc)
 
 pub returns-in-Some-clause-first : goal.returns-in-Some-clause-first
 returns-in-Some-clause-first c = IsFirst-written _ _ _ c.index_mut-file.ensures.value _ _ (rw c.deref.ensures.value at c.in-Some.ensures.first)
