@@ -5,3 +5,4 @@ mod history;
 mod place;
 
 pub use history::History;
+pub use place::index_within;

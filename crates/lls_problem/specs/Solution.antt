@@ -1,6 +1,7 @@
 -- What a solution of a problem is. It is said of whole histories, by reading cells and comparing them.
-use Rattle.std.specs.Prelude.{◌≡◌, ◌<◌, ◌≤◌, ℕ, ◌+◌, ◌*◌, ℤ, pos, negsuc, ◌≤ℤ◌, ◌<ℤ◌, Bool, true, false, not, ◌&&◌, nat_lt, List, length, slice_index_or}
+use Rattle.std.specs.Prelude.{◌≡◌, ◌<◌, ◌≤◌, ℕ, ◌+◌, ◌*◌, ℤ, pos, negsuc, ◌≤ℤ◌, ◌<ℤ◌, Bool, true, false, not, List, Option, None, Some, length, slice_index_or}
 use Rattle.lls_rule.specs.Rule.{successor}
+use Rattle.lls_grid.specs.Place.{inside}
 use Rattle.lls_grid.specs.History.{History, HasSizes, at, nine, cells_of}
 use Rattle.lls_search_file.specs.declared.cell.Cell.{Cell}
 use Rattle.lls_search_file.specs.declared.cell.Kind.{Kind}
@@ -10,9 +11,9 @@ use Rattle.lls_problem.specs.declared.demands.Edge.{Edge}
 use Rattle.lls_problem.specs.declared.demands.Edge.TheVariants.{Framed, Bare}
 use Rattle.lls_problem.specs.Problem.{PosedProblem}
 
--- the cell at a place of the order generation, row, column; past the end a free one
+-- the cell at a place of the order generation, row, column; past the end a dead one
 abbrev pub cell_number : List Cell → ℕ → Cell
-cell_number cells k = slice_index_or cells k (record { mark = false; kind = Free })
+cell_number cells k = slice_index_or cells k (record { mark = false; kind = Dead })
 
 -- where the cell of generation t, row y and column x stands in that order
 abbrev pub place_of : PosedFile → ℕ → ℕ → ℕ → ℕ
@@ -44,12 +45,15 @@ abbrev pub IsFramed : Edge → ℕ → ℕ → ℤ → ℤ → Type 0
 IsFramed Framed height width y x = (negsuc 0 ≤ℤ y) × (y ≤ℤ pos height) × (negsuc 0 ≤ℤ x) × (x ≤ℤ pos width)
 IsFramed Bare height width y x = (pos 0 ≤ℤ y) × (y <ℤ pos height) × (pos 0 ≤ℤ x) × (x <ℤ pos width)
 
+-- the cell of a row and a column inside the grid is marked
+abbrev pub is_marked_at : PosedFile → ℕ → Option ℕ → Option ℕ → Bool
+is_marked_at file t (Some row) (Some column) = (cell_number file.cells (place_of file t row column)).mark
+is_marked_at file t (Some row) None = false
+is_marked_at file t None column = false
+
 -- the place is a marked cell of generation t; no place of the ring is
 abbrev pub is_marked : PosedFile → ℕ → ℤ → ℤ → Bool
-is_marked file t (pos y) (pos x) = nat_lt y file.height && nat_lt x file.width && (cell_number file.cells (place_of file t y x)).mark
-is_marked file t (pos y) (negsuc x) = false
-is_marked file t (negsuc y) (pos x) = false
-is_marked file t (negsuc y) (negsuc x) = false
+is_marked file t y x = is_marked_at file t (inside y file.height) (inside x file.width)
 
 -- from each generation to the next, each framed place that no mark frees has the rule's successor
 abbrev pub Obeys : PosedProblem → History → Type 0

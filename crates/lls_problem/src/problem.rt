@@ -1,5 +1,6 @@
 // A problem.
 ghost use Rattle.std.specs.Prelude.{◌≡◌, Ok, Err};
+ghost use Rattle.lls_search_file.specs.Posed.{IsPosed};
 
 use crate::{DemandError, Demands};
 use lls_rule::Rule;
@@ -35,9 +36,12 @@ pub fn make_problem(posed: Posed, rule: Rule, demands: Demands) -> Result<Proble
 
 impl Problem {
     pub fn posed(&self) -> &Posed
-        ensures { result.now ≡ self.now.posed }
+        ensures value { result.now ≡ self.now.posed }
+        ensures kept { IsPosed self.now.posed }
     {
-        &self.posed
+        let posed = &self.posed;
+        let _ = &posed.generations;
+        posed
     }
 
     pub fn rule(&self) -> &Rule
