@@ -101,7 +101,7 @@ fn append(buffer: &mut Vec<Lit>, ends: &mut Vec<usize>, lits: &[Lit]) -> Result<
     ensures buffer { OnOk result (buffer.new.items ≡ buffer.old.items ++ lits.now) }
     ensures ends { OnOk result
         (ends.new.items
-            ≡ ends.old.items ++ (length buffer.old.items + length lits.now) ∷ []) }
+        ≡ ends.old.items ++ (length buffer.old.items + length lits.now) ∷ []) }
     ensures err_buffer { OnErr result (buffer.new.items ≡ buffer.old.items) }
     ensures err_ends { OnErr result (ends.new.items ≡ ends.old.items) }
 {

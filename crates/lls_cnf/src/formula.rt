@@ -1,5 +1,6 @@
 // A formula: variables and clauses over them.
 ghost use Rattle.std.specs.Prelude.{◌≡◌, ◌<◌, ◌≤◌, ◌↔◌, true, [], ◌∷◌, ◌++◌, length, IsTrue, OnOk, OnErr, slice_get};
+ghost use Rattle.std.specs.List.{list_all};
 ghost use Rattle.lls_lit.specs.Formula.{is_within};
 
 use crate::clauses::Clauses;
@@ -45,6 +46,7 @@ impl Formula {
     pub fn vars(&self) -> u32
         ensures vars { result ≡ self.now.vars }
         ensures most { result ≤ 16777216 }
+        ensures within { list_all (is_within result) self.now.clauses ≡ true }
     {
         self.vars
     }

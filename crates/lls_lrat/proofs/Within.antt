@@ -1,0 +1,37 @@
+-- Clauses and literals within the variables.
+use Rattle.std.proofs.Common.{◌≡◌, ℕ, zero, suc, ◌+◌, ◌<◌, ◌≤◌, Bool, true, false, ◌&&◌, cond, eqb, List, [], ◌∷◌, length, get_or, Option, Some, None, refl, sym, ap, ◌∙◌, arith, leb, leb-true}
+use Rattle.std.specs.Prelude.{ℤ, pos, negsuc}
+use Rattle.std.specs.List.{list_all}
+use Rattle.std.proofs.lemmas.Option.{same_Some, slice_get-get_or}
+use Rattle.lls_lit.specs.Literal.{variable_of, negation}
+use Rattle.lls_lit.specs.Formula.{Clause, is_within}
+use Rattle.lls_cnf.proofs.Within.{passes_at}
+use Rattle.lls_prooflog.specs.UnitWalk.{Live, find_clause}
+use Rattle.lls_lrat.specs.Hinted.{are_within, hinted_clause}
+
+both_true : (a b : Bool) → (a && b) ≡ true → (a ≡ true) × (b ≡ true)
+both_true true b e = (refl, e)
+both_true false b e = absurd cc
+
+found_within : (vars : ℕ) (live : Live) (id : ℕ) (clause : Clause) → are_within vars live ≡ true → find_clause live id ≡ Some clause → is_within vars clause ≡ true
+found_within vars [] id clause all e = absurd cc
+found_within vars (pair ∷ rest) id clause all e =
+    let both = both_true (is_within vars pair.1) (are_within vars rest) all in
+    elim (eqb pair.0 id) as (λ b. cond b (Some pair.1) (find_clause rest id) ≡ Some clause → is_within vars clause ≡ true) [
+      | true ↦ λ h. let same : pair.1 ≡ clause = same_Some pair.1 clause h in rw (← same) both.0
+      | false ↦ λ h. found_within vars rest id clause both.1 h
+    ] e
+
+pub hinted_within : (vars : ℕ) (live : Live) (hint : ℤ) (clause : Clause) → are_within vars live ≡ true → hinted_clause live hint ≡ Some clause → is_within vars clause ≡ true
+hinted_within vars live (pos id) clause all e = found_within vars live id clause all e
+hinted_within vars live (negsuc n) clause all e = absurd cc
+
+-- a literal of a clause that is within the variables
+pub literal_within : (vars : ℕ) (clause : Clause) (i : ℕ) (d : ℤ) → is_within vars clause ≡ true → i < length clause → variable_of (get_or clause i d) ≤ vars
+literal_within vars clause i d all lt =
+    leb-true (variable_of (get_or clause i d)) vars (passes_at (λ l. leb (variable_of l) vars) clause i (get_or clause i d) all (slice_get-get_or clause i d lt))
+
+pub variable_of-negation : (l : ℤ) → variable_of (negation l) ≡ variable_of l
+variable_of-negation (pos zero) = refl
+variable_of-negation (pos (suc n)) = omega arith
+variable_of-negation (negsuc n) = refl

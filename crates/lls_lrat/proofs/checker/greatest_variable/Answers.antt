@@ -1,0 +1,18 @@
+use Rattle.std.proofs.Common.{◌≡◌, ◌≤◌, true, take, get_or, arith, rules}
+use Rattle.std.proofs.lemmas.Grind.{common_steps}
+use Rattle.lls_lit.specs.Literal.{variable_of}
+use Rattle.lls_lit.specs.Formula.{is_within}
+use Rattle.lls_lrat.proofs.Checks.{is_within-more, is_within-push}
+use Rattle.lls_lrat.proofs.checker.greatest_variable.Goals as goal
+
+pub loop-lit-preserved : goal.loop-lit-preserved
+loop-lit-preserved c =
+    let i = c.loop-lit.lit-index in
+    let l = c.lit-item.result in
+    let m = c.max-most.result in
+    let grows : c.loop-lit.most ≤ m = grind (arith, common_steps) in
+    let reaches : c.number.result ≤ m = grind (arith, common_steps) in
+    let fits : m ≤ 16777216 = grind (arith, common_steps) in
+    let before = is_within-more c.loop-lit.most m (take i c.args.lits.now) grows c.loop-lit.invariant.0 in
+    let here : variable_of (get_or c.args.lits.now i l) ≤ m = rw (← c.lit-item.is, ← c.var.ensures.var, ← c.number.ensures.number) reaches in
+    (is_within-push m c.args.lits.now i l c.loop-lit-test.true before here, fits)

@@ -1,0 +1,44 @@
+use Rattle.std.proofs.Common.{◌≡◌, ◌≤◌, List, [], ◌∷◌, ◌++◌, get_or, drop, refl, sym, ap, ◌∙◌}
+use Rattle.std.specs.Prelude.{ℤ, pos}
+use Rattle.lls_lit.specs.Literal.{variable_of, negation}
+use Rattle.lls_lit.specs.Marked.{Marked}
+use Rattle.lls_lrat.proofs.Walked.{Walked, ends_without_clause, ends_in_conflict, ends_not_unit, goes_on, ends_with_no_conflict}
+use Rattle.lls_lrat.proofs.Within.{hinted_within, variable_of-negation}
+use Rattle.lls_lrat.proofs.walk.closes.Goals as goal
+
+pub loop-hint-init : goal.loop-hint-init
+loop-hint-init c = (refl, (c.args.lits.now, record { same = ap (λ (m : Marked). m.lits) c.mark_all.ensures; walk = refl }))
+
+pub unmarked-requires : goal.unmarked-requires
+unmarked-requires c =
+    let vars : c.loop-hint.marks.vars ≡ c.args.marks.now.vars = c.loop-hint.invariant.0 ∙ ap (λ (m : Marked). m.vars) c.mark_all.ensures in
+    rw vars (hinted_within c.args.marks.now.vars c.args.live.now (get_or c.args.hints.now c.loop-hint.hint-index (pos 0)) c.in-Some.clause.now c.requires.live (sym c.in-Some.ensures))
+
+pub put-requires : goal.put-requires
+put-requires c = rw (c.negated.ensures, variable_of-negation c.in-One.lit) c.in-One.ensures.within
+
+pub returns-in_default-clause-exact : goal.returns-in_default-clause-exact
+returns-in_default-clause-exact c =
+    let w = c.loop-hint.invariant.1 in
+    sym (ends_without_clause c.args.live.now c.args.lits.now c.args.hints.now c.loop-hint.marks w.0 c.loop-hint.hint-index (get_or c.args.hints.now c.loop-hint.hint-index (pos 0)) c.loop-hint-test.true refl w.1 (sym c.in_default.ensures))
+
+pub returns-in-Nothing-clause-exact : goal.returns-in-Nothing-clause-exact
+returns-in-Nothing-clause-exact c =
+    let w = c.loop-hint.invariant.1 in
+    sym (ends_in_conflict c.args.live.now c.args.lits.now c.args.hints.now c.loop-hint.marks w.0 c.loop-hint.hint-index (get_or c.args.hints.now c.loop-hint.hint-index (pos 0)) c.in-Some.clause.now c.loop-hint-test.true refl w.1 (sym c.in-Some.ensures) c.in-Nothing.ensures.left)
+
+pub returns-in-More-clause-exact : goal.returns-in-More-clause-exact
+returns-in-More-clause-exact c =
+    let w = c.loop-hint.invariant.1 in
+    sym (ends_not_unit c.args.live.now c.args.lits.now c.args.hints.now c.loop-hint.marks w.0 c.loop-hint.hint-index (get_or c.args.hints.now c.loop-hint.hint-index (pos 0)) c.in-Some.clause.now c.loop-hint-test.true refl w.1 (sym c.in-Some.ensures) c.in-More.ensures.left)
+
+pub loop-hint-preserved : goal.loop-hint-preserved
+loop-hint-preserved c =
+    let w = c.loop-hint.invariant.1 in
+    rw (c.put.ensures, c.negated.ensures)
+    (c.loop-hint.invariant.0, (w.0 ++ negation c.in-One.lit ∷ [], goes_on c.args.live.now c.args.lits.now c.args.hints.now c.loop-hint.marks w.0 c.loop-hint.hint-index (get_or c.args.hints.now c.loop-hint.hint-index (pos 0)) c.in-Some.clause.now c.in-One.lit c.loop-hint-test.true refl w.1 (sym c.in-Some.ensures) c.in-One.ensures.left))
+
+pub returns-clause-exact : goal.returns-clause-exact
+returns-clause-exact c =
+    let w = c.loop-hint.invariant.1 in
+    sym (ends_with_no_conflict c.args.live.now c.args.lits.now c.args.hints.now c.loop-hint.marks w.0 c.loop-hint.hint-index (pos 0) c.loop-hint-test.false w.1)

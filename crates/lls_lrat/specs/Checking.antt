@@ -1,0 +1,31 @@
+-- What a checker is seen as, and what a step makes of it.
+use Rattle.std.specs.Prelude.{◌≡◌, ℕ, Bool, true, false, Option, Some, None, is_none, if◌then◌else◌}
+use Rattle.lls_lit.specs.Formula.{Cnf, IsUnsatisfiable}
+use Rattle.lls_prooflog.specs.declared.step.Step.{Step}
+use Rattle.lls_prooflog.specs.Steps.{Live, fault_of, after, is_empty_addition, IsEntailed}
+use Rattle.lls_lrat.specs.Hinted.{are_within}
+use Rattle.lls_lrat.specs.declared.checker.Progress.{Progress}
+use Rattle.lls_lrat.specs.declared.checker.Progress.TheVariants.{Going, Done}
+
+-- the formula, the live clauses, and whether the empty clause was added
+pub record Checking : Type 0 where
+  pub formula : Cnf
+  pub live : Live
+  pub done : Bool
+
+-- the checker after a step: None where the step isn't good. A checker that is done stays as it is
+abbrev pub stepped : Checking → Step → Option Checking
+stepped c step =
+    if c.done
+    then Some c
+    else (if is_none (fault_of c.live step) then Some (record c { live = after c.live step; done = is_empty_addition step }) else None)
+
+abbrev pub progress_of : Bool → Progress
+progress_of true = Done
+progress_of false = Going
+
+-- what holds of the parts of a checker, whose marks reach to the variable
+pub record IsChecking (formula : Cnf) (live : Live) (vars : ℕ) (done : Bool) : Type 0 where
+  pub within : are_within vars live ≡ true
+  pub entailed : IsEntailed formula live
+  pub refuted : done ≡ true → IsUnsatisfiable formula

@@ -1,0 +1,4 @@
+pub mod Stored
+pub mod Hinted
+pub mod Left
+pub mod Checking

@@ -1,0 +1,159 @@
+// The checker of proof steps.
+ghost use Rattle.std.specs.Prelude.{◌≡◌, ◌≤◌, true, false, IfOk, OnOk, OnErr};
+ghost use Rattle.lls_lit.specs.Formula.{is_within, IsUnsatisfiable};
+ghost use Rattle.lls_prooflog.specs.Steps.{numbered};
+ghost use Rattle.lls_prooflog.specs.declared.step.Step.TheVariants.{Add};
+
+use crate::live::LiveClauses;
+use crate::walk::closes;
+use lls_base::Memory;
+use lls_cnf::Formula;
+use lls_lit::{Lit, Marks, Var};
+use lls_prooflog::Step;
+use std::alloc::Global;
+use std::marker::Model;
+
+/// How far a proof has come.
+#[derive(Clone, Copy, Debug, PartialEq, Eq)]
+pub enum Progress {
+    /// The empty clause wasn't added yet.
+    Going,
+    /// The empty clause was added, so the formula has no satisfying assignment.
+    Done,
+}
+
+/// Why a step was refused.
+#[derive(Clone, Copy, Debug, PartialEq, Eq)]
+pub enum StepError {
+    /// The step's id is live, or its hints lead to no conflict.
+    NotGood,
+    /// An allocation was refused.
+    Memory,
+}
+
+impl From<Memory> for StepError {
+    ghost use Rattle.std.specs.Prelude.{◌≡◌};
+    ghost use Rattle.lls_lrat.specs.declared.checker.StepError.TheVariants as errors;
+
+    ghost from_gives = { λ _ e. e ≡ errors.Memory };
+
+    fn from(_: Memory) -> Self {
+        StepError::Memory
+    }
+}
+
+/// A checker of the steps of a proof that a formula has no satisfying assignment.
+///
+/// It borrows the formula, whose clauses have the ids from 1. A step takes time by its literals and hints and by the
+/// literals of the hints' clauses, and not by the number of live clauses.
+#[derive(Drop)]
+pub struct Checker<'f> {
+    alloc: Global,
+    formula: &'f Formula,
+    live: LiveClauses<'f>,
+    marks: Marks,
+    done: bool,
+}
+
+impl<'f> Model for Checker<'f> {
+    ghost use Rattle.lls_lrat.specs.Checking.{Checking, IsChecking};
+
+    ghost Value = { Checking };
+
+    ghost view = { λ c. record { formula = c.formula.now; live = c.live; done = c.done } };
+
+    ghost invariant = { λ c. IsChecking c.formula.now c.live c.marks.vars c.done };
+}
+
+impl<'f> Checker<'f> {
+    ghost use Rattle.lls_lrat.specs.Checking.{stepped, progress_of};
+
+    /// A checker at the start of a proof.
+    pub fn new(alloc: Global, formula: &'f Formula) -> Result<Checker<'f>, Memory>
+        ensures { IfOk result (λ c. c ≡ record {
+          formula = formula.now;
+          live = numbered formula.now.clauses;
+          done = false;
+        }) }
+    {
+        let live = LiveClauses::new(alloc, formula)?;
+        let marks = Marks::new(alloc, formula.vars())?;
+        Ok(Checker {
+            alloc,
+            formula,
+            live,
+            marks,
+            done: false,
+        })
+    }
+
+    /// Takes the next step of the proof. After an error the checker is as before.
+    pub fn step(&mut self, step: &Step) -> Result<Progress, StepError>
+        ensures stepped { IfOk result (λ _. stepped self.old step.now ≡ Some self.new) }
+        ensures progress { IfOk result (λ p. p ≡ progress_of self.new.done) }
+        ensures not_good { result ≡ Err StepError.NotGood → stepped self.old step.now ≡ None }
+        ensures err { OnErr result (self.new ≡ self.old) }
+        ensures sound { result ≡ Ok Progress.Done → IsUnsatisfiable self.new.formula }
+    {
+        if self.done {
+            return Ok(Progress::Done);
+        }
+        match step {
+            Step::Add { id, lits, hints } => self.add(*id, lits.items(), hints.items()),
+            Step::Del { ids } => {
+                self.live.delete(ids.items());
+                Ok(Progress::Going)
+            }
+        }
+    }
+
+    // The step that adds a clause, where the empty clause wasn't added yet.
+    fn add(&mut self, id: u64, lits: &[Lit], hints: &[i64]) -> Result<Progress, StepError>
+        requires { self.old.done ≡ false }
+        ensures stepped { IfOk result
+            (λ _. stepped self.old (Add id lits.now hints.now) ≡ Some self.new) }
+        ensures progress { IfOk result (λ p. p ≡ progress_of self.new.done) }
+        ensures not_good { result ≡ Err StepError.NotGood
+            → stepped self.old (Add id lits.now hints.now) ≡ None }
+        ensures err { OnErr result (self.new ≡ self.old) }
+        ensures sound { result ≡ Ok Progress.Done → IsUnsatisfiable self.new.formula }
+    {
+        reach(self.alloc, &mut self.marks, lits)?;
+        if self.live.find(id).is_some() {
+            return Err(StepError::NotGood);
+        }
+        if !closes(&self.live, &mut self.marks, lits, hints) {
+            return Err(StepError::NotGood);
+        }
+        self.live.push(id, lits)?;
+        if lits.is_empty() {
+            self.done = true;
+            return Ok(Progress::Done);
+        }
+        Ok(Progress::Going)
+    }
+}
+
+// Makes the marks reach to the variables of the literals. The set may be emptied.
+fn reach(alloc: Global, marks: &mut Marks, lits: &[Lit]) -> Result<(), Memory>
+    ensures ok { OnOk result (is_within marks.new.vars lits.now ≡ true) }
+    ensures grown { marks.old.vars ≤ marks.new.vars }
+{
+    let most = greatest_variable(lits);
+    let vars = marks.vars();
+    if most > vars {
+        *marks = Marks::new(alloc, most.max((2 * vars).min(Var::MOST)))?;
+    }
+    Ok(())
+}
+
+fn greatest_variable(lits: &[Lit]) -> u32
+    ensures within { is_within result lits.now ≡ true }
+    ensures most { result ≤ 16777216 }
+{
+    let mut most = 0;
+    for lit in lits {
+        most = most.max(lit.var().number());
+    }
+    most
+}

@@ -1,0 +1,88 @@
+// Unit propagation by hints, over marked literals.
+ghost use Rattle.std.specs.Prelude.{◌≡◌, true, not, filter, is_none};
+ghost use Rattle.std.specs.List.{list_all};
+ghost use Rattle.std.specs.Option.{option_copied};
+ghost use Rattle.std.specs.FinSet as set;
+ghost use Rattle.lls_lit.specs.Formula.{is_within};
+ghost use Rattle.lls_prooflog.specs.UnitWalk.{unit_walk};
+ghost use Rattle.lls_lrat.specs.Left.{left_in, IsOneWithin};
+ghost use Rattle.lls_lrat.specs.Hinted.{are_within, hinted_clause};
+
+use crate::live::LiveClauses;
+use lls_lit::{Lit, Marks};
+
+/// The different literals of a clause that aren't marked.
+#[derive(Clone, Copy, Debug)]
+enum Left {
+    Nothing,
+    One(Lit),
+    More,
+}
+
+/// Whether the hints lead to a conflict where the literals are taken as false. The marks begin anew.
+pub(crate) fn closes(live: &LiveClauses, marks: &mut Marks, lits: &[Lit], hints: &[i64]) -> bool
+    requires lits { is_within marks.old.vars lits.now ≡ true }
+    requires live { are_within marks.old.vars live.now ≡ true }
+    ensures exact { result ≡ is_none (unit_walk live.now lits.now hints.now) }
+    ensures vars { marks.new.vars ≡ marks.old.vars }
+{
+    mark_all(marks, lits);
+    for hint in hints {
+        let Some(clause) = hinted(live, hint) else {
+            return false;
+        };
+        match unmarked(clause, marks) {
+            Left::Nothing => return true,
+            Left::One(lit) => marks.put(lit.negated()),
+            Left::More => return false,
+        }
+    }
+    false
+}
+
+// Marks these literals and no others.
+fn mark_all(marks: &mut Marks, lits: &[Lit])
+    requires { is_within marks.old.vars lits.now ≡ true }
+    ensures { marks.new ≡ record marks.old { lits = set.from_list lits.now } }
+{
+    marks.clear();
+    for lit in lits {
+        marks.put(*lit);
+    }
+}
+
+// The clause of a hint. A negative hint has none.
+fn hinted<'a>(live: &'a LiveClauses, hint: &i64) -> Option<&'a [Lit]>
+    ensures { option_copied result ≡ hinted_clause live.now hint.now }
+{
+    if *hint < 0 {
+        return None;
+    }
+    live.find(*hint as u64)
+}
+
+// What is left of a clause without the marked literals.
+fn unmarked(clause: &[Lit], marks: &Marks) -> Left
+    requires { is_within marks.now.vars clause.now ≡ true }
+    ensures left { result ≡ left_in (filter (λ l. not (set.contains marks.now.lits l)) clause.now) }
+    ensures within { IsOneWithin marks.now.vars result }
+{
+    let mut found = None;
+    for lit in clause {
+        if marks.has(*lit) {
+            continue;
+        }
+        match found {
+            None => found = Some(*lit),
+            Some(other) => {
+                if other != *lit {
+                    return Left::More;
+                }
+            }
+        }
+    }
+    match found {
+        None => Left::Nothing,
+        Some(lit) => Left::One(lit),
+    }
+}
