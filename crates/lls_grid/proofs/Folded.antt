@@ -52,7 +52,7 @@ cell_at-folded_right generations height width cells t y x t_in y_in x_out =
     ∙ slice_get_past (row_at height width cells t y) x (rw length-map-range_with_len x_out)
 
 -- the cell at a place by the row and the column that it has in the grid
-some_row : (y : ℤ) (height row : ℕ) → inside y height ≡ Some row → (y ≡ pos row) × (row < height)
+pub some_row : (y : ℤ) (height row : ℕ) → inside y height ≡ Some row → (y ≡ pos row) × (row < height)
 some_row (pos y) height row e =
     let found = cond_some (ltb y height) y row e in
     (ap pos found.1, subst (λ n. n < height) found.1 (ltb-true y height found.0))
@@ -67,7 +67,7 @@ place_cell-folded generations height width cells t row column y x t_in at_row at
     rw (r.0, c.0) (cell_at-folded generations height width cells t row column t_in r.1 c.1)
 
 -- no cell in a place that has no row or no column in the grid
-no_row : (y height : ℕ) → inside (pos y) height ≡ None → height ≤ y
+pub no_row : (y height : ℕ) → inside (pos y) height ≡ None → height ≤ y
 no_row y height e = grind (arith, nat_tests)
 
 pub place_cell-folded_above : (generations height width : ℕ) (cells : List Bool) (t : ℕ) (y x : ℤ) → t < generations
