@@ -1,5 +1,5 @@
 -- Files by name in a list: what is found, and what a change of one leaves.
-use Rattle.std.proofs.Common.{◌≡◌, ◌≢◌, ◌<◌, ℕ, suc, zero, Bool, true, false, cond, List, [], ◌∷◌, ◌++◌, length, Option, Some, None, Result, Ok, Err, is_ok, OnOk, OnErr, unwrap_or, Vec, get_or, refl, sym, ap, subst, ◌∙◌, arith, length-append}
+use Rattle.std.proofs.Common.{◌≡◌, ◌≢◌, ◌<◌, ℕ, suc, zero, Bool, true, false, cond, List, [], ◌∷◌, ◌++◌, length, Some, None, Result, Ok, Err, is_ok, OnOk, OnErr, unwrap_or, Vec, get_or, refl, sym, ap, subst, ◌∙◌, arith, length-append}
 use Rattle.std.specs.declared.alloc.Global.{Global}
 use Rattle.std.specs.Ordering.{nat_cmp}
 use Rattle.std.specs.Cmp.Lexicographic.{slice_cmp}
@@ -7,7 +7,7 @@ use Rattle.std.proofs.Math.ListN.{set, length-set}
 use Rattle.std.proofs.lemmas.Cmp.{nat_list_cmp_total}
 use Rattle.std.specs.FinMap.{get-insert, get-empty}
 use Rattle.std.specs.FinMap as map
-use Rattle.lls_base.specs.Shelf.{Files, append_file}
+use Rattle.lls_base.specs.Shelf.{append_file}
 use Rattle.lls_base.specs.Files.{NamedBytes, files_of, name_at, bytes_at, IsFirst, IsNowhere}
 use Rattle.lls_base.proofs.FileMaps.{same_name, same_name-refl, same_name-true, same_name-false, same_files, insert-found, cond-cond}
 

@@ -1,9 +1,9 @@
 -- What a shelf tells of its files after whole and partial writes.
-use Rattle.std.proofs.Common.{◌≡◌, ℕ, ◌+◌, List, ◌++◌, Option, Some, None, Ok, take, drop, refl, sym, ap, ◌∙◌}
+use Rattle.std.proofs.Common.{◌≡◌, ℕ, ◌+◌, List, Option, Some, None, Ok, take, drop, refl, sym, ap, ◌∙◌}
 use Rattle.std.specs.Option.{option_map}
 use Rattle.std.proofs.Math.Seq.{take-add}
 use Rattle.std.specs.FinMap as map
-use Rattle.lls_base.specs.Shelf.{Contents, Files, after_write, known_files, known_target}
+use Rattle.lls_base.specs.Shelf.{Contents, Files, after_write, known_files}
 use Rattle.lls_base.specs.Writing.{with_output, without_output}
 use Rattle.lls_base.proofs.FileMaps.{append_file-insert}
 

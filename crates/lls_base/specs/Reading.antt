@@ -1,5 +1,5 @@
 -- What a whole read of a file gives.
-use Rattle.std.specs.Prelude.{◌≡◌, ◌≤◌, ℕ, Bool, true, false, List, ◌++◌, length, Option, Result, Ok, Err, IsSome}
+use Rattle.std.specs.Prelude.{◌≡◌, ◌≤◌, ℕ, Bool, true, false, List, ◌++◌, length, Result, Ok, Err, IsSome}
 use Rattle.std.specs.FinMap as map
 use Rattle.lls_base.specs.declared.reading.ReadError.{ReadError}
 use Rattle.lls_base.specs.declared.reading.ReadError.TheVariants as error

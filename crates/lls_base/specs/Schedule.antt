@@ -1,5 +1,5 @@
 -- Which call of a double in memory is to fail.
-use Rattle.std.specs.Prelude.{ℕ, ◌+◌, ◌-◌, ◌^◌, ◌==◌, min, Bool}
+use Rattle.std.specs.Prelude.{◌+◌, ◌-◌, ◌^◌, ◌==◌, min, Bool}
 use Rattle.std.specs.List.{list_any}
 use Rattle.lls_base.specs.declared.schedule.Schedule.{Schedule}
 

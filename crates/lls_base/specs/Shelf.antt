@@ -1,5 +1,5 @@
 -- What a shelf tells, and what each of its calls does to that.
-use Rattle.std.specs.Prelude.{◌≡◌, ◌<◌, ◌≤◌, ℕ, Bool, true, false, List, [], ◌++◌, length, take, drop, Option, None, Some, Result, Ok, Err, IsSome, IsNone, IfSome, MatchOption, is_some, is_none, unwrap_or, option_and_then}
+use Rattle.std.specs.Prelude.{◌≡◌, ◌<◌, ◌≤◌, ℕ, Bool, List, [], ◌++◌, length, take, drop, Option, None, Some, Result, Ok, Err, IsSome, IsNone, is_some, unwrap_or, option_and_then}
 use Rattle.std.specs.Ordering.{nat_cmp}
 use Rattle.std.specs.Option.{option_map}
 use Rattle.std.specs.Cmp.Lexicographic.{slice_cmp}
@@ -7,7 +7,6 @@ use Rattle.std.specs.FinMap as map
 use Rattle.lls_base.specs.declared.sink.Failed.{Failed}
 use Rattle.lls_base.specs.declared.shelf.OpenFault.{OpenFault}
 use Rattle.lls_base.specs.declared.shelf.OpenFault.TheVariants as fault
-use Rattle.lls_base.specs.Sink.{bytes_taken}
 
 -- bytes by name, a name being the bytes of its text
 abbrev pub Files : Type 0

@@ -1,5 +1,5 @@
 -- What a whole write of a file leaves.
-use Rattle.std.specs.Prelude.{Bool, true, false, List, ℕ, Option, None, Some, Result, Ok, Err}
+use Rattle.std.specs.Prelude.{Bool, true, false, List, ℕ, None, Some, Result, Ok, Err}
 use Rattle.std.specs.FinMap as map
 use Rattle.lls_base.specs.declared.writing.FileFault.{FileFault}
 use Rattle.lls_base.specs.declared.writing.FileFault.TheVariants as fault

@@ -1,6 +1,4 @@
-use Rattle.std.proofs.Common.{◌≡◌, ℕ, Vec, Global, length, ap, ◌∙◌, rules}
-use Rattle.std.specs.FinMap as map
-use Rattle.lls_base.specs.Files.{files_of}
+use Rattle.std.proofs.Common.{◌≡◌, ℕ, Vec, Global, length, ◌∙◌, rules}
 use Rattle.lls_base.proofs.NamedBytes.{files_of-written, IsFirst-written, files_of-pushed, IsFirst-pushed}
 use Rattle.lls_base.proofs.files.empty_file.Goals as goal
 

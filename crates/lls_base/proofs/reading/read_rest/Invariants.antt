@@ -1,4 +1,4 @@
-use Rattle.std.proofs.Common.{◌≡◌, ◌≤◌, ◌-◌, List, ℕ, ◌++◌, length, take, drop, IfSome}
+use Rattle.std.proofs.Common.{◌≡◌, ◌≤◌, ◌-◌, List, ℕ, ◌++◌, drop, IfSome}
 use Rattle.std.specs.Option.{option_map}
 use Rattle.lls_base.specs.Faults.{Counts}
 use Rattle.lls_base.specs.Shelf.{known_files, known_target, known_rest}

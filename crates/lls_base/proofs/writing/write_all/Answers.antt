@@ -1,4 +1,4 @@
-use Rattle.std.proofs.Common.{arith, rules, length-drop}
+use Rattle.std.proofs.Common.{arith, length-drop}
 use Rattle.std.proofs.lemmas.List.{take_rest}
 use Rattle.lls_base.proofs.Pieces.{append_known-take}
 use Rattle.lls_base.proofs.Faults.{Counts-trans}
