@@ -4,3 +4,5 @@ pub mod Numbers
 pub mod Entries
 pub mod Reading
 pub mod Groups
+pub mod Seen
+pub mod Sides

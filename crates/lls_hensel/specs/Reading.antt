@@ -41,23 +41,41 @@ tail_read column count (byte ∷ rest) =
     cond (byte == 45) (cond (letter_first rest) (listed (column + 1) count true rest) (Err (NoLetters column)))
         (listed column count false (byte ∷ rest))
 
--- a side's bytes, cut before each digit: what stands before the first, and each digit with what follows it
-abbrev pub cut : List ℕ → List ℕ × List (ℕ × List ℕ)
-cut [] = ([], [])
-cut (byte ∷ rest) = cond (is_count byte) ([], (byte, (cut rest).0) ∷ (cut rest).1) (byte ∷ (cut rest).0, (cut rest).1)
+-- bytes, cut before each digit: what stands before the first, and each digit with what follows it
+abbrev pub Cut : Type 0
+Cut = List ℕ × List (ℕ × List ℕ)
 
--- the groups of a side from a column on, after the bytes before them: no digit stands twice
+abbrev pub cut_before : Bool → ℕ → Cut → Cut
+cut_before digit byte rest = cond digit ([], (byte, rest.0) ∷ rest.1) (byte ∷ rest.0, rest.1)
+
+abbrev pub cut : List ℕ → Cut
+cut [] = ([], [])
+cut (byte ∷ rest) = cut_before (is_count byte) byte (cut rest)
+
+-- what stands before the first digit
+abbrev pub before_digit : List ℕ → List ℕ
+before_digit bytes = (cut bytes).0
+
+-- the group of a digit at a column, after the bytes before it on its side: no digit stands twice
+abbrev pub group_read : ℕ → List ℕ → ℕ → List ℕ → Result Group RuleError
+group_read column before digit tail =
+    cond (among before digit) (Err (RepeatedDigit column)) (tail_read (column + 1) (digit - 48) tail)
+
+-- the groups of a side from a column on, after the bytes before them
 abbrev pub groups_read : ℕ → List ℕ → List (ℕ × List ℕ) → Result (List Group) RuleError
 groups_read column before [] = Ok []
 groups_read column before ((digit, tail) ∷ rest) =
-    cond (among before digit) (Err (RepeatedDigit column))
-        (and_then (tail_read (column + 1) (digit - 48) tail) (λ group.
-            and_then (groups_read (column + (1 + length tail)) (before ++ digit ∷ tail) rest) (λ groups. Ok (group ∷ groups))))
+    and_then (group_read column before digit tail) (λ group.
+        and_then (groups_read (column + (1 + length tail)) (before ++ digit ∷ tail) rest) (λ groups. Ok (group ∷ groups)))
+
+-- the fault of a byte that stands before the first digit of a side
+abbrev pub misplaced : ℕ → ℕ → RuleError
+misplaced byte column = cond (is_ascii_lowercase byte) (BadLetter column) (Stray column)
 
 -- the groups of a side that begins at a column
-abbrev pub side_read : ℕ → List ℕ × List (ℕ × List ℕ) → Result (List Group) RuleError
+abbrev pub side_read : ℕ → Cut → Result (List Group) RuleError
 side_read column ([], groups) = groups_read column [] groups
-side_read column (byte ∷ _, _) = Err (cond (is_ascii_lowercase byte) (BadLetter column) (Stray column))
+side_read column (byte ∷ _, _) = Err (misplaced byte column)
 
 -- the entries of a side that begins at a column
 unfoldable pub side_entries : Bool → ℕ → List ℕ → Result (List Entry) RuleError
@@ -86,12 +104,10 @@ abbrev pub birth_after : ℕ → List ℕ → Result (ℕ × List ℕ) RuleError
 birth_after column [] = Err (Stray column)
 birth_after column (byte ∷ rest) = Ok (column + 1, rest)
 
--- the two sides' entries, the second side being what `after` finds behind the first
-abbrev pub both_sides : Bool → ℕ → List ℕ → Result (ℕ × List ℕ) RuleError → Result (List Entry) RuleError
-both_sides survival column side after =
-    and_then (side_entries survival column side) (λ first.
-        and_then after (λ second.
-            and_then (side_entries (not survival) second.0 second.1) (λ others. Ok (first ++ others))))
+-- the entries of a first side with those of the side that was found behind it
+abbrev pub both_sides : Bool → Result (List Entry) RuleError → Result (ℕ × List ℕ) RuleError → Result (List Entry) RuleError
+both_sides survival first behind =
+    and_then first (λ entries. and_then behind (λ second. and_then (side_entries survival second.0 second.1) (λ others. Ok (entries ++ others))))
 
 -- the bytes of the side that ends before the first byte that passes a test
 abbrev pub side_before : (ℕ → Bool) → List ℕ → List ℕ
@@ -101,13 +117,13 @@ side_before ends bytes = take_while (λ byte. not (ends byte)) bytes
 unfoldable pub birth_first : List ℕ → Result (List Entry) RuleError
 birth_first bytes =
     let side = side_before (λ byte. is_slash byte || is_survival_mark byte) bytes in
-    both_sides false 2 side (survival_after (2 + length side) (drop (length side) bytes))
+    both_sides true (side_entries false 2 side) (survival_after (2 + length side) (drop (length side) bytes))
 
 -- the form with the survival side first
 unfoldable pub survival_first : List ℕ → Result (List Entry) RuleError
 survival_first bytes =
     let side = side_before is_slash bytes in
-    both_sides true 1 side (birth_after (1 + length side) (drop (length side) bytes))
+    both_sides false (side_entries true 1 side) (birth_after (1 + length side) (drop (length side) bytes))
 
 -- the entries for which a rule text stands, or its first fault
 abbrev pub entries_of : List ℕ → Result (List Entry) RuleError

@@ -1,5 +1,5 @@
 // A group of a rule text, and what it adds to a rule.
-ghost use Rattle.std.specs.Prelude.{◌≡◌, ◌==◌, ℕ, ◌<◌, ◌≤◌, length};
+ghost use Rattle.std.specs.Prelude.{◌≡◌, ◌==◌, ◌+◌, cond, ℕ, ◌<◌, ◌≤◌, length};
 ghost use Rattle.std.specs.List.{list_any};
 ghost use Rattle.lls_hensel.specs.Class.{letter_among};
 ghost use Rattle.lls_hensel.specs.Entries.{next_of, with_entries, entries_of_group, stands_for};
@@ -20,6 +20,13 @@ pub(crate) struct Group<'t> {
 }
 
 impl Group<'_> {
+    /// How many bytes the group takes in its text.
+    pub(crate) fn len(&self) -> usize
+        ensures { result ≡ 1 + cond self.now.minus 1 0 + length self.now.letters.now }
+    {
+        1 + usize::from(self.minus) + self.letters.len()
+    }
+
     /// Whether the group stands for one of its digit's letters.
     fn stands_for(&self, letter: Option<u8>) -> bool
         ensures { result ≡ stands_for (seen_group self.now) letter }

@@ -6,4 +6,4 @@ mod group;
 mod read;
 
 pub use class::{Class, class_of};
-pub use read::RuleError;
+pub use read::{RuleError, read_rule};
