@@ -1,5 +1,5 @@
 -- What the masks and shifts of the eight neighbours give, for each of the 256.
-use Rattle.std.proofs.Common.{◌≡◌, ℕ, ◌+◌, ◌*◌, ◌/◌, ◌%◌, ◌<◌, nat_eq, Bool, true, suc, zero, ◌≢◌, List, [], bit_and, bit_or, refl}
+use Rattle.std.proofs.Common.{◌≡◌, ℕ, ◌+◌, ◌*◌, ◌/◌, ◌%◌, ◌<◌, nat_eq, Bool, true, suc, zero, ◌≢◌, List, [], ◌∷◌, ◌≤◌, None, arith, bit_and, bit_or, refl}
 use Rattle.std.proofs.lemmas.Bool.{agree_below, agree_below_at, eqb-true}
 use Rattle.lls_hensel.specs.Numbers.{turned, mirrored, representatives_of_fewer}
 use Rattle.lls_hensel.specs.declared.class.Representative.{Representative}
@@ -34,12 +34,12 @@ pub mirror_by_masks-mirrored : (n : ℕ) → n < 256 →
 unfolding mirror_by_masks
 mirror_by_masks-mirrored n h = same_below mirror_by_masks mirrored mirrors_agree n h
 
--- a count that is none of these has no letters
-pub representatives_of_fewer_none : (m : ℕ) → m ≢ 1 → m ≢ 2 → m ≢ 3 → m ≢ 4 → representatives_of_fewer m ≡ []
+-- a count up to four that is none of these has one class
+pub representatives_of_fewer_none : (m : ℕ) → m ≤ 4 → m ≢ 1 → m ≢ 2 → m ≢ 3 → m ≢ 4 → representatives_of_fewer m ≡ record { letter = None; eight = 0 } ∷ []
 unfolding representatives_of_fewer
-representatives_of_fewer_none zero one two three four = refl
-representatives_of_fewer_none (suc zero) one two three four = absurd (one refl)
-representatives_of_fewer_none (suc (suc zero)) one two three four = absurd (two refl)
-representatives_of_fewer_none (suc (suc (suc zero))) one two three four = absurd (three refl)
-representatives_of_fewer_none (suc (suc (suc (suc zero)))) one two three four = absurd (four refl)
-representatives_of_fewer_none (suc (suc (suc (suc (suc m))))) one two three four = refl
+representatives_of_fewer_none zero h one two three four = refl
+representatives_of_fewer_none (suc zero) h one two three four = absurd (one refl)
+representatives_of_fewer_none (suc (suc zero)) h one two three four = absurd (two refl)
+representatives_of_fewer_none (suc (suc (suc zero))) h one two three four = absurd (three refl)
+representatives_of_fewer_none (suc (suc (suc (suc zero)))) h one two three four = absurd (four refl)
+representatives_of_fewer_none (suc (suc (suc (suc (suc m))))) h one two three four = absurd (omega arith)

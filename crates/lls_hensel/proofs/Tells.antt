@@ -17,7 +17,7 @@ use Rattle.lls_rule.proofs.Counts.{centre_test}
 use Rattle.lls_hensel.proofs.Classes.{classes_of-class_by_number}
 use Rattle.lls_hensel.specs.Class.{Picture, classes_of, pictures, same_letter, is_of_class}
 use Rattle.lls_hensel.specs.Neighbours.{eight_of, around, are_images}
-use Rattle.lls_hensel.specs.Numbers.{class_by_number, letter_by_number, representatives_of, representatives_of_fewer, images_by_number, fewer_of, turned, mirrored}
+use Rattle.lls_hensel.specs.Numbers.{class_by_number, letter_by_number, representative_by_number, representatives_of, representatives_of_fewer, images_by_number, fewer_of, turned, mirrored}
 use Rattle.lls_hensel.specs.Entries.{Entry, Group, tells, next_of, letters_of, stands_for, entries_of_group}
 use Rattle.lls_hensel.specs.Groups.{around_number}
 
@@ -30,11 +30,11 @@ letter_at_count : Class → ℕ → List (Option ℕ)
 letter_at_count class count = cond (nat_eq count class.count) (class.letter ∷ []) []
 
 found_at_each : agree_below (λ n. agree_below (λ count. pointwise same_letter (letters_found count (eight_of n)) (letter_at_count (class_by_number n) count)) (λ _. true) 9) (λ _. true) 256 ≡ true
-unfolding letters_found letter_at_count class_by_number letter_by_number representatives_of representatives_of_fewer images_by_number fewer_of turned mirrored ones
+unfolding letters_found letter_at_count class_by_number letter_by_number representative_by_number representatives_of representatives_of_fewer images_by_number fewer_of turned mirrored ones
 found_at_each = refl
 
 letters_are_counts : agree_below (λ n. nat_le (class_by_number n).count 8 && list_any (same_letter (class_by_number n).letter) (letters_of (class_by_number n).count)) (λ _. true) 256 ≡ true
-unfolding class_by_number letter_by_number representatives_of representatives_of_fewer images_by_number fewer_of turned mirrored ones
+unfolding class_by_number letter_by_number representative_by_number representatives_of representatives_of_fewer images_by_number fewer_of turned mirrored ones
 letters_are_counts = refl
 
 around_as_number : agree_below (λ n. nat_lt (around_number n) 256 && pointwise beq (around n) (eight_of (around_number n))) (λ _. true) 512 ≡ true

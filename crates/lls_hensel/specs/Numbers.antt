@@ -1,9 +1,9 @@
 -- Eight neighbours as numbers below 256, and how a class is found by them.
-use Rattle.std.specs.Prelude.{ℕ, ◌-◌, ◌==◌, nat_lt, min, Bool, cond, List, [], ◌∷◌, map, find, option_map, Option, count_ones, ◌||◌}
+use Rattle.std.specs.Prelude.{ℕ, ◌-◌, ◌==◌, nat_lt, min, Bool, cond, List, [], ◌∷◌, map, find, option_and_then, Option, count_ones, ◌||◌}
 use Rattle.std.specs.List.{list_any}
 use Rattle.lls_rule.specs.Rule.{number_of}
-use Rattle.lls_hensel.specs.Neighbours.{eight_of, around, quarter_turn, mirror}
-use Rattle.lls_hensel.specs.Class.{lettered}
+use Rattle.lls_hensel.specs.Neighbours.{eight_of, quarter_turn, mirror}
+use Rattle.lls_hensel.specs.Class.{few_live}
 use Rattle.lls_hensel.specs.declared.class.Class.{Class}
 use Rattle.lls_hensel.specs.declared.class.Representative.{Representative}
 
@@ -24,18 +24,21 @@ images_by_number first second =
 unfoldable pub fewer_of : ℕ → ℕ
 fewer_of eight = cond (nat_lt 4 (count_ones eight)) (255 - eight) eight
 
--- the letters of a count up to four, with eight neighbours of their class
+-- the classes of a count up to four, with eight neighbours of each
 unfoldable pub representatives_of_fewer : ℕ → List Representative
-representatives_of_fewer count = map (λ p. record { letter = p.0; eight = number_of (around p.1) }) (lettered count)
+representatives_of_fewer count = map (λ p. record { letter = p.letter; eight = number_of p.eight }) (few_live count)
 
--- the letters of a count, each with at most four live neighbours
+-- the classes of a count by their letters, each with at most four live neighbours
 unfoldable pub representatives_of : ℕ → List Representative
 representatives_of count = representatives_of_fewer (min count (8 - count))
 
--- the letter of a count whose class has these neighbours, of which at most four are live
+-- the class of a count that has these neighbours, of which at most four are live
+unfoldable pub representative_by_number : ℕ → ℕ → Option Representative
+representative_by_number count few = find (λ r. images_by_number r.eight few) (representatives_of count)
+
+-- its letter
 unfoldable pub letter_by_number : ℕ → ℕ → Option ℕ
-letter_by_number count few =
-    option_map (λ r. r.letter) (find (λ r. images_by_number r.eight few) (representatives_of count))
+letter_by_number count few = option_and_then (λ r. r.letter) (representative_by_number count few)
 
 -- the class of the eight by the letters of their count
 unfoldable pub class_by_number : ℕ → Class

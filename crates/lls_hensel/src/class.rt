@@ -1,8 +1,8 @@
 // The classes of the eight neighbours of a cell.
-ghost use Rattle.std.specs.Prelude.{◌≡◌, ℕ, ◌≤◌, [], ◌∷◌};
-ghost use Rattle.lls_hensel.specs.Class.{classes_of};
+ghost use Rattle.std.specs.Prelude.{◌≡◌, ℕ, ◌≤◌, [], ◌∷◌, Some};
+ghost use Rattle.lls_hensel.specs.Class.{classes_of, same_letter};
 ghost use Rattle.lls_hensel.specs.Neighbours.{eight_of};
-ghost use Rattle.lls_hensel.specs.Numbers.{representatives_of, letter_by_number, images_by_number, fewer_of, turned, mirrored};
+ghost use Rattle.lls_hensel.specs.Numbers.{representatives_of, representative_by_number, letter_by_number, images_by_number, fewer_of, turned, mirrored};
 
 /// A class of eight neighbours: those that turns and the mirror of the square take to one another.
 #[derive(Clone, Copy, Debug, PartialEq, Eq)]
@@ -13,11 +13,23 @@ pub struct Class {
     pub letter: Option<u8>,
 }
 
-/// A letter of Hensel notation with eight neighbours of its class, as in [`class_of`].
+/// A letter of Hensel notation, or none, with eight neighbours of its class, as in [`class_of`].
 #[derive(Clone, Copy, Debug)]
 pub(crate) struct Representative {
-    pub(crate) letter: u8,
+    pub(crate) letter: Option<u8>,
     pub(crate) eight: u8,
+}
+
+impl Representative {
+    /// Whether a byte is its letter.
+    pub(crate) fn is_named(&self, byte: u8) -> bool
+        ensures { result ≡ same_letter self.now.letter (Some byte) }
+    {
+        match self.letter {
+            Some(letter) => letter == byte,
+            None => false,
+        }
+    }
 }
 
 /// The class of eight neighbours, of which bits 7 to 0 are top left, top, top right, left, right, bottom left, bottom and bottom right.
@@ -37,13 +49,22 @@ fn letter_of(count: u8, few: u8) -> Option<u8>
     requires { count ≤ 8 }
     ensures { result ≡ letter_by_number count few }
 {
-    representatives(count)
-        .iter()
-        .find(|representative| are_images(representative.eight, few))
-        .map(|representative| representative.letter)
+    match representative_of(count, few) {
+        Some(representative) => representative.letter,
+        None => None,
+    }
 }
 
-/// The letters of a count in alphabetical order, each with at most four live neighbours: above four, those of as many dead ones.
+/// The class of a count that has these neighbours, of which at most four are live.
+#[tactic(auto, unfolding(crate::specs::Numbers::representative_by_number))]
+pub(crate) fn representative_of(count: u8, few: u8) -> Option<Representative>
+    requires { count ≤ 8 }
+    ensures { result ≡ representative_by_number count few }
+{
+    representatives(count).iter().copied().find(|representative| are_images(representative.eight, few))
+}
+
+/// The classes of a count by their letters in alphabetical order, each with at most four live neighbours: above four, those of as many dead ones.
 pub(crate) fn representatives(count: u8) -> &'static [Representative]
     requires { count ≤ 8 }
     ensures { result.now ≡ representatives_of count }
@@ -51,7 +72,7 @@ pub(crate) fn representatives(count: u8) -> &'static [Representative]
     // Each letter with the number of a neighbourhood by the weights 256 128 64 / 32 16 8 / 4 2 1.
     macro_rules! table {
         ($($letter:literal $nine:literal),*) => {
-            &[$(Representative { letter: $letter, eight: ($nine / 32 * 16 + $nine % 16) as u8 }),*]
+            &[$(Representative { letter: Some($letter), eight: ($nine / 32 * 16 + $nine % 16) as u8 }),*]
         };
     }
     match count.min(8 - count) {
@@ -64,7 +85,7 @@ pub(crate) fn representatives(count: u8) -> &'static [Representative]
             b'a' 15, b'c' 325, b'e' 170, b'i' 45, b'j' 106, b'k' 99, b'n' 71, b'q' 102, b'r' 43, b't' 105, b'w' 78,
             b'y' 101, b'z' 108
         ],
-        _ => &[],
+        _ => &[Representative { letter: None, eight: 0 }],
     }
 }
 

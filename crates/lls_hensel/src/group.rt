@@ -1,7 +1,7 @@
 // A group of a rule text, and what it adds to a rule.
-ghost use Rattle.std.specs.Prelude.{◌≡◌, ◌==◌, ◌+◌, cond, ℕ, ◌<◌, ◌≤◌, length};
+ghost use Rattle.std.specs.Prelude.{◌≡◌, ◌+◌, Some, cond, ℕ, ◌<◌, ◌≤◌, length};
 ghost use Rattle.std.specs.List.{list_any};
-ghost use Rattle.lls_hensel.specs.Class.{letter_among};
+ghost use Rattle.lls_hensel.specs.Class.{letter_among, same_letter};
 ghost use Rattle.lls_hensel.specs.Entries.{next_of, with_entries, entries_of_group, stands_for};
 ghost use Rattle.lls_hensel.specs.Groups.{seen_group, around_number};
 
@@ -76,9 +76,9 @@ pub(crate) fn is_letter_of(count: u8, byte: u8) -> bool
 }
 
 fn has_letter(representatives: &[Representative], byte: u8) -> bool
-    ensures { result ≡ list_any (λ r. r.letter == byte) representatives.now }
+    ensures { result ≡ list_any (λ r. same_letter r.letter (Some byte)) representatives.now }
 {
-    representatives.iter().any(|representative| representative.letter == byte)
+    representatives.iter().any(|representative| representative.is_named(byte))
 }
 
 #[tactic(auto, unfolding(crate::specs::Groups::around_number))]

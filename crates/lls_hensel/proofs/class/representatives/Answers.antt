@@ -23,4 +23,4 @@ pub returns-in_default : goal.returns-in_default
 unfolding representatives_of
 returns-in_default c =
     sym (ap representatives_of_fewer (sym c.min.ensures) ∙
-        representatives_of_fewer_none c.min.result (λ e. absurd (omega arith)) (λ e. absurd (omega arith)) (λ e. absurd (omega arith)) (λ e. absurd (omega arith)))
+        representatives_of_fewer_none c.min.result (omega (arith, c.min.ensures)) (λ e. absurd (omega arith)) (λ e. absurd (omega arith)) (λ e. absurd (omega arith)) (λ e. absurd (omega arith)))
