@@ -1,5 +1,5 @@
 -- Reading a history that is folded from its cells in order.
-use Rattle.std.proofs.Common.{◌≡◌, ◌<◌, ◌≤◌, ℕ, zero, suc, ◌+◌, ◌*◌, ℤ, pos, negsuc, Bool, true, false, List, [], ◌∷◌, length, map, refl, sym, ap, ◌∙◌, arith, Option, None, Some, slice_get, get_or, rules, replicate, subst, ltb}
+use Rattle.std.proofs.Common.{◌≡◌, ◌<◌, ◌≤◌, ℕ, zero, suc, ◌+◌, ◌*◌, ℤ, pos, negsuc, Bool, true, false, List, [], ◌∷◌, length, map, refl, sym, ap, ◌∙◌, arith, Option, None, Some, slice_get, get_or, rules, replicate, subst, ltb, ◌==◌}
 use Rattle.std.specs.List.{range_with_len}
 use Rattle.std.proofs.lemmas.List.{get_or_past}
 use Rattle.std.proofs.lemmas.List.FromFn.{length-map-range_with_len, get_or-map-range_with_len}
@@ -8,7 +8,9 @@ use Rattle.std.proofs.lemmas.Option.{cond_some}
 use Rattle.std.proofs.lemmas.Bool.{ltb-true}
 use Rattle.std.proofs.lemmas.Bool.Decides.{nat_tests}
 use Rattle.lls_grid.specs.Place.{inside}
-use Rattle.lls_grid.specs.History.{History, folded, rows_at, cell_at, place_cell, height_of, width_of, dead}
+use Rattle.std.specs.List.{list_all}
+use Rattle.std.proofs.lemmas.Bool.{and_from, eq-eqb}
+use Rattle.lls_grid.specs.History.{HasSizes, has_shape, History, folded, rows_at, cell_at, place_cell, height_of, width_of, dead}
 
 -- the row y of generation t, and the rows of that generation
 abbrev row_at : ℕ → ℕ → List Bool → ℕ → ℕ → List Bool
@@ -116,3 +118,22 @@ pub folded-replicate : (generations height width n : ℕ) → folded generations
 unfolding folded
 folded-replicate generations height width n =
     map_same _ _ 0 generations (λ t. map_same _ _ 0 height (λ y. map_same _ _ 0 width (λ x. get_or-replicate n (x + width * (y + height * t)))))
+
+-- all generations have the same shape
+list_all_range : {X : Type 0} (p : X → Bool) (f : ℕ → X) (a n : ℕ) → ((k : ℕ) → p (f k) ≡ true) → list_all p (map f (range_with_len a n)) ≡ true
+list_all_range p f a zero each = refl
+list_all_range p f a (suc n) each = and_from _ _ (each a) (list_all_range p f (a + 1) n each)
+
+shape_of_rows : (height width : ℕ) (cells : List Bool) (t : ℕ) → has_shape height width (all_rows height width cells t) ≡ true
+shape_of_rows height width cells t =
+    and_from _ _ (eq-eqb _ _ (length-map-range_with_len (row_at height width cells t) 0 height))
+    (list_all_range (λ row. length row == width) (row_at height width cells t) 0 height (λ y. eq-eqb _ _ (length-map-range_with_len _ 0 width)))
+
+shapes-folded : (generations height width : ℕ) (cells : List Bool) → list_all (has_shape height width) (folded generations height width cells) ≡ true
+unfolding folded
+shapes-folded generations height width cells = list_all_range (has_shape height width) (all_rows height width cells) 0 generations (shape_of_rows height width cells)
+
+pub HasSizes-folded : (generations height width : ℕ) (cells : List Bool) → 0 < generations → 0 < height
+    → HasSizes (length (folded generations height width cells)) (height_of (folded generations height width cells)) (width_of (folded generations height width cells)) (folded generations height width cells)
+HasSizes-folded generations height width cells some rows =
+    (refl, rw (height_of-folded generations height width cells some, width_of-folded generations height width cells some rows) (shapes-folded generations height width cells))

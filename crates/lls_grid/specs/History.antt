@@ -22,6 +22,12 @@ height_of history = length (slice_index_or history 0 [])
 abbrev pub width_of : History → ℕ
 width_of history = length (slice_index_or (slice_index_or history 0 []) 0 [])
 
+-- what every history of the program keeps: 1 to 64 generations, rows and columns
+pub record IsWithinLimits (history : History) : Type 0 where
+  pub generations : (1 ≤ length history) × (length history ≤ 64)
+  pub height : (1 ≤ height_of history) × (height_of history ≤ 64)
+  pub width : (1 ≤ width_of history) × (width_of history ≤ 64)
+
 -- the rows of a generation, and a row of it; past the end there is none
 abbrev pub rows_at : History → ℕ → List (List Bool)
 rows_at history t = slice_index_or history t []

@@ -1,7 +1,7 @@
 // A history.
 ghost use Rattle.std.specs.Prelude.{◌≡◌, ◌<◌, ◌≤◌, ◌*◌, [], ℤ, pos, negsuc, ◌≤ℤ◌, length, IfOk, if◌then◌else◌};
 ghost use Rattle.lls_rule.specs.Rule.{number_of};
-ghost use Rattle.lls_grid.specs.History.{at, nine, place_cell, three, dead, height_of, width_of};
+ghost use Rattle.lls_grid.specs.History.{HasSizes, IsWithinLimits, at, nine, place_cell, three, dead, height_of, width_of};
 
 use crate::place::{cell_index, index_within};
 use lls_base::Memory;
@@ -49,7 +49,9 @@ impl History {
     }
 
     pub fn generations(&self) -> u32
-        ensures { result ≡ length self.now }
+        ensures generations { result ≡ length self.now }
+        ensures sizes { HasSizes (length self.now) (height_of self.now) (width_of self.now) self.now }
+        ensures limits { IsWithinLimits self.now }
     {
         self.generations
     }
