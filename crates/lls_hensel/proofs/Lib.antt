@@ -6,3 +6,6 @@ pub mod Prefixes
 pub mod With
 pub mod Sides
 pub mod Both
+pub mod Uneven
+pub mod Representatives
+pub mod Texts

@@ -6,3 +6,4 @@ pub mod Reading
 pub mod Groups
 pub mod Seen
 pub mod Sides
+pub mod Printing

@@ -1,7 +1,10 @@
 -- Eight neighbours as numbers below 256, and how a class is found by them.
-use Rattle.std.specs.Prelude.{ℕ, ◌-◌, ◌==◌, nat_lt, min, Bool, cond, List, [], ◌∷◌, map, find, option_and_then, Option, count_ones, ◌||◌}
+use Rattle.std.specs.Prelude.{ℕ, ◌-◌, ◌==◌, nat_lt, min, Bool, cond, List, [], ◌∷◌, map, filter, find, option_and_then, Option, count_ones, ◌||◌}
 use Rattle.std.specs.List.{list_any}
-use Rattle.lls_rule.specs.Rule.{number_of}
+use Rattle.std.proofs.Math.Bool.{beq}
+use Rattle.lls_rule.specs.Rule.{number_of, answer}
+use Rattle.lls_hensel.specs.Groups.{nine_number}
+use Rattle.lls_hensel.specs.Printing.{named}
 use Rattle.lls_hensel.specs.Neighbours.{eight_of, quarter_turn, mirror}
 use Rattle.lls_hensel.specs.Class.{few_live}
 use Rattle.lls_hensel.specs.declared.class.Class.{Class}
@@ -44,3 +47,21 @@ letter_by_number count few = option_and_then (λ r. r.letter) (representative_by
 unfoldable pub class_by_number : ℕ → Class
 class_by_number eight =
     record { count = count_ones eight; letter = letter_by_number (count_ones eight) (fewer_of eight) }
+
+-- the neighbours of a class of a count, by its representative's with at most four live ones
+unfoldable pub live_number : ℕ → ℕ → ℕ
+live_number count eight = cond (nat_lt 4 count) (255 - eight) eight
+
+-- the answer of a side at a class of a count
+unfoldable pub holds_by_number : List Bool → Bool → ℕ → Representative → Bool
+holds_by_number table survival count representative = answer table (nine_number survival (live_number count representative.eight))
+
+-- the classes of a count at which a side has this answer
+unfoldable pub classes_by_number : List Bool → Bool → ℕ → Bool → List Representative
+classes_by_number table survival count live =
+    filter (λ r. beq (holds_by_number table survival count r) live) (representatives_of count)
+
+-- the letter of a class, where a side has this answer and there is one
+unfoldable pub letter_text : List Bool → Bool → ℕ → Bool → Representative → List ℕ
+letter_text table survival count live representative =
+    cond (beq (holds_by_number table survival count representative) live) (named (representative.letter ∷ [])) []

@@ -91,7 +91,7 @@ pub(crate) fn representatives(count: u8) -> &'static [Representative]
 
 /// The live neighbours, or the dead ones where those are fewer.
 #[tactic(auto, unfolding(crate::specs::Numbers::fewer_of))]
-fn fewer(eight: u8) -> u8
+pub(crate) fn fewer(eight: u8) -> u8
     ensures { result ≡ fewer_of eight }
 {
     if eight.count_ones() > 4 { !eight } else { eight }

@@ -3,13 +3,11 @@ ghost use Rattle.std.specs.Prelude.{◌≡◌, ◌+◌, Some, cond, ℕ, ◌<◌
 ghost use Rattle.std.specs.List.{list_any};
 ghost use Rattle.lls_hensel.specs.Class.{letter_among, same_letter};
 ghost use Rattle.lls_hensel.specs.Entries.{next_of, with_entries, entries_of_group, stands_for};
-ghost use Rattle.lls_hensel.specs.Groups.{seen_group, around_number};
+ghost use Rattle.lls_hensel.specs.Groups.{seen_group};
 
 use crate::class::{Representative, class_of, representatives};
+use crate::nine::{CENTRE, around};
 use lls_rule::Rule;
-
-/// The weight of the centre in a neighbourhood's number.
-const CENTRE: u16 = 16;
 
 /// A digit, perhaps `-`, and letters.
 #[derive(Clone, Copy, Debug)]
@@ -79,13 +77,4 @@ fn has_letter(representatives: &[Representative], byte: u8) -> bool
     ensures { result ≡ list_any (λ r. same_letter r.letter (Some byte)) representatives.now }
 {
     representatives.iter().any(|representative| representative.is_named(byte))
-}
-
-#[tactic(auto, unfolding(crate::specs::Groups::around_number))]
-/// The eight neighbours in a neighbourhood's number.
-fn around(nine: u16) -> u8
-    requires { nine < 512 }
-    ensures { result ≡ around_number nine }
-{
-    (nine >> 1 & 0b1111_0000 | nine & 0b0000_1111) as u8
 }

@@ -3,7 +3,10 @@
 
 mod class;
 mod group;
+mod nine;
+mod print;
 mod read;
 
 pub use class::{Class, class_of};
+pub use print::{PrintRuleError, print_rule};
 pub use read::{RuleError, read_rule};

@@ -1,0 +1,6 @@
+use Rattle.std.proofs.Common.{◌≡◌}
+use Rattle.lls_hensel.specs.Printing.{uneven, uneven_from}
+use Rattle.lls_hensel.proofs.print.first_uneven.Given as goal
+
+abbrev pub invariant-loop-nine : goal.invariant-loop-nine
+invariant-loop-nine l = uneven l.rule ≡ uneven_from l.rule l.nine
