@@ -1,0 +1,206 @@
+-- The cells of every solution satisfy the formula.
+use Rattle.std.proofs.Common.{◌≡◌, ◌<◌, ◌≤◌, ℕ, zero, suc, ◌+◌, ◌-◌, ◌*◌, ℤ, pos, negsuc, ◌+ℤ◌, ◌-ℤ◌, ◌≤ℤ◌, ◌<ℤ◌, Bool, true, false, not, ◌&&◌, ◌||◌, cond, List, [], ◌∷◌, ◌++◌, map, length, refl, sym, ap, ◌∙◌, subst, arith, Option, None, Some, get_or, ◌==◌, eqb, add-one, length-append}
+use Rattle.std.specs.Option.{option_map_or}
+use Rattle.std.specs.List.{list_all, list_any, flat_map, range_with_len, position_from}
+use Rattle.std.proofs.lemmas.Bool.{and_parts, and_from, eqb-true}
+use Rattle.std.proofs.lemmas.Int.{ints}
+use Rattle.std.proofs.lemmas.List.Folds.{list_all-append}
+use Rattle.lls_lit.specs.Literal.{negation}
+use Rattle.lls_lit.specs.Formula.{Clause, is_true, value_at, satisfies_clause, satisfies, IsUnsatisfiable, Cnf}
+use Rattle.lls_rule.specs.Rule.{successor}
+use Rattle.lls_grid.specs.History.{History, HasSizes, at, nine, cells_of}
+use Rattle.lls_search_file.specs.declared.cell.Cell.{Cell}
+use Rattle.lls_search_file.specs.declared.cell.Kind.{Kind}
+use Rattle.lls_search_file.specs.declared.cell.Kind.TheVariants.{Dead, Live, Free, Named, Negated}
+use Rattle.lls_search_file.specs.Posed.{name_of, IsPosed}
+use Rattle.lls_problem.specs.declared.demands.Edge.{Edge}
+use Rattle.lls_problem.specs.declared.demands.Edge.TheVariants.{Framed, Bare}
+use Rattle.lls_problem.specs.Problem.{PosedProblem}
+use Rattle.lls_problem.specs.Solution.{cell_number, HasItsBit, AreTied, MeetsCells, IsFramed, is_marked, Obeys, IsSolution, IsAbsent}
+use Rattle.lls_encode.specs.Place.{inputs_at}
+use Rattle.lls_encode.specs.Formula.{fixed_clauses, same, name_literal, has_name, tied_to, name_clauses, transition_clauses, first_framed, framed_count, framed, place_clauses, line_clauses, generation_clauses, fixed_part, name_part, transition_part, formula_of}
+use Rattle.lls_grid.proofs.InOrder.{length-cells_of}
+use Rattle.lls_encode.specs.Room.{with_clauses, HasRoom}
+use Rattle.lls_encode.proofs.Steps.{flat_map-map, length-flat_map_most}
+use Rattle.lls_encode.proofs.Bounds.{length-fixed_clauses}
+use Rattle.lls_encode.proofs.Firsts.{length-name_clauses}
+use Rattle.lls_encode.proofs.Satisfied.{satisfies-range, is_true-negation, is_literal, or_left, or_right}
+use Rattle.lls_encode.proofs.Forbidden.{satisfies-transition_clauses}
+
+-- the line of a framed place
+abbrev IsFramedLine : Edge → ℕ → ℤ → Type 0
+IsFramedLine Framed size y = (negsuc 0 ≤ℤ y) × (y ≤ℤ pos size)
+IsFramedLine Bare size y = (pos 0 ≤ℤ y) × (y <ℤ pos size)
+
+not_not : (b : Bool) → not (not b) ≡ b
+not_not true = refl
+not_not false = refl
+
+unless : (values : List Bool) (b : Bool) (clauses : List Clause) → satisfies values clauses ≡ true → satisfies values (cond b [] clauses) ≡ true
+unless values true clauses e = refl
+unless values false clauses e = e
+
+named : (o : Option ℕ) (n : ℕ) → option_map_or (λ m. m == n) o false ≡ true → o ≡ Some n
+named None n e = cc
+named (Some m) n e = ap Some (eqb-true m n e)
+
+-- a fixed cell's clause
+is_true-var : (values : List Bool) (k : ℕ) → is_true values (pos (k + 1)) ≡ get_or values k false
+is_true-var values k = rw add-one refl
+
+satisfies-fixed_clauses : (values : List Bool) (k : ℕ) (kind : Kind) → HasItsBit kind (get_or values k false) → satisfies values (fixed_clauses k kind) ≡ true
+satisfies-fixed_clauses values k Dead bit = and_from _ _ (or_left _ _ (ap not bit)) refl
+satisfies-fixed_clauses values k Live bit = and_from _ _ (or_left _ _ (is_true-var values k ∙ bit)) refl
+satisfies-fixed_clauses values k Free bit = refl
+satisfies-fixed_clauses values k (Named n) bit = refl
+satisfies-fixed_clauses values k (Negated n) bit = refl
+
+-- two literals that agree
+agree : (a b : Bool) → a ≡ b → ((not a || (b || false)) && ((a || (not b || false)) && true)) ≡ true
+agree true true e = refl
+agree true false e = cc
+agree false true e = cc
+agree false false e = refl
+
+satisfies-same : (values : List Bool) (a b : ℤ) → is_literal a ≡ true → is_literal b ≡ true → is_true values a ≡ is_true values b → satisfies values (same a b) ≡ true
+satisfies-same values a b a_lit b_lit e =
+    rw (is_true-negation values a a_lit, is_true-negation values b b_lit) (agree (is_true values a) (is_true values b) e)
+
+name_literal_is : (k : ℕ) (kind : Kind) → is_literal (name_literal k kind) ≡ true
+name_literal_is k Dead = rw add-one refl
+name_literal_is k Live = rw add-one refl
+name_literal_is k Free = rw add-one refl
+name_literal_is k (Named n) = rw add-one refl
+name_literal_is k (Negated n) = refl
+
+-- the literals of two cells of one name agree
+names_agree : (values : List Bool) (j k n : ℕ) (first kind : Kind) → name_of first ≡ Some n → name_of kind ≡ Some n
+    → AreTied first kind (get_or values j false) (get_or values k false) → is_true values (name_literal j first) ≡ is_true values (name_literal k kind)
+names_agree values j k n Dead kind e e' tied = cc
+names_agree values j k n Live kind e e' tied = cc
+names_agree values j k n Free kind e e' tied = cc
+names_agree values j k n (Named m) Dead e e' tied = cc
+names_agree values j k n (Named m) Live e e' tied = cc
+names_agree values j k n (Named m) Free e e' tied = cc
+names_agree values j k n (Negated m) Dead e e' tied = cc
+names_agree values j k n (Negated m) Live e e' tied = cc
+names_agree values j k n (Negated m) Free e e' tied = cc
+names_agree values j k n (Named m) (Named m') e e' tied = let one : m ≡ m' = cc in is_true-var values j ∙ tied one ∙ sym (is_true-var values k)
+names_agree values j k n (Named m) (Negated m') e e' tied = let one : m ≡ m' = cc in is_true-var values j ∙ tied one
+names_agree values j k n (Negated m) (Named m') e e' tied = let one : m ≡ m' = cc in ap not (tied one) ∙ not_not (get_or values k false) ∙ sym (is_true-var values k)
+names_agree values j k n (Negated m) (Negated m') e e' tied = let one : m ≡ m' = cc in ap not (tied one)
+
+-- what the first place of a name is
+has_name_is : (n : ℕ) (cell : Cell) → has_name n cell ≡ true → name_of cell.kind ≡ Some n
+has_name_is n cell e = named (name_of cell.kind) n e
+
+first_has : (cells : List Cell) (n a first : ℕ) → position_from (has_name n) a cells ≡ Some first
+    → (i : ℕ) × (first ≡ a + i) × (i < length cells) × (has_name n (cell_number cells i) ≡ true)
+first_has [] n a first e = cc
+first_has (cell ∷ cells) n a first e =
+    elim (has_name n cell) as (λ b. has_name n cell ≡ b → cond b (Some a) (position_from (has_name n) (a + 1) cells) ≡ Some first → (i : ℕ) × (first ≡ a + i) × (i < length (cell ∷ cells)) × (has_name n (cell_number (cell ∷ cells) i) ≡ true)) [
+      | true ↦ λ yes is. let here : a ≡ first = cc in (0, omega arith, omega arith, yes)
+      | false ↦ λ no is. let later = first_has cells n (a + 1) first is in (suc later.0, omega (arith, later.1), omega (arith, later.2), later.3)
+    ] refl e
+
+satisfies-tied_to : (values : List Bool) (cells : List Cell) → MeetsCells cells values → (k n : ℕ) → k < length cells → name_of (cell_number cells k).kind ≡ Some n
+    → (o : Option ℕ) → position_from (has_name n) 0 cells ≡ o → satisfies values (tied_to cells k o) ≡ true
+satisfies-tied_to values cells meets k n k_in named None e = refl
+satisfies-tied_to values cells meets k n k_in named (Some first) e =
+    let found = first_has cells n 0 first e in
+    let at : found.0 ≡ first = omega (arith, found.1) in
+    let first_in : first < length cells = omega (arith, found.2) in
+    let first_named : name_of (cell_number cells first).kind ≡ Some n = has_name_is n (cell_number cells first) (subst (λ i. has_name n (cell_number cells i) ≡ true) at found.3) in
+    unless values (first == k) _
+    (satisfies-same values _ _ (name_literal_is first _) (name_literal_is k _)
+    (names_agree values first k n (cell_number cells first).kind (cell_number cells k).kind first_named named (meets.tied first k first_in k_in)))
+
+satisfies-name_clauses : (values : List Bool) (cells : List Cell) → MeetsCells cells values → (k : ℕ) → k < length cells → (o : Option ℕ) → name_of (cell_number cells k).kind ≡ o
+    → satisfies values (option_map_or (λ n. tied_to cells k (position_from (has_name n) 0 cells)) o []) ≡ true
+satisfies-name_clauses values cells meets k k_in None named = refl
+satisfies-name_clauses values cells meets k k_in (Some n) named = satisfies-tied_to values cells meets k n k_in named (position_from (has_name n) 0 cells) refl
+
+-- a line of the range of framed places is framed
+framed_place : (edge : Edge) (size k : ℕ) → first_framed edge ≤ k → k < first_framed edge + framed_count edge size → IsFramedLine edge size (pos k -ℤ pos 1)
+framed_place Framed size k low high = (omega (arith, ints), omega (arith, ints))
+framed_place Bare size k low high = (omega (arith, ints), omega (arith, ints))
+
+framed_both : (edge : Edge) (height width : ℕ) (y x : ℤ) → IsFramedLine edge height y → IsFramedLine edge width x → IsFramed edge height width y x
+framed_both Framed height width y x line column = (line.0, line.1, column.0, column.1)
+framed_both Bare height width y x line column = (line.0, line.1, column.0, column.1)
+
+satisfies-place_clauses : (p : PosedProblem) (h : History) → IsSolution p h → (t : ℕ) (y x : ℤ) → t + 1 < p.posed.generations
+    → IsFramed p.demands.edge p.posed.height p.posed.width y x → (b : Bool) → is_marked p.posed (t + 1) y x ≡ b → satisfies (cells_of h) (cond b [] (transition_clauses p.rule (inputs_at p t y x))) ≡ true
+satisfies-place_clauses p h s t y x next_in in_frame true mark = refl
+satisfies-place_clauses p h s t y x next_in in_frame false mark = satisfies-transition_clauses p h s.sizes t y x next_in (s.rule t y x next_in in_frame mark)
+
+satisfies-framed : (values : List Bool) (f : ℤ → List Clause) (edge : Edge) (size : ℕ) → ((x : ℤ) → IsFramedLine edge size x → satisfies values (f x) ≡ true)
+    → satisfies values (flat_map f (framed edge size)) ≡ true
+satisfies-framed values f edge size each =
+    ap (satisfies values) (flat_map-map f (λ (k : ℕ). pos k -ℤ pos 1) _)
+    ∙ satisfies-range values (λ k. f (pos k -ℤ pos 1)) (first_framed edge) (framed_count edge size) (λ k low high. each (pos k -ℤ pos 1) (framed_place edge size k low high))
+
+satisfies-generation_clauses : (p : PosedProblem) (h : History) → IsSolution p h → (t : ℕ) → t + 1 < p.posed.generations → satisfies (cells_of h) (generation_clauses p t) ≡ true
+satisfies-generation_clauses p h s t next_in =
+    satisfies-framed (cells_of h) (line_clauses p t) p.demands.edge p.posed.height
+    (λ y line. satisfies-framed (cells_of h) (place_clauses p t y) p.demands.edge p.posed.width
+    (λ x column. satisfies-place_clauses p h s t y x next_in (framed_both p.demands.edge p.posed.height p.posed.width y x line column) (is_marked p.posed (t + 1) y x) refl))
+
+-- the theorem
+pub satisfies-formula_of : (p : PosedProblem) (h : History) → IsSolution p h → satisfies (cells_of h) (formula_of p).clauses ≡ true
+unfolding formula_of
+satisfies-formula_of p h s =
+    let values : List Bool = cells_of h in
+    let fixed : satisfies values (fixed_part p) ≡ true =
+    satisfies-range values (λ k. fixed_clauses k (cell_number p.posed.cells k).kind) 0 (length p.posed.cells) (λ k low high. satisfies-fixed_clauses values k _ (s.cells.fixed k (omega arith))) in
+    let names : satisfies values (name_part p) ≡ true =
+    satisfies-range values (λ k. name_clauses p.posed.cells k) 0 (length p.posed.cells) (λ k low high. satisfies-name_clauses values p.posed.cells s.cells k (omega arith) _ refl) in
+    let transitions : satisfies values (transition_part p) ≡ true =
+    satisfies-range values (generation_clauses p) 0 (p.posed.generations - 1) (λ t low high. satisfies-generation_clauses p h s t (omega arith)) in
+    list_all-append (satisfies_clause values) (fixed_part p ++ name_part p) (transition_part p)
+    ∙ and_from _ _ (list_all-append (satisfies_clause values) (fixed_part p) (name_part p) ∙ and_from _ _ fixed names) transitions
+
+-- the formula from its parts
+pub with_parts : (p : PosedProblem) → with_clauses (with_clauses (with_clauses (record { vars = length p.posed.cells; clauses = [] }) (fixed_part p)) (name_part p)) (transition_part p) ≡ formula_of p
+unfolding formula_of
+with_parts p = refl
+
+pub vars-formula_of : (p : PosedProblem) → (formula_of p).vars ≡ length p.posed.cells
+unfolding formula_of
+vars-formula_of p = refl
+
+-- a formula that nothing satisfies has no solution
+pub absent_from : (p : PosedProblem) → IsPosed p.posed → IsUnsatisfiable (formula_of p) → IsAbsent p
+absent_from p kept unsatisfiable history solution =
+    let count : length (cells_of history) ≡ (formula_of p).vars =
+    length-cells_of p.posed.generations p.posed.height p.posed.width history solution.sizes ∙ sym kept.count ∙ sym (vars-formula_of p) in
+    let none = unsatisfiable (cells_of history) count in
+    let all = satisfies-formula_of p history solution in
+    cc
+
+-- what the three pushes make of a new formula
+pub made : (p : PosedProblem) (empty fixed names all : Cnf) → empty ≡ record { vars = length p.posed.cells; clauses = [] }
+    → fixed ≡ with_clauses empty (fixed_part p) → names ≡ with_clauses fixed (name_part p) → all ≡ with_clauses names (transition_part p) → all ≡ formula_of p
+made p empty fixed names all is is' is'' is''' =
+    is''' ∙ ap (λ f. with_clauses f (transition_part p)) (is'' ∙ ap (λ f. with_clauses f (name_part p)) (is' ∙ ap (λ f. with_clauses f (fixed_part p)) is)) ∙ with_parts p
+
+-- the room that is left for the transitions
+pub room_left : (p : PosedProblem) (empty fixed names : Cnf) → length p.posed.cells ≤ 8192 → empty ≡ record { vars = length p.posed.cells; clauses = [] }
+    → fixed ≡ with_clauses empty (fixed_part p) → names ≡ with_clauses fixed (name_part p) → HasRoom names 281014272
+room_left p empty fixed names few is is' is'' =
+    let none : length empty.clauses ≡ 0 = ap (λ f. length f.clauses) is in
+    let first : length fixed.clauses ≡ length empty.clauses + length (fixed_part p) = ap (λ f. length f.clauses) is' ∙ length-append empty.clauses (fixed_part p) in
+    let second : length names.clauses ≡ length fixed.clauses + length (name_part p) = ap (λ f. length f.clauses) is'' ∙ length-append fixed.clauses (name_part p) in
+    omega (
+      arith,
+      length-flat_map_most (λ k. fixed_clauses k (cell_number p.posed.cells k).kind) 1 (λ k. length-fixed_clauses k _) 0 (length p.posed.cells),
+      length-flat_map_most (name_clauses p.posed.cells) 2 (length-name_clauses p.posed.cells) 0 (length p.posed.cells),
+    )
+
+-- the room that is left for the names
+pub room_for_names : (p : PosedProblem) (empty fixed : Cnf) → length p.posed.cells ≤ 8192 → empty ≡ record { vars = length p.posed.cells; clauses = [] }
+    → fixed ≡ with_clauses empty (fixed_part p) → HasRoom fixed (2 * length p.posed.cells)
+room_for_names p empty fixed few is is' =
+    let none : length empty.clauses ≡ 0 = ap (λ f. length f.clauses) is in
+    let first : length fixed.clauses ≡ length empty.clauses + length (fixed_part p) = ap (λ f. length f.clauses) is' ∙ length-append empty.clauses (fixed_part p) in
+    omega (arith, length-flat_map_most (λ k. fixed_clauses k (cell_number p.posed.cells k).kind) 1 (λ k. length-fixed_clauses k _) 0 (length p.posed.cells))

@@ -1,0 +1,66 @@
+-- A loop over numbers that appends the clauses of each: one more step, and how many clauses there are at most.
+use Rattle.std.proofs.Common.{◌≡◌, ◌<◌, ◌≤◌, ℕ, zero, suc, ◌+◌, ◌*◌, List, [], ◌∷◌, ◌++◌, map, length, refl, sym, ap, ◌∙◌, arith, append_assoc, length-append, add-one, add-zero, Result, Ok, Err, OnOk}
+use Rattle.std.specs.List.{flat_map, range_with_len}
+use Rattle.std.proofs.lemmas.List.{append-nil}
+use Rattle.lls_lit.specs.Formula.{Clause, Cnf}
+use Rattle.lls_encode.specs.Room.{with_clauses, HasRoom}
+
+flat_map-range_suc : {A : Type 0} (f : ℕ → List A) (a n : ℕ) → flat_map f (range_with_len a (suc n)) ≡ flat_map f (range_with_len a n) ++ f (a + n)
+flat_map-range_suc f a zero = rw (append-nil, add-zero) refl
+flat_map-range_suc f a (suc n) =
+    let at : a + 1 + n ≡ a + suc n = omega arith in
+    ap (λ rest. f a ++ rest) (flat_map-range_suc f (a + 1) n ∙ ap (λ k. flat_map f (range_with_len (a + 1) n) ++ f k) at)
+    ∙ sym (append_assoc (f a) (flat_map f (range_with_len (a + 1) n)) (f (a + suc n)))
+
+pub flat_map-range_more : {A : Type 0} (f : ℕ → List A) (a n : ℕ) → flat_map f (range_with_len a (n + 1)) ≡ flat_map f (range_with_len a n) ++ f (a + n)
+flat_map-range_more f a n = rw add-one (flat_map-range_suc f a n)
+
+pub flat_map-map : {A X Y : Type 0} (f : Y → List A) (g : X → Y) (xs : List X) → flat_map f (map g xs) ≡ flat_map (λ x. f (g x)) xs
+flat_map-map f g [] = refl
+flat_map-map f g (x ∷ xs) = ap (λ rest. f (g x) ++ rest) (flat_map-map f g xs)
+
+-- one step more of a loop
+pub with_clauses-more : (formula : Cnf) (f : ℕ → List Clause) (a n : ℕ) (clauses : List Clause) → clauses ≡ f (a + n)
+    → with_clauses (with_clauses formula (flat_map f (range_with_len a n))) clauses ≡ with_clauses formula (flat_map f (range_with_len a (n + 1)))
+with_clauses-more formula f a n clauses same =
+    ap (λ all. record formula { clauses = all })
+    (append_assoc formula.clauses (flat_map f (range_with_len a n)) clauses
+    ∙ ap (λ rest. formula.clauses ++ rest) (ap (λ last. flat_map f (range_with_len a n) ++ last) same ∙ sym (flat_map-range_more f a n)))
+
+-- no step yet
+pub with_clauses-none : (formula : Cnf) → formula ≡ with_clauses formula []
+with_clauses-none formula = ap (λ all. record formula { clauses = all }) (sym (append-nil formula.clauses))
+
+-- steps of at most m clauses each
+pub length-flat_map_most : {A : Type 0} (f : ℕ → List A) (m : ℕ) → ((k : ℕ) → length (f k) ≤ m) → (a n : ℕ) → length (flat_map f (range_with_len a n)) ≤ m * n
+length-flat_map_most f m each a zero = omega arith
+length-flat_map_most f m each a (suc n) = omega (arith, each a, length-append (f a) (flat_map f (range_with_len (a + 1) n)), length-flat_map_most f m each (a + 1) n)
+
+-- so there is room for `step` more after n of fewer than `all` steps
+pub HasRoom-after : (formula now : Cnf) (f : ℕ → List Clause) (m a n all room : ℕ) → ((k : ℕ) → length (f k) ≤ m)
+    → now ≡ with_clauses formula (flat_map f (range_with_len a n)) → n < all → m * all ≤ room → HasRoom formula room → HasRoom now m
+HasRoom-after formula now f m a n all room each is more enough has =
+    let few : length (flat_map f (range_with_len a n)) ≤ m * n = length-flat_map_most f m each a n in
+    let count : length now.clauses ≡ length formula.clauses + length (flat_map f (range_with_len a n)) = ap (λ g. length g.clauses) is ∙ length-append formula.clauses (flat_map f (range_with_len a n)) in
+    let last : m * n + m ≤ m * all = grind arith in
+    omega arith
+
+-- the invariant of such a loop, one step later
+pub pushed_more : (formula now next : Cnf) (f : ℕ → List Clause) (a n k : ℕ) → now ≡ with_clauses formula (flat_map f (range_with_len a n))
+    → next ≡ with_clauses now (f k) → k ≡ a + n → next ≡ with_clauses formula (flat_map f (range_with_len a (n + 1)))
+pushed_more formula now next f a n k before step at =
+    step ∙ ap (λ g. with_clauses g (f k)) before ∙ with_clauses-more formula f a n (f k) (ap f at)
+
+-- the end of such a loop
+pub pushed_all : (formula now : Cnf) (f : ℕ → List Clause) (a n m : ℕ) → now ≡ with_clauses formula (flat_map f (range_with_len a n)) → n ≡ m
+    → now ≡ with_clauses formula (flat_map f (range_with_len a m))
+pushed_all formula now f a n m before all = before ∙ ap (λ k. with_clauses formula (flat_map f (range_with_len a k))) all
+
+-- a clause on Ok follows from another, or always holds
+pub on_ok : {T E : Type 0} (r : Result T E) (P Q : Type 0) → (P → Q) → OnOk r P → OnOk r Q
+on_ok (Ok x) P Q f h = f h
+on_ok (Err e) P Q f h = h
+
+pub on_ok_always : {T E : Type 0} (r : Result T E) (Q : Type 0) → Q → OnOk r Q
+on_ok_always (Ok x) Q q = q
+on_ok_always (Err e) Q q = tt

@@ -1,0 +1,106 @@
+-- The formula of a problem, by its parts: fixed cells, names, transitions.
+use Rattle.std.specs.Prelude.{◌≡◌, ℕ, zero, suc, ◌+◌, ◌*◌, ◌-◌, ◌/◌, ℤ, pos, negsuc, ◌-ℤ◌, Bool, true, false, not, nat_eq, ◌==◌, List, [], ◌∷◌, ◌++◌, map, length, Option, None, Some, if◌then◌else◌, slice_index_or}
+use Rattle.std.specs.Option.{option_map_or, option_to_list}
+use Rattle.std.specs.List.{flat_map, range_with_len, position_from}
+use Rattle.std.specs.Int.{bit_at}
+use Rattle.lls_lit.specs.Literal.{negation}
+use Rattle.lls_lit.specs.Formula.{Clause, Cnf}
+use Rattle.lls_rule.specs.Rule.{answer}
+use Rattle.lls_search_file.specs.declared.cell.Cell.{Cell}
+use Rattle.lls_search_file.specs.declared.cell.Kind.{Kind}
+use Rattle.lls_search_file.specs.declared.cell.Kind.TheVariants.{Dead, Live, Free, Named, Negated}
+use Rattle.lls_search_file.specs.Posed.{name_of}
+use Rattle.lls_problem.specs.declared.demands.Edge.{Edge}
+use Rattle.lls_problem.specs.declared.demands.Edge.TheVariants.{Framed, Bare}
+use Rattle.lls_problem.specs.Problem.{PosedProblem}
+use Rattle.lls_problem.specs.Solution.{cell_number, is_marked}
+use Rattle.lls_encode.specs.declared.place.Place.{Place}
+use Rattle.lls_encode.specs.Place.{inputs_at, differs}
+
+-- The kth cell has the variable k + 1. A fixed cell gives it, or its negation.
+abbrev pub fixed_clauses : ℕ → Kind → List Clause
+fixed_clauses k Dead = (negsuc k ∷ []) ∷ []
+fixed_clauses k Live = (pos (k + 1) ∷ []) ∷ []
+fixed_clauses k Free = []
+fixed_clauses k (Named n) = []
+fixed_clauses k (Negated n) = []
+
+-- two literals are equal
+abbrev pub same : ℤ → ℤ → List Clause
+same a b = (negation a ∷ b ∷ []) ∷ (a ∷ negation b ∷ []) ∷ []
+
+-- the literal of a name at the kth cell: its variable where it stands plain, the negation where it stands with `-`
+abbrev pub name_literal : ℕ → Kind → ℤ
+name_literal k Dead = pos (k + 1)
+name_literal k Live = pos (k + 1)
+name_literal k Free = pos (k + 1)
+name_literal k (Named n) = pos (k + 1)
+name_literal k (Negated n) = negsuc k
+
+-- whether a cell has that name
+abbrev pub has_name : ℕ → Cell → Bool
+has_name n cell = option_map_or (λ m. m == n) (name_of cell.kind) false
+
+-- the kth cell and the first cell of its name, where that is another, say the same
+abbrev pub tied_to : List Cell → ℕ → Option ℕ → List Clause
+tied_to cells k None = []
+tied_to cells k (Some first) =
+    if first == k then [] else same (name_literal first (cell_number cells first).kind) (name_literal k (cell_number cells k).kind)
+
+abbrev pub name_clauses : List Cell → ℕ → List Clause
+name_clauses cells k = option_map_or (λ n. tied_to cells k (position_from (has_name n) 0 cells)) (name_of (cell_number cells k).kind) []
+
+-- the ten bits of a row of a transition's table, from weight 512 down to 1
+abbrev pub row_bits : ℕ → List Bool
+row_bits row = map (λ i. bit_at row (9 - i) == 1) (range_with_len 0 10)
+
+-- the row's last bit isn't the rule's successor of the nine before it
+abbrev pub is_forbidden : List Bool → ℕ → Bool
+is_forbidden rule row = if answer rule (row / 2) then bit_at row 0 == 0 else bit_at row 0 == 1
+
+-- each forbidden row is ruled out
+abbrev pub row_clauses : List Bool → List Place → ℕ → List Clause
+row_clauses rule inputs row = if is_forbidden rule row then option_to_list (differs inputs (row_bits row)) else []
+
+-- how many rows a table of ten inputs has
+unfoldable pub row_count : ℕ
+row_count = 1024
+
+abbrev pub transition_clauses : List Bool → List Place → List Clause
+transition_clauses rule inputs = flat_map (row_clauses rule inputs) (range_with_len 0 row_count)
+
+-- The framed rows or columns, where the grid has `size` of them: one before and one behind the grid under a closed edge.
+abbrev pub first_framed : Edge → ℕ
+first_framed Framed = 0
+first_framed Bare = 1
+
+abbrev pub framed_count : Edge → ℕ → ℕ
+framed_count Framed size = size + 2
+framed_count Bare size = size
+
+abbrev pub framed : Edge → ℕ → List ℤ
+framed edge size = map (λ i. pos i -ℤ pos 1) (range_with_len (first_framed edge) (framed_count edge size))
+
+-- the transition into a place of generation t + 1, unless a mark frees it
+abbrev pub place_clauses : PosedProblem → ℕ → ℤ → ℤ → List Clause
+place_clauses p t y x = if is_marked p.posed (t + 1) y x then [] else transition_clauses p.rule (inputs_at p t y x)
+
+abbrev pub line_clauses : PosedProblem → ℕ → ℤ → List Clause
+line_clauses p t y = flat_map (place_clauses p t y) (framed p.demands.edge p.posed.width)
+
+abbrev pub generation_clauses : PosedProblem → ℕ → List Clause
+generation_clauses p t = flat_map (line_clauses p t) (framed p.demands.edge p.posed.height)
+
+-- the parts in their order
+abbrev pub fixed_part : PosedProblem → List Clause
+fixed_part p = flat_map (λ k. fixed_clauses k (cell_number p.posed.cells k).kind) (range_with_len 0 (length p.posed.cells))
+
+abbrev pub name_part : PosedProblem → List Clause
+name_part p = flat_map (name_clauses p.posed.cells) (range_with_len 0 (length p.posed.cells))
+
+abbrev pub transition_part : PosedProblem → List Clause
+transition_part p = flat_map (generation_clauses p) (range_with_len 0 (p.posed.generations - 1))
+
+-- one variable a cell
+unfoldable pub formula_of : PosedProblem → Cnf
+formula_of p = record { vars = length p.posed.cells; clauses = fixed_part p ++ name_part p ++ transition_part p }

@@ -1,0 +1,4 @@
+pub mod Place
+pub mod Formula
+pub mod Names
+pub mod Room

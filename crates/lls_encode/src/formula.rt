@@ -1,0 +1,34 @@
+// The formula of a problem.
+ghost use Rattle.std.specs.Prelude.{◌≡◌, true, IfOk};
+ghost use Rattle.lls_grid.specs.History.{History, cells_of};
+ghost use Rattle.lls_lit.specs.Formula.{satisfies, IsUnsatisfiable};
+ghost use Rattle.lls_problem.specs.Solution.{IsSolution, IsAbsent};
+ghost use Rattle.lls_encode.specs.Formula.{formula_of};
+
+use crate::cells::{push_fixed, push_names};
+use crate::transition::push_transitions;
+use lls_base::Memory;
+use lls_cnf::Formula;
+use lls_problem::Problem;
+use std::alloc::Global;
+
+/// The formula of a problem, with one variable a cell in the order generation, row, column.
+/// The clauses come in this order: fixed cells, names, transitions.
+pub fn encode(alloc: Global, problem: &Problem) -> Result<Formula, Memory>
+    ensures formula { IfOk result (λ formula. formula ≡ formula_of problem.now) }
+
+    // The cells of every solution satisfy it.
+    ensures complete { IfOk result (λ formula. (history : History) → IsSolution problem.now history
+        → satisfies (cells_of history) formula.clauses ≡ true) }
+
+    // So a formula that no assignment satisfies says that there is no solution.
+    ensures absent { IfOk result (λ formula. IsUnsatisfiable formula → IsAbsent problem.now) }
+{
+    let posed = problem.posed();
+    let cells = posed.cells.items();
+    let mut formula = Formula::new(alloc, cells.len() as u32);
+    push_fixed(&mut formula, cells)?;
+    push_names(alloc, &mut formula, cells, posed.names.items().len())?;
+    push_transitions(alloc, &mut formula, problem)?;
+    Ok(formula)
+}

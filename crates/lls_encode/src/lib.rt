@@ -1,0 +1,9 @@
+//! The formula of a problem: an assignment that satisfies it is a solution's cells in their order.
+#![tactic(auto)]
+
+mod cells;
+mod formula;
+mod place;
+mod transition;
+
+pub use formula::encode;
