@@ -13,3 +13,6 @@ mod walk;
 pub use bytes::check_bytes;
 pub use checker::{Checker, Progress, StepError};
 pub use error::CheckError;
+
+#[cfg(test)]
+mod tests;
