@@ -9,3 +9,4 @@ pub mod Both
 pub mod Uneven
 pub mod Representatives
 pub mod Texts
+pub mod Parts
