@@ -10,3 +10,4 @@ pub mod Uneven
 pub mod Representatives
 pub mod Texts
 pub mod Parts
+pub mod Back
