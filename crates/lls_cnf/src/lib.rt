@@ -6,3 +6,6 @@ mod formula;
 
 pub use clauses::Clauses;
 pub use formula::Formula;
+
+#[cfg(test)]
+mod tests;

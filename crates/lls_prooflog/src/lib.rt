@@ -3,10 +3,14 @@
 //! What a good step is, and which clauses are live after it, stands in specs/.
 #![tactic(auto)]
 
-mod lists;
+mod hints;
+mod ids;
+mod lits;
 mod step;
 
-pub use lists::{Hints, Ids, Lits};
+pub use hints::Hints;
+pub use ids::Ids;
+pub use lits::Lits;
 pub use step::Step;
 
 #[cfg(test)]

@@ -1,5 +1,5 @@
 // A step of a proof.
-use crate::lists::{Hints, Ids, Lits};
+use crate::{Hints, Ids, Lits};
 
 /// A step of an LRAT proof.
 #[derive(Debug, Drop)]
