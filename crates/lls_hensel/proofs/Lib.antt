@@ -11,3 +11,4 @@ pub mod Representatives
 pub mod Texts
 pub mod Parts
 pub mod Back
+pub mod SidesBack

@@ -62,7 +62,7 @@ letters_found-eight_of n count h g =
         (agree_below_at (λ count. pointwise same_letter (letters_found count (eight_of n)) (letter_at_count (class_by_number n) count)) (λ _. true) 9 count
             (agree_below_at (λ n. agree_below (λ count. pointwise same_letter (letters_found count (eight_of n)) (letter_at_count (class_by_number n) count)) (λ _. true) 9) (λ _. true) 256 n found_at_each h) g)
 
-counts-le : (n : ℕ) → n < 256 → (class_by_number n).count ≤ 8
+pub counts-le : (n : ℕ) → n < 256 → (class_by_number n).count ≤ 8
 counts-le n h = leb-true (class_by_number n).count 8 (and_parts _ _ (agree_below_at (λ n. nat_le (class_by_number n).count 8 && list_any (same_letter (class_by_number n).letter) (letters_of (class_by_number n).count)) (λ _. true) 256 n letters_are_counts h)).0
 
 own_letter : (n : ℕ) → n < 256 → list_any (same_letter (class_by_number n).letter) (letters_of (class_by_number n).count) ≡ true
