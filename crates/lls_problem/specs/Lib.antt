@@ -1,2 +1,6 @@
 pub mod Problem
 pub mod Solution
+pub mod Firsts
+pub mod Named
+pub mod Judgement
+pub mod Transitions

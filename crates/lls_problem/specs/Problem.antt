@@ -1,5 +1,5 @@
 -- A problem: a posed file, a rule and demands.
-use Rattle.std.specs.Prelude.{ℕ, Bool, List}
+use Rattle.std.specs.Prelude.{Bool, List}
 use Rattle.lls_search_file.specs.Posed.{PosedFile}
 use Rattle.lls_problem.specs.declared.demands.Demands.{Demands}
 

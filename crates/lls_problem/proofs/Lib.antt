@@ -1,0 +1,4 @@
+pub mod Places
+pub mod NameValues
+pub mod Sides
+pub mod Faults

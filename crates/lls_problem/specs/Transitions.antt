@@ -1,0 +1,36 @@
+-- Lines and columns of the grid and of the ring round it, counted from those before the grid, and whether the
+-- transitions into them obey the rule.
+use Rattle.std.specs.Prelude.{◌<◌, ℕ, ◌+◌, ℤ, pos, ◌-ℤ◌}
+use Rattle.lls_grid.specs.History.{History}
+use Rattle.lls_problem.specs.Problem.{PosedProblem}
+use Rattle.lls_problem.specs.Firsts.{IsFirst}
+use Rattle.lls_problem.specs.Judgement.{IsBound, Succeeds}
+
+-- the row or the column of a line that counts from the one before the grid
+abbrev pub side : ℕ → ℤ
+side line = pos line -ℤ pos 1
+
+-- the transition into a place of generation t obeys the rule, where it has to
+abbrev pub KeepsRule : PosedProblem → History → ℕ → ℕ → ℕ → Type 0
+KeepsRule problem history t line column = IsBound problem t (side line) (side column) → Succeeds problem history t (side line) (side column)
+
+-- it has to, and doesn't
+pub record BreaksRule (problem : PosedProblem) (history : History) (t line column : ℕ) : Type 0 where
+  pub bound : IsBound problem t (side line) (side column)
+  pub broken : Succeeds problem history t (side line) (side column) → ⊥
+
+-- all transitions into a line
+abbrev pub KeepsLine : PosedProblem → History → ℕ → ℕ → Type 0
+KeepsLine problem history t line = (column : ℕ) → column < problem.posed.width + 2 → KeepsRule problem history t line column
+
+-- the first column of a line that breaks the rule
+abbrev pub BreaksLine : PosedProblem → History → ℕ → ℕ → ℕ → Type 0
+BreaksLine problem history t column line = IsFirst (KeepsRule problem history t line) (BreaksRule problem history t line) (problem.posed.width + 2) column
+
+-- all transitions into a generation
+abbrev pub KeepsGeneration : PosedProblem → History → ℕ → Type 0
+KeepsGeneration problem history t = (line : ℕ) → line < problem.posed.height + 2 → KeepsLine problem history t line
+
+-- the first line of a generation that breaks the rule, and the first column in it
+abbrev pub BreaksGeneration : PosedProblem → History → ℕ → ℕ → ℕ → Type 0
+BreaksGeneration problem history t line column = IsFirst (KeepsLine problem history t) (BreaksLine problem history t column) (problem.posed.height + 2) line

@@ -1,0 +1,30 @@
+// What judging answers.
+
+/// Whether a history is a solution of a problem, or the first demand that it breaks and the first place where it does.
+/// Demands are in the order of the variants. Generations, rows and columns count from 0, rows downwards and columns to
+/// the right.
+#[derive(Clone, Copy, Debug, PartialEq, Eq)]
+pub enum Judgement {
+    /// The history is a solution.
+    Meets,
+    /// The number of generations, rows or columns isn't the file's.
+    Size,
+    /// A fixed cell has the other bit: its generation, row and column.
+    Cell(u32, u32, u32),
+    /// A cell disagrees with the first cell of its name: its generation, row and column.
+    Name(u32, u32, u32),
+    /// A cell differs from its image under the symmetry: its generation, row and column.
+    Symmetry(u32, u32, u32),
+    /// The background of a generation isn't that of the generation a period later.
+    Background(u32),
+    /// A place differs from the place to which the period moves it: its generation, row and column. A place of the
+    /// grid may come from outside it.
+    Moved(u32, i32, i32),
+    /// A place isn't the rule's successor, and no mark frees it: its generation, row and column. In the ring round the
+    /// grid the row or the column is -1 or the height or width.
+    Rule(u32, i32, i32),
+    /// The number of live cells of a generation is outside a bound: the generation and the number of live cells.
+    Population(u32, u32),
+    /// The two generations that have to differ are equal.
+    Same,
+}

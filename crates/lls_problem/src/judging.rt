@@ -1,0 +1,42 @@
+// Judging a history by a problem.
+ghost use Rattle.std.specs.Prelude.{◌≡◌, ◌≢◌, IsTrue, ◌↔◌};
+ghost use Rattle.lls_grid.specs.History.{HasSizes};
+ghost use Rattle.lls_problem.specs.Solution.{IsSolution};
+ghost use Rattle.lls_problem.specs.Judgement.{IsJudgement};
+
+use crate::cells::{first_disagreement, first_misfit};
+use crate::transitions::first_transition;
+use crate::{Judgement, Problem};
+use lls_grid::History;
+use lls_search_file::Posed;
+
+/// Whether the history has the sizes of the file.
+fn has_its_sizes(posed: &Posed, history: &History) -> bool
+    ensures { IsTrue result ↔ HasSizes posed.now.generations posed.now.height posed.now.width history.now }
+{
+    history.generations() == posed.generations
+        && history.height() == posed.height
+        && history.width() == posed.width
+}
+
+/// Whether the history is a solution of the problem, or else the first demand that it breaks and the first place, by
+/// generation, row and column, where it does. It takes no memory.
+pub fn judge(problem: &Problem, history: &History) -> Judgement
+    ensures judgement { IsJudgement problem.now history.now result }
+    ensures meets { result ≡ Judgement.Meets → IsSolution problem.now history.now }
+    ensures broken { result ≢ Judgement.Meets → IsSolution problem.now history.now → ⊥ }
+{
+    if !has_its_sizes(problem.posed(), history) {
+        return Judgement::Size;
+    }
+    if let Some(place) = first_misfit(problem, history) {
+        return Judgement::Cell(place.t, place.y, place.x);
+    }
+    if let Some(place) = first_disagreement(problem, history) {
+        return Judgement::Name(place.t, place.y, place.x);
+    }
+    if let Some(place) = first_transition(problem, history) {
+        return Judgement::Rule(place.t, place.y, place.x);
+    }
+    Judgement::Meets
+}
