@@ -12,3 +12,4 @@ pub mod Texts
 pub mod Parts
 pub mod Back
 pub mod SidesBack
+pub mod RoundTrip

@@ -1,7 +1,10 @@
 // The canonical text of a rule.
-ghost use Rattle.std.specs.Prelude.{◌≡◌, ◌<◌, ◌≤◌, ◌++◌, ℕ, IsErrOf, Some, None, IfOk, OnOk, length, flat_map, ◌↔◌};
+ghost use Rattle.std.specs.Prelude.{◌≡◌, ◌<◌, ◌≤◌, ◌++◌, ℕ, Ok, IsErrOf, Some, None, IfOk, OnOk, length, flat_map, ◌↔◌};
+ghost use Rattle.lls_rule.specs.Rule.{table_of};
+ghost use Rattle.lls_hensel.specs.Entries.{next_of};
 ghost use Rattle.lls_hensel.specs.Numbers.{live_number, classes_by_number, representatives_of, letter_text, holds_by_number};
 ghost use Rattle.lls_hensel.specs.Printing.{representative_nine, uneven, group_text, side_text, rule_text};
+ghost use Rattle.lls_hensel.specs.Reading.{entries_of, and_then};
 
 use std::alloc::{AllocError, AllocFailed, Global};
 
@@ -30,9 +33,10 @@ impl From<Memory> for PrintRuleError {
     }
 }
 
-/// The canonical text of an isotropic rule in Hensel notation, as `B3/S23`.
+/// The canonical text of an isotropic rule in Hensel notation, as `B3/S23`. [`read_rule`](crate::read_rule) of it is the rule.
 pub fn print_rule(alloc: Global, rule: &Rule) -> Result<Vec<u8>, PrintRuleError>
     ensures text { IfOk result (λ text. text.items ≡ rule_text rule.now) }
+    ensures reads_back { IfOk result (λ text. and_then (entries_of text.items) (λ entries. Ok (table_of (next_of entries))) ≡ Ok rule.now) }
     ensures not_isotropic { (nine : ℕ) → IsErrOf result (PrintRuleError.NotIsotropic nine) ↔ (uneven rule.now ≡ Some nine) }
 {
     if let Some(nine) = first_uneven(rule) {
@@ -139,7 +143,8 @@ fn live_of(count: u8, eight: u8) -> u8
 
 /// The least neighbourhood whose answer differs from that of its class's representative.
 fn first_uneven(rule: &Rule) -> Option<u16>
-    ensures { result ≡ uneven rule.now }
+    ensures least { result ≡ uneven rule.now }
+    ensures whole { length rule.now ≡ 512 }
 {
     for nine in 0..512 {
         if rule.next(nine) != rule.next(representative_nine(nine)) {
