@@ -1,1 +1,7 @@
+pub mod Kept
+pub mod Lines
 pub mod Posed
+pub mod Reader
+pub mod Reading
+pub mod Seen
+pub mod Words

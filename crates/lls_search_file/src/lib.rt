@@ -2,7 +2,19 @@
 #![tactic(auto)]
 
 mod cell;
+mod error;
+mod lines;
+mod names;
 mod posed;
+mod read;
+mod row;
+mod shape;
+mod word;
 
 pub use cell::{Cell, Cells, Kind};
+pub use error::PosedError;
 pub use posed::{Names, Posed};
+pub use read::read_posed;
+
+#[cfg(test)]
+mod tests;

@@ -1,0 +1,9 @@
+pub mod Counts
+pub mod Numbering
+pub mod Endings
+pub mod NameBytes
+pub mod Renumbering
+pub mod Rows
+pub mod Texts
+pub mod Cuts
+pub mod Pieces

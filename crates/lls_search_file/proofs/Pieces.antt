@@ -1,0 +1,100 @@
+-- Reading a row from a place on.
+use Rattle.std.proofs.Common.{◌≡◌, ◌<◌, ◌≤◌, ℕ, zero, suc, ◌+◌, ◌-◌, Bool, true, false, cond, not, ◌||◌, List, [], ◌∷◌, ◌++◌, length, take, drop, get_or, Option, Some, None, Result, Ok, Err, refl, sym, ap, ◌∙◌, arith, drop-cons, add-one, append_assoc}
+use Rattle.std.specs.List.{prefix_len, take_while}
+use Rattle.std.proofs.lemmas.List.{drop-drop}
+use Rattle.lls_search_file.specs.declared.error.PosedError.{PosedError}
+use Rattle.lls_search_file.specs.declared.error.PosedError.TheVariants.{BadCell}
+use Rattle.lls_search_file.specs.Lines.{is_blank}
+use Rattle.lls_search_file.specs.Words.{Word, Piece, word, comma, pieces_of, before_pieces, before_word, begins_solid, is_solid, is_comma, cells_read, cell_before, word_of, and_then}
+
+none_solid : (bytes : List ℕ) → begins_solid bytes ≡ false → prefix_len is_solid bytes ≡ 0
+none_solid [] e = refl
+none_solid (b ∷ bytes) e = rw e refl
+
+IsWordFirst : ℕ → List ℕ → Type 0
+IsWordFirst column bytes = pieces_of column bytes ≡ word column (take (prefix_len is_solid bytes) bytes) ∷ pieces_of (column + prefix_len is_solid bytes) (drop (prefix_len is_solid bytes) bytes)
+
+neither : (x y : Bool) → not (x || y) ≡ true → (x ≡ false) × (y ≡ false)
+neither true y e = cc
+neither false true e = cc
+neither false false e = (refl, refl)
+
+grown : (column b : ℕ) (rest : List ℕ) → ((c : ℕ) → begins_solid rest ≡ true → IsWordFirst c rest) → (joined : Bool) → begins_solid rest ≡ joined
+    → cond joined (before_word column b (pieces_of (column + 1) rest)) (word column (b ∷ []) ∷ pieces_of (column + 1) rest)
+    ≡ word column (take (1 + prefix_len is_solid rest) (b ∷ rest)) ∷ pieces_of (column + (1 + prefix_len is_solid rest)) (drop (1 + prefix_len is_solid rest) (b ∷ rest))
+unfolding IsWordFirst
+grown column b rest more true e =
+    let m = prefix_len is_solid rest in
+    let one : 1 + m ≡ suc m = omega arith in
+    let at : column + (1 + m) ≡ (column + 1) + m = omega arith in
+    let front : take (1 + m) (b ∷ rest) ≡ b ∷ take m rest = ap (λ k. take k (b ∷ rest)) one in
+    let back : drop (1 + m) (b ∷ rest) ≡ drop m rest = ap (λ k. drop k (b ∷ rest)) one in
+    ap (before_word column b) (more (column + 1) e) ∙ rw (front, back, at) refl
+grown column b rest more false e = rw (none_solid rest e) refl
+
+first_word : (column : ℕ) (bytes : List ℕ) → begins_solid bytes ≡ true → IsWordFirst column bytes
+unfolding IsWordFirst
+first_word column [] e = cc
+first_word column (b ∷ rest) e =
+    let parts = neither (is_blank b) (is_comma b) e in
+    let step = grown column b rest (λ c. first_word c rest) (begins_solid rest) refl in
+    rw (parts.0, parts.1) step
+
+-- what is read from a place on
+abbrev pub read_from : ℕ → Bool → ℕ → List ℕ → Result (List Word) PosedError
+read_from line after_comma at bytes = cells_read line after_comma (pieces_of (at + 1) (drop at bytes))
+
+at_place : (at : ℕ) (bytes : List ℕ) → at < length bytes → drop at bytes ≡ get_or bytes at 0 ∷ drop (at + 1) bytes
+at_place at bytes within = rw (add-one, drop-cons bytes at 0) refl
+
+pub read_blank : (line at : ℕ) (after_comma : Bool) (bytes : List ℕ) → at < length bytes → is_blank (get_or bytes at 0) ≡ true
+    → read_from line after_comma at bytes ≡ read_from line after_comma (at + 1) bytes
+read_blank line at after_comma bytes within blank =
+    rw (at_place at bytes within, blank) refl
+
+pub read_comma : (line at : ℕ) (after_comma : Bool) (bytes : List ℕ) → at < length bytes → is_blank (get_or bytes at 0) ≡ false → is_comma (get_or bytes at 0) ≡ true
+    → read_from line after_comma at bytes ≡ cond after_comma (Err (BadCell line (at + 1))) (read_from line true (at + 1) bytes)
+read_comma line at after_comma bytes within blank is_one =
+    rw (at_place at bytes within, blank, is_one) refl
+
+pub solid_at : (at : ℕ) (bytes : List ℕ) → at < length bytes → is_blank (get_or bytes at 0) ≡ false → is_comma (get_or bytes at 0) ≡ false
+    → begins_solid (drop at bytes) ≡ true
+solid_at at bytes within blank is_one = rw (at_place at bytes within, blank, is_one) refl
+
+pub read_solid : (line at : ℕ) (after_comma : Bool) (bytes : List ℕ) → begins_solid (drop at bytes) ≡ true
+    → let n = prefix_len is_solid (drop at bytes) in
+    read_from line after_comma at bytes ≡ cell_before line (at + 1) (word_of (take n (drop at bytes))) (read_from line false (at + n) bytes)
+unfolding IsWordFirst
+read_solid line at after_comma bytes solid =
+    let n = prefix_len is_solid (drop at bytes) in
+    let place : (at + 1) + n ≡ (at + n) + 1 = omega arith in
+    ap (cells_read line after_comma) (first_word (at + 1) (drop at bytes) solid) ∙ rw (drop-drop n at bytes, place) refl
+
+-- what was read, put before what is left
+abbrev pub after_front : List Word → Result (List Word) PosedError → Result (List Word) PosedError
+after_front front read = and_then read (λ rest. Ok (front ++ rest))
+
+pub after_front-cell_before : (front : List Word) (line column : ℕ) (cell : Word) (read : Result (List Word) PosedError)
+    → after_front front (cell_before line column (Some cell) read) ≡ after_front (front ++ cell ∷ []) read
+after_front-cell_before front line column cell (Ok rest) = ap Ok (sym (append_assoc front (cell ∷ []) rest))
+after_front-cell_before front line column cell (Err fault) = refl
+
+pub after_front-none : (read : Result (List Word) PosedError) → after_front [] read ≡ read
+after_front-none (Ok rest) = refl
+after_front-none (Err fault) = refl
+
+-- a word that is no cell, and one that is
+pub bad_word : (front : List Word) (line at : ℕ) (after_comma : Bool) (bytes : List ℕ) → begins_solid (drop at bytes) ≡ true
+    → word_of (take (prefix_len is_solid (drop at bytes)) (drop at bytes)) ≡ None
+    → after_front front (read_from line after_comma at bytes) ≡ Err (BadCell line (at + 1))
+bad_word front line at after_comma bytes solid bad =
+    ap (after_front front) (read_solid line at after_comma bytes solid) ∙
+    ap (λ cell. after_front front (cell_before line (at + 1) cell (read_from line false (at + prefix_len is_solid (drop at bytes)) bytes))) bad
+
+pub good_word : (front : List Word) (line at : ℕ) (after_comma : Bool) (bytes : List ℕ) (cell : Word) → begins_solid (drop at bytes) ≡ true
+    → word_of (take (prefix_len is_solid (drop at bytes)) (drop at bytes)) ≡ Some cell
+    → after_front front (read_from line after_comma at bytes) ≡ after_front (front ++ cell ∷ []) (read_from line false (at + prefix_len is_solid (drop at bytes)) bytes)
+good_word front line at after_comma bytes cell solid good =
+    let rest = read_from line false (at + prefix_len is_solid (drop at bytes)) bytes in
+    ap (after_front front) (read_solid line at after_comma bytes solid) ∙
+    (ap (λ cell. after_front front (cell_before line (at + 1) cell rest)) good ∙ after_front-cell_before front line (at + 1) cell rest)

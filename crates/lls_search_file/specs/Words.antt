@@ -1,0 +1,108 @@
+-- The words of a row and the cells that they stand for.
+use Rattle.std.specs.Prelude.{ℕ, ◌+◌, ◌-◌, ◌==◌, ◌&&◌, ◌||◌, nat_lt, Bool, true, false, not, if◌then◌else◌, List, [], ◌∷◌, length, take, slice_index, Option, None, Some, Result, Ok, Err}
+use Rattle.std.specs.Option.{option_map}
+use Rattle.std.specs.List.{position}
+use Rattle.lls_search_file.specs.declared.error.PosedError.{PosedError}
+use Rattle.lls_search_file.specs.declared.error.PosedError.TheVariants.{BadCell, NotAscii}
+use Rattle.lls_search_file.specs.Posed.{is_name, same_text}
+use Rattle.lls_search_file.specs.Lines.{is_blank}
+
+-- what follows from a part that was read, or its fault
+abbrev pub and_then : {A B : Type 0} → Result A PosedError → (A → Result B PosedError) → Result B PosedError
+and_then (Ok part) more = more part
+and_then (Err fault) more = Err fault
+
+-- what a word says of a cell's value, with the name itself where it is a name
+pub data Said : Type 0 where
+  dead : Said
+  live : Said
+  free : Said
+  named : List ℕ → Said
+  negated : List ℕ → Said
+
+-- a cell as its word says it
+pub record Word : Type 0 where
+  pub mark : Bool
+  pub says : Said
+
+-- `-` and a name
+abbrev pub negated_name : List ℕ → Option Said
+negated_name [] = None
+negated_name (b ∷ name) = if b == 45 && is_name name then Some (negated name) else None
+
+-- a name, or `-` and a name
+abbrev pub name_said_of : List ℕ → Option Said
+name_said_of body = if is_name body then Some (named body) else negated_name body
+
+-- what a word without its mark says: `0`, `1`, `*`, a name, or `-` and a name
+abbrev pub said_of : List ℕ → Option Said
+said_of body =
+    if same_text body (48 ∷ []) then Some dead else
+    if same_text body (49 ∷ []) then Some live else
+    if same_text body (42 ∷ []) then Some free else
+    name_said_of body
+
+abbrev pub marked : Bool → Said → Word
+marked mark says = record { mark = mark; says = says }
+
+-- a `'` at the end of a word
+abbrev pub has_mark : List ℕ → Bool
+has_mark word = slice_index word (length word - 1) == 39
+
+-- the cell of a word, where it is one
+abbrev pub word_of : List ℕ → Option Word
+word_of word =
+    if has_mark word then option_map (marked true) (said_of (take (length word - 1) word)) else option_map (marked false) (said_of word)
+
+-- a row is made of words and commas, each at the column of its first byte
+pub data Piece : Type 0 where
+  word : ℕ → List ℕ → Piece
+  comma : ℕ → Piece
+
+abbrev pub is_comma : ℕ → Bool
+is_comma b = b == 44
+
+-- a byte that belongs to a word
+abbrev pub is_solid : ℕ → Bool
+is_solid b = not (is_blank b || is_comma b)
+
+abbrev pub begins_solid : List ℕ → Bool
+begins_solid [] = false
+begins_solid (b ∷ bs) = is_solid b
+
+-- a byte of a word before the pieces behind it: it begins a word of its own, unless a word follows at once
+abbrev pub before_word : ℕ → ℕ → List Piece → List Piece
+before_word column b [] = word column (b ∷ []) ∷ []
+before_word column b (comma c ∷ pieces) = word column (b ∷ []) ∷ comma c ∷ pieces
+before_word column b (word c bytes ∷ pieces) = word column (b ∷ bytes) ∷ pieces
+
+abbrev pub before_pieces : ℕ → ℕ → Bool → List Piece → List Piece
+before_pieces column b joined pieces =
+    if is_blank b then pieces else
+    if is_comma b then comma column ∷ pieces else
+    if joined then before_word column b pieces else word column (b ∷ []) ∷ pieces
+
+-- the pieces of a row whose first byte has a column
+abbrev pub pieces_of : ℕ → List ℕ → List Piece
+pieces_of column [] = []
+pieces_of column (b ∷ bs) = before_pieces column b (begins_solid bs) (pieces_of (column + 1) bs)
+
+-- a cell before the cells behind it
+abbrev pub cell_before : ℕ → ℕ → Option Word → Result (List Word) PosedError → Result (List Word) PosedError
+cell_before line column None cells = Err (BadCell line column)
+cell_before line column (Some cell) cells = and_then cells (λ behind. Ok (cell ∷ behind))
+
+-- the cells of a row's pieces: no comma stands before the first cell or behind another comma
+abbrev pub cells_read : ℕ → Bool → List Piece → Result (List Word) PosedError
+cells_read line after_comma [] = Ok []
+cells_read line after_comma (comma column ∷ pieces) = if after_comma then Err (BadCell line column) else cells_read line true pieces
+cells_read line after_comma (word column bytes ∷ pieces) = cell_before line column (word_of bytes) (cells_read line false pieces)
+
+-- no byte above 127 stands in a row
+abbrev pub ascii_or : ℕ → Option ℕ → Result (List Word) PosedError → Result (List Word) PosedError
+ascii_or line None cells = cells
+ascii_or line (Some index) cells = Err (NotAscii line (index + 1))
+
+-- the cells of a row, or its first fault
+abbrev pub row_of : ℕ → List ℕ → Result (List Word) PosedError
+row_of line bytes = ascii_or line (position (λ b. nat_lt 127 b) bytes) (cells_read line true (pieces_of 1 bytes))

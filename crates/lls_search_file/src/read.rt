@@ -1,0 +1,102 @@
+// The reading of search files.
+ghost use Rattle.std.specs.Prelude.{◌≡◌, ◌<◌, ◌≤◌, true, false, length, map, OnOk};
+ghost use Rattle.std.specs.List.{list_all};
+ghost use Rattle.lls_search_file.specs.Lines.{is_separator};
+ghost use Rattle.lls_search_file.specs.Reading.{Gives, posed_of, line_taken, with_words, at_end};
+ghost use Rattle.lls_search_file.specs.Seen.{seen_word};
+ghost use Rattle.lls_search_file.specs.Kept.{is_spelled};
+ghost use Rattle.lls_search_file.specs.Reader.{rows_of, IsReader};
+
+use crate::lines::{first_line, is_comment, is_separator};
+use crate::names::{owned_names, push_words};
+use crate::row::read_row;
+use crate::shape::Shape;
+use crate::word::Word;
+use crate::{Cell, Cells, Names, Posed, PosedError};
+use indexmap::IndexSet;
+use std::alloc::Global;
+
+/// The value of a search file.
+pub fn read_posed(alloc: Global, bytes: &[u8]) -> Result<Posed, PosedError>
+    ensures { Gives (λ posed. posed) result (posed_of bytes.now) }
+{
+    let mut reader = Reader {
+        shape: Shape::NONE,
+        cells: Vec::new(alloc),
+        names: IndexSet::new(alloc),
+    };
+    let mut rest = bytes;
+    let mut number = 0;
+    while !rest.is_empty() {
+        let (line, behind) = first_line(rest);
+        number += 1;
+        reader.take_line(alloc, number, line)?;
+        rest = behind;
+    }
+    reader.finish(alloc)
+}
+
+/// What the lines so far have given.
+#[derive(Drop)]
+struct Reader<'t> {
+    shape: Shape,
+    cells: Vec<Cell>,
+    names: IndexSet<&'t [u8]>,
+}
+
+impl<'t> Reader<'t> {
+    /// Reads one more line.
+    fn take_line(&mut self, alloc: Global, number: u64, line: &'t [u8]) -> Result<(), PosedError>
+        requires kept { IsReader self.old }
+        ensures rows { Gives (λ _. rows_of self.new) result (line_taken number line.entry.now (rows_of self.old)) }
+        ensures kept { OnOk result (IsReader self.new) }
+    {
+        if is_comment(line) {
+            return Ok(());
+        }
+        if is_separator(line) {
+            self.shape = self.shape.with_end()?;
+            return Ok(());
+        }
+        let words = read_row(alloc, number, line)?;
+        self.take_row(number, &words)
+    }
+
+    /// Takes the cells of one more row.
+    fn take_row(&mut self, number: u64, words: &[Word<'t>]) -> Result<(), PosedError>
+        requires kept { IsReader self.old }
+        requires some { 1 ≤ length words.now }
+        requires spelled { list_all is_spelled (map seen_word words.now) ≡ true }
+        ensures rows { Gives (λ _. rows_of self.new) result (with_words number (rows_of self.old) (map seen_word words.now)) }
+        ensures kept { OnOk result (IsReader self.new) }
+    {
+        let shape = self.shape.with_row(number, words.len() as u64)?;
+        push_words(words, &mut self.cells, &mut self.names)?;
+        self.shape = shape;
+        Ok(())
+    }
+
+    /// The file, where the text ends here.
+    fn finish(self, alloc: Global) -> Result<Posed, PosedError>
+        requires kept { IsReader self }
+        ensures { Gives (λ posed. posed) result (at_end (rows_of self.entry)) }
+    {
+        let Reader {
+            shape,
+            cells,
+            names,
+        } = self;
+        let shape = shape.with_end()?;
+        if shape.ended == 0 {
+            return Err(PosedError::Empty);
+        }
+        let names = owned_names(alloc, &names)?;
+        Ok(Posed {
+            generations: shape.ended,
+            height: shape.height,
+            width: shape.width,
+            cells: Cells::new(cells),
+            names: Names::new(names),
+        })
+    }
+}
