@@ -13,3 +13,4 @@ pub mod Parts
 pub mod Back
 pub mod SidesBack
 pub mod RoundTrip
+pub mod Isotropy

@@ -32,7 +32,7 @@ none_found p from (suc many) e k h g =
         ]
     ]) refl e
 
-isotropic : (table : List Bool) → uneven table ≡ None → (n : ℕ) → n < 512 → answer table n ≡ answer table (representative_nine n)
+pub isotropic : (table : List Bool) → uneven table ≡ None → (n : ℕ) → n < 512 → answer table n ≡ answer table (representative_nine n)
 unfolding uneven differs
 isotropic table e n h = from_beq (answer table n) (answer table (representative_nine n)) (none_found (λ n. not (beq (answer table n) (answer table (representative_nine n)))) 0 512 e n (omega arith) (omega arith))
 

@@ -15,7 +15,7 @@ one_step table n h =
     let k : 512 - n ≡ suc (512 - (n + 1)) = omega arith in
     ap (λ m. find (differs table) (range_with_len n m)) k
 
-beq_same : (a b : Bool) → a ≡ b → beq a b ≡ true
+pub beq_same : (a b : Bool) → a ≡ b → beq a b ≡ true
 beq_same true true e = refl
 beq_same true false e = cc
 beq_same false true e = cc

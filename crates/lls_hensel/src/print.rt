@@ -3,7 +3,7 @@ ghost use Rattle.std.specs.Prelude.{◌≡◌, ◌<◌, ◌≤◌, ◌++◌, ℕ
 ghost use Rattle.lls_rule.specs.Rule.{table_of};
 ghost use Rattle.lls_hensel.specs.Entries.{next_of};
 ghost use Rattle.lls_hensel.specs.Numbers.{live_number, classes_by_number, representatives_of, letter_text, holds_by_number};
-ghost use Rattle.lls_hensel.specs.Printing.{representative_nine, uneven, group_text, side_text, rule_text};
+ghost use Rattle.lls_hensel.specs.Printing.{IsIsotropic, representative_nine, uneven, group_text, side_text, rule_text};
 ghost use Rattle.lls_hensel.specs.Reading.{entries_of, and_then};
 
 use std::alloc::{AllocError, AllocFailed, Global};
@@ -37,6 +37,7 @@ impl From<Memory> for PrintRuleError {
 pub fn print_rule(alloc: Global, rule: &Rule) -> Result<Vec<u8>, PrintRuleError>
     ensures text { IfOk result (λ text. text.items ≡ rule_text rule.now) }
     ensures reads_back { IfOk result (λ text. and_then (entries_of text.items) (λ entries. Ok (table_of (next_of entries))) ≡ Ok rule.now) }
+    ensures isotropic { (uneven rule.now ≡ None) ↔ IsIsotropic rule.now }
     ensures not_isotropic { (nine : ℕ) → IsErrOf result (PrintRuleError.NotIsotropic nine) ↔ (uneven rule.now ≡ Some nine) }
 {
     if let Some(nine) = first_uneven(rule) {
