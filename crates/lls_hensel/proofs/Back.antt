@@ -1,23 +1,22 @@
 -- The group that is printed for a count is read back, and stands for the classes that are in.
-use Rattle.std.proofs.Common.{◌≡◌, ◌⊎◌, inl, inr, ℕ, zero, suc, ◌+◌, ◌-◌, ◌<◌, ◌≤◌, nat_eq, nat_le, Bool, true, false, cond, not, ◌&&◌, ◌||◌, List, [], ◌∷◌, map, filter, length, Option, Some, None, Result, Ok, Err, refl, ap, ◌∙◌, sym, subst, arith}
+use Rattle.std.proofs.Common.{◌≡◌, ◌⊎◌, inl, inr, ℕ, zero, suc, ◌+◌, ◌-◌, ◌<◌, ◌≤◌, nat_eq, nat_le, Bool, true, false, cond, not, ◌&&◌, ◌||◌, List, [], ◌∷◌, map, filter, length, Option, Some, None, Ok, Err, refl, ap, ◌∙◌, sym, subst, arith}
 use Rattle.std.specs.Prelude.{replicate}
-use Rattle.std.specs.List.{list_any, list_all}
+use Rattle.std.specs.List.{list_all}
 use Rattle.std.specs.Char.{is_ascii_lowercase}
 use Rattle.std.specs.Int.Count.{ones}
 use Rattle.std.specs.Cmp.Lexicographic.{pointwise}
 use Rattle.std.specs.Cmp.{booleans_Decides}
 use Rattle.std.proofs.Math.Bool.{beq, not-not}
-use Rattle.std.proofs.lemmas.Bool.{agree_below, agree_below_at, and_parts, eqb-true, ne_eqb, leb-true, false_from_ne_true, or_cases, cases_Bool}
+use Rattle.std.proofs.lemmas.Bool.{agree_below, agree_below_at, and_parts, eqb-true, ne_eqb, leb-true, or_cases, cases_Bool}
 use Rattle.std.proofs.lemmas.Bool.Decides.{leb_tells}
 use Rattle.std.proofs.lemmas.Slice.Eq.{slice_eq-Decides}
 use Rattle.lls_rule.specs.Rule.{answer}
-use Rattle.lls_hensel.specs.Class.{Picture, pictures, lettered, same_letter}
+use Rattle.lls_hensel.specs.Class.{Picture, pictures, lettered}
 use Rattle.lls_hensel.specs.Entries.{Group, among, stands_for}
 use Rattle.lls_hensel.specs.Neighbours.{eight_of, around}
 use Rattle.lls_hensel.specs.Numbers.{class_by_number, letter_by_number, representative_by_number, representatives_of, representatives_of_fewer, images_by_number, fewer_of, turned, mirrored}
 use Rattle.lls_hensel.specs.Printing.{number_with, first_eight, representative_eight, letters_at, named, grouped, group_text}
 use Rattle.lls_hensel.specs.Reading.{is_count, is_slash, is_survival_mark, letters_read, letter_first, listed, tail_read, and_then}
-use Rattle.lls_hensel.specs.declared.read.RuleError.{RuleError}
 use Rattle.lls_hensel.specs.declared.read.RuleError.TheVariants.{NoLetters}
 use Rattle.lls_hensel.proofs.Parts.{Lettered, letters, part, part_step, part-cons, list_all-part, letters_read-part, stands_with, among-part}
 
@@ -86,7 +85,7 @@ with_letter : (n count : ℕ) (letter : Option ℕ) (eight : List Bool) → 1 �
 unfolding own_stands
 with_letter n count None eight h g e =
     elim (or_cases (nat_eq count 0) (nat_eq count 8) (and_parts (nat_eq count 0 || nat_eq count 8) (pointwise beq (first_eight (pictures count)) eight) e).0) [
-        inl x ↦ absurd (omega (arith, eqb-true count 0 x))
+      | inl x ↦ absurd (omega (arith, eqb-true count 0 x))
       | inr x ↦ absurd (omega (arith, eqb-true count 8 x))
     ]
 with_letter n count (Some letter) eight h g e =
@@ -118,7 +117,7 @@ lettered_filter test (q ∷ qs) =
     let rest = filter (λ p. test p.eight) (map {B = Picture} (λ (q : ℕ × List Bool). record { letter = Some q.0; eight = q.1 }) qs) in
     let more = lettered_filter test qs in
     (elim (test q.1) as (λ b. map (λ p. p.letter) (cond b (record { letter = Some q.0; eight = q.1 } ∷ rest) rest) ≡ map Some (part_step b q.0 (part test qs))) [
-        true ↦ ap (λ ls. Some q.0 ∷ ls) more
+      | true ↦ ap (λ ls. Some q.0 ∷ ls) more
       | false ↦ more
     ]) ∙ ap (map Some) (sym (part-cons test q qs))
 
@@ -158,10 +157,12 @@ split table survival count h g =
       lower_inside = list_all-part is_ascii_lowercase inside qs l.lower;
       lower_outside = list_all-part is_ascii_lowercase outside qs l.lower;
       own = λ n within is.
-        let found = with_letter n count (class_by_number n).letter (representative_eight (eight_of n)) h g (subst (λ m. own_stands n m (class_by_number n).letter (representative_eight (eight_of n)) ≡ true) is (told n within)) in
-        (found.0, found.1,
-         among-part inside qs 0 count [] found.0 (representative_eight (eight_of n)) l.read found.2 ∙ is_true (own_answer table survival n),
-         among-part outside qs 0 count [] found.0 (representative_eight (eight_of n)) l.read found.2 ∙ is_false (own_answer table survival n))
+          let found = with_letter n count (class_by_number n).letter (representative_eight (eight_of n)) h g (subst (λ m. own_stands n m (class_by_number n).letter (representative_eight (eight_of n)) ≡ true) is (told n within)) in (
+            found.0,
+            found.1,
+            among-part inside qs 0 count [] found.0 (representative_eight (eight_of n)) l.read found.2 ∙ is_true (own_answer table survival n),
+            among-part outside qs 0 count [] found.0 (representative_eight (eight_of n)) l.read found.2 ∙ is_false (own_answer table survival n),
+          );
     }
 
 -- the groups of the three forms
@@ -200,36 +201,48 @@ first_low y ys h = (and_parts (is_ascii_lowercase y) (list_all is_ascii_lowercas
 
 by_split : (table : List Bool) (survival : Bool) (count : ℕ) (inside outside : List ℕ) → IsSplit table survival count inside outside → GroupBack table survival count
 by_split table survival count [] outside s = inl (record {
-    text = s.text;
-    out = λ n within is. let own = s.own n within is in sym own.2
-  })
-by_split table survival count (x ∷ xs) [] s = inr ([], bare count, record {
+  text = s.text;
+  out = λ n within is. let own = s.own n within is in sym own.2;
+})
+by_split table survival count (x ∷ xs) [] s = inr (
+  [],
+  bare count,
+  record {
     text = s.text ∙ rw (ne_eqb (length (map Some (x ∷ xs))) 0 (λ e. absurd (omega arith))) refl;
     behind = refl;
     reads = λ column. refl;
     counts = refl;
-    stands = λ n within is. let own = s.own n within is in ap not own.3 ∙ not-not (own_answer table survival n)
-  })
+    stands = λ n within is. let own = s.own n within is in ap not own.3 ∙ not-not (own_answer table survival n);
+  },
+)
 by_split table survival count (x ∷ xs) (y ∷ ys) s =
     let inside = x ∷ xs in
     let outside = y ∷ ys in
     let some_in = ne_eqb (length (map Some inside)) 0 (λ e. absurd (omega arith)) in
     let some_out = ne_eqb (length (map Some outside)) 0 (λ e. absurd (omega arith)) in
     elim (leb_tells (length (map Some inside)) (length (map Some outside))) [
-        inl t ↦ inr (inside, listing count false inside, record {
-            text = s.text ∙ rw (some_in, some_out, t.0) (ap (λ bytes. (48 + count) ∷ bytes) (named-some inside));
-            behind = s.behind_inside;
-            reads = λ column. few_reads column count x xs (first_low x xs s.lower_inside) (s.reads_inside column);
-            counts = refl;
-            stands = λ n within is. let own = s.own n within is in ap (stands_for (listing count false inside)) own.1 ∙ (stands_few count x own.0 xs ∙ own.2)
-          })
-      | inr t ↦ inr (45 ∷ outside, listing count true outside, record {
-            text = s.text ∙ rw (some_in, some_out, t.0) (ap (λ bytes. (48 + count) ∷ 45 ∷ bytes) (named-some outside));
-            behind = s.behind_outside;
-            reads = λ column. many_reads column count y ys (first_low y ys s.lower_outside) (s.reads_outside (column + 1));
-            counts = refl;
-            stands = λ n within is. let own = s.own n within is in ap (stands_for (listing count true outside)) own.1 ∙ (stands_many count y own.0 ys ∙ (ap not own.3 ∙ not-not (own_answer table survival n)))
-          })
+      | inl t ↦ inr (
+        inside,
+        listing count false inside,
+        record {
+          text = s.text ∙ rw (some_in, some_out, t.0) (ap (λ bytes. (48 + count) ∷ bytes) (named-some inside));
+          behind = s.behind_inside;
+          reads = λ column. few_reads column count x xs (first_low x xs s.lower_inside) (s.reads_inside column);
+          counts = refl;
+          stands = λ n within is. let own = s.own n within is in ap (stands_for (listing count false inside)) own.1 ∙ (stands_few count x own.0 xs ∙ own.2);
+        },
+      )
+      | inr t ↦ inr (
+        45 ∷ outside,
+        listing count true outside,
+        record {
+          text = s.text ∙ rw (some_in, some_out, t.0) (ap (λ bytes. (48 + count) ∷ 45 ∷ bytes) (named-some outside));
+          behind = s.behind_outside;
+          reads = λ column. many_reads column count y ys (first_low y ys s.lower_outside) (s.reads_outside (column + 1));
+          counts = refl;
+          stands = λ n within is. let own = s.own n within is in ap (stands_for (listing count true outside)) own.1 ∙ (stands_many count y own.0 ys ∙ (ap not own.3 ∙ not-not (own_answer table survival n)));
+        },
+      )
     ]
 
 single_text : (digit : ℕ) (p : Picture) (b : Bool) →
@@ -242,24 +255,28 @@ unfolding group_text letters_at
 by_single table survival count p only is =
     let b = answer table (number_with survival p.eight) in
     let text : group_text table survival count ≡ cond b ((48 + count) ∷ []) [] =
-        ap (λ ps. grouped (48 + count) (map (λ p. p.letter) (filter (λ p. beq (answer table (number_with survival p.eight)) true) ps)) (map (λ p. p.letter) (filter (λ p. beq (answer table (number_with survival p.eight)) false) ps))) only ∙
-        single_text (48 + count) p b in
+    ap (λ ps. grouped (48 + count) (map (λ p. p.letter) (filter (λ p. beq (answer table (number_with survival p.eight)) true) ps)) (map (λ p. p.letter) (filter (λ p. beq (answer table (number_with survival p.eight)) false) ps))) only ∙
+    single_text (48 + count) p b in
     let own : (n : ℕ) → n < 256 → (class_by_number n).count ≡ count → ((class_by_number n).letter ≡ None) × (p.eight ≡ representative_eight (eight_of n)) =
-        λ n within same.
-            let found = without_letter n count (class_by_number n).letter (representative_eight (eight_of n)) is (subst (λ m. own_stands n m (class_by_number n).letter (representative_eight (eight_of n)) ≡ true) same (told n within)) in
-            (found.0, sym (ap first_eight only) ∙ found.1) in
+    λ n within same.
+    let found = without_letter n count (class_by_number n).letter (representative_eight (eight_of n)) is (subst (λ m. own_stands n m (class_by_number n).letter (representative_eight (eight_of n)) ≡ true) same (told n within)) in
+    (found.0, sym (ap first_eight only) ∙ found.1) in
     elim (cases_Bool b) [
-        inl t ↦ inr ([], bare count, record {
-            text = text ∙ ap (λ v. cond v ((48 + count) ∷ []) []) t;
-            behind = refl;
-            reads = λ column. refl;
-            counts = refl;
-            stands = λ n within same. sym (ap (λ eight. answer table (number_with survival eight)) (sym (own n within same).1) ∙ t)
-          })
+      | inl t ↦ inr (
+        [],
+        bare count,
+        record {
+          text = text ∙ ap (λ v. cond v ((48 + count) ∷ []) []) t;
+          behind = refl;
+          reads = λ column. refl;
+          counts = refl;
+          stands = λ n within same. sym (ap (λ eight. answer table (number_with survival eight)) (sym (own n within same).1) ∙ t);
+        },
+      )
       | inr f ↦ inl (record {
-            text = text ∙ ap (λ v. cond v ((48 + count) ∷ []) []) f;
-            out = λ n within same. ap (λ eight. answer table (number_with survival eight)) (sym (own n within same).1) ∙ f
-          })
+        text = text ∙ ap (λ v. cond v ((48 + count) ∷ []) []) f;
+        out = λ n within same. ap (λ eight. answer table (number_with survival eight)) (sym (own n within same).1) ∙ f;
+      })
     ]
 
 -- what is printed for a count is read back
@@ -267,8 +284,8 @@ pub group_back : (table : List Bool) (survival : Bool) (count : ℕ) → count �
 group_back table survival zero h = by_single table survival 0 (record { letter = None; eight = replicate 8 false }) refl (inl refl)
 group_back table survival (suc count) h =
     elim (leb_tells count 6) [
-        inl t ↦ by_split table survival (suc count) _ _ (split table survival (suc count) (omega arith) (omega (arith, t.1)))
+      | inl t ↦ by_split table survival (suc count) _ _ (split table survival (suc count) (omega arith) (omega (arith, t.1)))
       | inr t ↦
-            let is : suc count ≡ 8 = omega (arith, t.1) in
-            by_single table survival (suc count) (record { letter = None; eight = replicate 8 true }) (ap pictures is) (inr is)
+          let is : suc count ≡ 8 = omega (arith, t.1) in
+          by_single table survival (suc count) (record { letter = None; eight = replicate 8 true }) (ap pictures is) (inr is)
     ]

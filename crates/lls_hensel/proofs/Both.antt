@@ -1,5 +1,5 @@
 -- The two sides of a rule text, one after the other.
-use Rattle.std.proofs.Common.{◌≡◌, ℕ, Bool, false, List, ◌++◌, length, Result, Ok, Err, refl, ap, ◌∙◌, sym}
+use Rattle.std.proofs.Common.{◌≡◌, ℕ, Bool, false, List, ◌++◌, length, Result, Ok, Err, refl, ap, ◌∙◌}
 use Rattle.lls_rule.specs.Rule.{table_of}
 use Rattle.lls_hensel.specs.Entries.{Entry, next_of, with_entries}
 use Rattle.lls_hensel.specs.Reading.{and_then, both_sides, side_entries}

@@ -1,5 +1,5 @@
 -- A rule is isotropic where no neighbourhood differs from its class's representative.
-use Rattle.std.proofs.Common.{◌≡◌, ℕ, zero, suc, ◌+◌, ◌<◌, ◌≤◌, nat_lt, Bool, true, false, cond, not, ◌&&◌, ◌||◌, List, [], ◌∷◌, ◌++◌, map, find, Option, Some, None, inl, inr, ◌↔◌, refl, ap, ◌∙◌, sym, subst, arith}
+use Rattle.std.proofs.Common.{◌≡◌, ℕ, zero, suc, ◌+◌, ◌<◌, ◌≤◌, nat_lt, Bool, true, false, cond, not, ◌&&◌, List, [], ◌∷◌, ◌++◌, map, find, Some, None, inl, inr, ◌↔◌, refl, ap, ◌∙◌, sym, subst, arith}
 use Rattle.std.specs.List.{range_with_len, list_any}
 use Rattle.std.specs.Cmp.Lexicographic.{pointwise}
 use Rattle.std.specs.Cmp.{booleans_Decides}
@@ -33,13 +33,13 @@ representatives_told = refl
 turn_told : (n : ℕ) → n < 256 → (turned n < 256) × (quarter_turn (eight_of n) ≡ eight_of (turned n))
 turn_told n h =
     let parts = and_parts (nat_lt (turned n) 256) (pointwise beq (quarter_turn (eight_of n)) (eight_of (turned n)))
-            (agree_below_at (λ n. nat_lt (turned n) 256 && pointwise beq (quarter_turn (eight_of n)) (eight_of (turned n))) (λ _. true) 256 n turn_is_number h) in
+    (agree_below_at (λ n. nat_lt (turned n) 256 && pointwise beq (quarter_turn (eight_of n)) (eight_of (turned n))) (λ _. true) 256 n turn_is_number h) in
     (ltb-true (turned n) 256 parts.0, same_eight (quarter_turn (eight_of n)) (eight_of (turned n)) parts.1)
 
 class_told : (n : ℕ) → n < 256 → (representative_eight (quarter_turn (eight_of n)) ≡ representative_eight (eight_of n)) × (representative_eight (mirror (eight_of n)) ≡ representative_eight (eight_of n))
 class_told n h =
     let parts = and_parts (pointwise beq (representative_eight (quarter_turn (eight_of n))) (representative_eight (eight_of n))) (pointwise beq (representative_eight (mirror (eight_of n))) (representative_eight (eight_of n)))
-            (agree_below_at (λ n. pointwise beq (representative_eight (quarter_turn (eight_of n))) (representative_eight (eight_of n)) && pointwise beq (representative_eight (mirror (eight_of n))) (representative_eight (eight_of n))) (λ _. true) 256 n turn_keeps_class h) in
+    (agree_below_at (λ n. pointwise beq (representative_eight (quarter_turn (eight_of n))) (representative_eight (eight_of n)) && pointwise beq (representative_eight (mirror (eight_of n))) (representative_eight (eight_of n))) (λ _. true) 256 n turn_keeps_class h) in
     (same_eight (representative_eight (quarter_turn (eight_of n))) (representative_eight (eight_of n)) parts.0, same_eight (representative_eight (mirror (eight_of n))) (representative_eight (eight_of n)) parts.1)
 
 -- lists of eight bits with a number, of one class
@@ -51,11 +51,11 @@ record IsAlike (eight image : List Bool) : Type 0 where
 
 turn_alike : (eight image : List Bool) → IsAlike eight image → IsAlike eight (quarter_turn image)
 turn_alike eight image a = record {
-    number = turned a.number;
-    below = (turn_told a.number a.below).0;
-    is = ap quarter_turn a.is ∙ (turn_told a.number a.below).1;
-    class = ap (λ bits. representative_eight (quarter_turn bits)) a.is ∙ ((class_told a.number a.below).0 ∙ (ap representative_eight (sym a.is) ∙ a.class))
-  }
+  number = turned a.number;
+  below = (turn_told a.number a.below).0;
+  is = ap quarter_turn a.is ∙ (turn_told a.number a.below).1;
+  class = ap (λ bits. representative_eight (quarter_turn bits)) a.is ∙ ((class_told a.number a.below).0 ∙ (ap representative_eight (sym a.is) ∙ a.class));
+}
 
 mirror_class : (eight image : List Bool) → IsAlike eight image → representative_eight (mirror image) ≡ representative_eight eight
 mirror_class eight image a =
@@ -69,7 +69,7 @@ one_of : (second class : List Bool) (xs : List (List Bool)) → HaveClass class 
 one_of second class [] all h = cc
 one_of second class (x ∷ xs) all h =
     elim (or_cases (pointwise beq second x) (list_any (pointwise beq second) xs) h) [
-        inl t ↦ ap representative_eight (same_eight second x t) ∙ all.0
+      | inl t ↦ ap representative_eight (same_eight second x t) ∙ all.0
       | inr t ↦ one_of second class xs all.1 t
     ]
 
@@ -82,16 +82,32 @@ same_representative n second h t =
     let once = turn_alike eight eight first in
     let twice = turn_alike eight (quarter_turn eight) once in
     let thrice = turn_alike eight (quarter_turn (quarter_turn eight)) twice in
-    one_of second class (turns eight ++ map mirror (turns eight))
-        (first.class, (once.class, (twice.class, (thrice.class, (mirror_class eight eight first, (mirror_class eight (quarter_turn eight) once,
-            (mirror_class eight (quarter_turn (quarter_turn eight)) twice, (mirror_class eight (quarter_turn (quarter_turn (quarter_turn eight))) thrice, tt)))))))) t
+    one_of second class (turns eight ++ map mirror (turns eight)) (
+      first.class,
+      (
+        once.class,
+        (
+          twice.class,
+          (
+            thrice.class,
+            (
+              mirror_class eight eight first,
+              (
+                mirror_class eight (quarter_turn eight) once,
+                (mirror_class eight (quarter_turn (quarter_turn eight)) twice, (mirror_class eight (quarter_turn (quarter_turn (quarter_turn eight))) thrice, tt)),
+              ),
+            ),
+          ),
+        ),
+      ),
+    ) t
 
 from_even : (table : List Bool) → uneven table ≡ None → IsIsotropic table
 unfolding representative_nine
 from_even table even m n below within centres images =
     let e = around_number m in
     let same : representative_eight (around n) ≡ representative_eight (around m) =
-        same_representative e (around n) (around_number-lt m below) (subst (λ eight. are_images eight (around n) ≡ true) (around-eight_of m below) images) ∙ ap representative_eight (sym (around-eight_of m below)) in
+    same_representative e (around n) (around_number-lt m below) (subst (λ eight. are_images eight (around n) ≡ true) (around-eight_of m below) images) ∙ ap representative_eight (sym (around-eight_of m below)) in
     isotropic table even m below ∙
     (ap (λ centre. answer table (number_with centre (representative_eight (around m)))) centres ∙
     (ap (λ eight. answer table (number_with (has_bit n 4) eight)) (sym same) ∙ sym (isotropic table even n within)))
@@ -111,11 +127,11 @@ to_even : (table : List Bool) → IsIsotropic table → uneven table ≡ None
 unfolding uneven differs
 to_even table even =
     none_passes (λ n. not (beq (answer table n) (answer table (representative_nine n)))) 0 512 (λ n l h.
-        let parts = and_parts (nat_lt (representative_nine n) 512 && beq (has_bit n 4) (has_bit (representative_nine n) 4)) (are_images (around n) (around (representative_nine n)))
-                (agree_below_at (λ n. nat_lt (representative_nine n) 512 && beq (has_bit n 4) (has_bit (representative_nine n) 4) && are_images (around n) (around (representative_nine n))) (λ _. true) 512 n representatives_told (omega arith)) in
-        let first = and_parts (nat_lt (representative_nine n) 512) (beq (has_bit n 4) (has_bit (representative_nine n) 4)) parts.0 in
-        ap not (beq_same (answer table n) (answer table (representative_nine n))
-            (even n (representative_nine n) (omega arith) (ltb-true (representative_nine n) 512 first.0) (same_bits (has_bit n 4) (has_bit (representative_nine n) 4) first.1) parts.1)))
+    let parts = and_parts (nat_lt (representative_nine n) 512 && beq (has_bit n 4) (has_bit (representative_nine n) 4)) (are_images (around n) (around (representative_nine n)))
+    (agree_below_at (λ n. nat_lt (representative_nine n) 512 && beq (has_bit n 4) (has_bit (representative_nine n) 4) && are_images (around n) (around (representative_nine n))) (λ _. true) 512 n representatives_told (omega arith)) in
+    let first = and_parts (nat_lt (representative_nine n) 512) (beq (has_bit n 4) (has_bit (representative_nine n) 4)) parts.0 in
+    ap not (beq_same (answer table n) (answer table (representative_nine n))
+    (even n (representative_nine n) (omega arith) (ltb-true (representative_nine n) 512 first.0) (same_bits (has_bit n 4) (has_bit (representative_nine n) 4) first.1) parts.1)))
 
 -- no neighbourhood differs exactly where the rule is isotropic
 pub uneven-IsIsotropic : (table : List Bool) → (uneven table ≡ None) ↔ IsIsotropic table

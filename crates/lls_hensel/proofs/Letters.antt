@@ -1,5 +1,5 @@
 -- The letters of a count, as the table has them and as the classes have them.
-use Rattle.std.proofs.Common.{◌≡◌, ℕ, zero, suc, ◌≤◌, Bool, Some, refl, arith}
+use Rattle.std.proofs.Common.{◌≡◌, ℕ, zero, suc, ◌≤◌, Some, refl, arith}
 use Rattle.std.specs.List.{list_any}
 use Rattle.lls_hensel.specs.Class.{letter_among, same_letter}
 use Rattle.lls_hensel.specs.Numbers.{representatives_of, representatives_of_fewer}

@@ -1,8 +1,7 @@
 -- What the masks and shifts of the eight neighbours give, for each of the 256.
-use Rattle.std.proofs.Common.{◌≡◌, ℕ, ◌+◌, ◌*◌, ◌/◌, ◌%◌, ◌<◌, nat_eq, Bool, true, suc, zero, ◌≢◌, List, [], ◌∷◌, ◌≤◌, None, arith, bit_and, bit_or, refl}
+use Rattle.std.proofs.Common.{◌≡◌, ℕ, ◌*◌, ◌/◌, ◌%◌, ◌<◌, nat_eq, true, suc, zero, ◌≢◌, [], ◌∷◌, ◌≤◌, None, arith, bit_and, bit_or, refl}
 use Rattle.std.proofs.lemmas.Bool.{agree_below, agree_below_at, eqb-true}
 use Rattle.lls_hensel.specs.Numbers.{turned, mirrored, representatives_of_fewer}
-use Rattle.lls_hensel.specs.declared.class.Representative.{Representative}
 
 -- two functions that were compared at each number below 256
 pub same_below : (f g : ℕ → ℕ) → agree_below (λ n. nat_eq (f n) (g n)) (λ _. true) 256 ≡ true → (n : ℕ) → n < 256 → f n ≡ g n

@@ -1,11 +1,11 @@
 -- Parts of the letters of a count: they are read back as they were printed.
-use Rattle.std.proofs.Common.{◌≡◌, ℕ, zero, suc, ◌+◌, ◌≤◌, nat_eq, Bool, true, false, cond, not, ◌&&◌, ◌||◌, List, [], ◌∷◌, ◌++◌, map, filter, Result, Ok, Err, inl, inr, refl, ap, ◌∙◌, sym, subst, arith}
+use Rattle.std.proofs.Common.{◌≡◌, ℕ, ◌+◌, nat_eq, Bool, true, false, cond, not, ◌&&◌, ◌||◌, List, [], ◌∷◌, ◌++◌, map, filter, Result, Ok, Err, inl, inr, refl, ap, ◌∙◌, sym, subst}
 use Rattle.std.specs.List.{list_any, list_all}
 use Rattle.std.specs.Char.{is_ascii_lowercase}
 use Rattle.std.specs.Cmp.Lexicographic.{pointwise}
 use Rattle.std.specs.Cmp.{booleans_Decides}
 use Rattle.std.proofs.Math.Bool.{beq, or-false}
-use Rattle.std.proofs.lemmas.Bool.{and_parts, and_from, or_cases, or_parts, or_left, or_right, or_from, eq-eqb, eqb-true, false_from_ne_true}
+use Rattle.std.proofs.lemmas.Bool.{and_parts, and_from, or_cases, or_parts, or_left, or_right, eqb-true, false_from_ne_true}
 use Rattle.std.proofs.lemmas.Slice.Eq.{slice_eq-Decides}
 use Rattle.std.proofs.lemmas.List.Folds.{list_any-append}
 use Rattle.lls_hensel.specs.Class.{letter_among}
@@ -39,7 +39,7 @@ list_all-part ok test (q ∷ qs) h =
     let parts = and_parts (ok q.0) (list_all ok (letters qs)) h in
     let more = list_all-part ok test qs parts.1 in
     ap (list_all ok) (part-cons test q qs) ∙ elim (test q.1) as (λ b. list_all ok (part_step b q.0 (part test qs)) ≡ true) [
-        true ↦ and_from (ok q.0) (list_all ok (part test qs)) parts.0 more
+      | true ↦ and_from (ok q.0) (list_all ok (part test qs)) parts.0 more
       | false ↦ more
     ]
 
@@ -49,10 +49,10 @@ among-part-all test [] byte h = h
 among-part-all test (q ∷ qs) byte h =
     let at = sym (ap (λ bytes. among bytes byte) (part-cons test q qs)) ∙ h in
     (elim (test q.1) as (λ b. among (part_step b q.0 (part test qs)) byte ≡ true → among (letters (q ∷ qs)) byte ≡ true) [
-        true ↦ λ e. elim (or_cases (nat_eq q.0 byte) (among (part test qs) byte) e) [
-            inl x ↦ or_left (nat_eq q.0 byte) (among (letters qs) byte) x
-          | inr x ↦ or_right (nat_eq q.0 byte) (among (letters qs) byte) (among-part-all test qs byte x)
-        ]
+      | true ↦ λ e. elim (or_cases (nat_eq q.0 byte) (among (part test qs) byte) e) [
+        | inl x ↦ or_left (nat_eq q.0 byte) (among (letters qs) byte) x
+        | inr x ↦ or_right (nat_eq q.0 byte) (among (letters qs) byte) (among-part-all test qs byte x)
+      ]
       | false ↦ λ e. or_right (nat_eq q.0 byte) (among (letters qs) byte) (among-part-all test qs byte e)
     ]) at
 
@@ -85,7 +85,7 @@ apart column count before [] byte e h = cc
 apart column count before (x ∷ xs) byte e h =
     let first = letters_read-first column count before x xs e in
     elim (or_cases (nat_eq x byte) (among xs byte) h) [
-        inl is ↦ subst (λ b. among before b ≡ false) (eqb-true x byte is) first.2
+      | inl is ↦ subst (λ b. among before b ≡ false) (eqb-true x byte is) first.2
       | inr more ↦ (or_parts (among before byte) (nat_eq x byte) (sym (among-append before x byte) ∙ apart (column + 1) count (before ++ x ∷ []) xs byte first.3 more)).0
     ]
 
@@ -96,15 +96,15 @@ letters_read-part test [] column other count before less within e = refl
 letters_read-part test (q ∷ qs) column other count before less within e =
     let first = letters_read-first column count before q.0 (letters qs) e in
     ap (letters_read other count less) (part-cons test q qs) ∙ elim (test q.1) as (λ b. letters_read other count less (part_step b q.0 (part test qs)) ≡ Ok tt) [
-        true ↦ three_passed (is_ascii_lowercase q.0) (letter_among count q.0) (among less q.0) (Stray other) (BadLetter other) (RepeatedLetter other) (letters_read (other + 1) count (less ++ q.0 ∷ []) (part test qs))
-            first.0 first.1 (false_from_ne_true (among less q.0) (λ t. let x = within q.0 t in let y = first.2 in cc))
-            (letters_read-part test qs (column + 1) (other + 1) count (before ++ q.0 ∷ []) (less ++ q.0 ∷ [])
-                (λ byte t. among-append before q.0 byte ∙ (elim (or_cases (among less byte) (nat_eq q.0 byte) (sym (among-append less q.0 byte) ∙ t)) [
-                    inl x ↦ or_left (among before byte) (nat_eq q.0 byte) (within byte x)
-                  | inr x ↦ or_right (among before byte) (nat_eq q.0 byte) x
-                ])) first.3)
+      | true ↦ three_passed (is_ascii_lowercase q.0) (letter_among count q.0) (among less q.0) (Stray other) (BadLetter other) (RepeatedLetter other) (letters_read (other + 1) count (less ++ q.0 ∷ []) (part test qs))
+          first.0 first.1 (false_from_ne_true (among less q.0) (λ t. let x = within q.0 t in let y = first.2 in cc))
+          (letters_read-part test qs (column + 1) (other + 1) count (before ++ q.0 ∷ []) (less ++ q.0 ∷ [])
+          (λ byte t. among-append before q.0 byte ∙ (elim (or_cases (among less byte) (nat_eq q.0 byte) (sym (among-append less q.0 byte) ∙ t)) [
+            | inl x ↦ or_left (among before byte) (nat_eq q.0 byte) (within byte x)
+            | inr x ↦ or_right (among before byte) (nat_eq q.0 byte) x
+          ])) first.3)
       | false ↦ letters_read-part test qs (column + 1) other count (before ++ q.0 ∷ []) less
-            (λ byte t. among-append before q.0 byte ∙ or_left (among before byte) (nat_eq q.0 byte) (within byte t)) first.3
+          (λ byte t. among-append before q.0 byte ∙ or_left (among before byte) (nat_eq q.0 byte) (within byte t)) first.3
     ]
 
 -- whether a letter stands there with these eight
@@ -115,7 +115,7 @@ stands_among : (qs : Lettered) (letter : ℕ) (eight : List Bool) → stands_wit
 stands_among [] letter eight h = h
 stands_among (q ∷ qs) letter eight h =
     elim (or_cases (nat_eq q.0 letter && pointwise beq q.1 eight) (stands_with qs letter eight) h) [
-        inl x ↦ or_left (nat_eq q.0 letter) (among (letters qs) letter) (and_parts (nat_eq q.0 letter) (pointwise beq q.1 eight) x).0
+      | inl x ↦ or_left (nat_eq q.0 letter) (among (letters qs) letter) (and_parts (nat_eq q.0 letter) (pointwise beq q.1 eight) x).0
       | inr x ↦ or_right (nat_eq q.0 letter) (among (letters qs) letter) (stands_among qs letter eight x)
     ]
 
@@ -127,16 +127,16 @@ among-part test (q ∷ qs) column count before letter eight e h =
     let first = letters_read-first column count before q.0 (letters qs) e in
     ap (λ bytes. among bytes letter) (part-cons test q qs) ∙
     elim (or_cases (nat_eq q.0 letter && pointwise beq q.1 eight) (stands_with qs letter eight) h) [
-        inl x ↦
-            let parts = and_parts (nat_eq q.0 letter) (pointwise beq q.1 eight) x in
-            let same : q.1 ≡ eight = (slice_eq-Decides booleans_Decides q.1 eight true (sym parts.1)).0 refl in
-            let gone : among (part test qs) letter ≡ false = false_from_ne_true (among (part test qs) letter) (λ t.
-                    let all = among-part-all test qs letter t in
-                    let no = or_parts (among before letter) (nat_eq q.0 letter) (sym (among-append before q.0 letter) ∙ apart (column + 1) count (before ++ q.0 ∷ []) (letters qs) letter first.3 all) in
-                    let yes = parts.0 in let never = no.1 in cc) in
-            (elim (test q.1) as (λ b. among (part_step b q.0 (part test qs)) letter ≡ b) [ true ↦ or_left (nat_eq q.0 letter) (among (part test qs) letter) parts.0 | false ↦ gone ]) ∙ ap test same
+      | inl x ↦
+          let parts = and_parts (nat_eq q.0 letter) (pointwise beq q.1 eight) x in
+          let same : q.1 ≡ eight = (slice_eq-Decides booleans_Decides q.1 eight true (sym parts.1)).0 refl in
+          let gone : among (part test qs) letter ≡ false = false_from_ne_true (among (part test qs) letter) (λ t.
+          let all = among-part-all test qs letter t in
+          let no = or_parts (among before letter) (nat_eq q.0 letter) (sym (among-append before q.0 letter) ∙ apart (column + 1) count (before ++ q.0 ∷ []) (letters qs) letter first.3 all) in
+          let yes = parts.0 in let never = no.1 in cc) in
+          (elim (test q.1) as (λ b. among (part_step b q.0 (part test qs)) letter ≡ b) [ true ↦ or_left (nat_eq q.0 letter) (among (part test qs) letter) parts.0 | false ↦ gone ]) ∙ ap test same
       | inr x ↦
-            let more = among-part test qs (column + 1) count (before ++ q.0 ∷ []) letter eight first.3 x in
-            let other = (or_parts (among before letter) (nat_eq q.0 letter) (sym (among-append before q.0 letter) ∙ apart (column + 1) count (before ++ q.0 ∷ []) (letters qs) letter first.3 (stands_among qs letter eight x))).1 in
-            (elim (test q.1) as (λ b. among (part_step b q.0 (part test qs)) letter ≡ among (part test qs) letter) [ true ↦ ap (λ b. b || among (part test qs) letter) other | false ↦ refl ]) ∙ more
+          let more = among-part test qs (column + 1) count (before ++ q.0 ∷ []) letter eight first.3 x in
+          let other = (or_parts (among before letter) (nat_eq q.0 letter) (sym (among-append before q.0 letter) ∙ apart (column + 1) count (before ++ q.0 ∷ []) (letters qs) letter first.3 (stands_among qs letter eight x))).1 in
+          (elim (test q.1) as (λ b. among (part_step b q.0 (part test qs)) letter ≡ among (part test qs) letter) [ true ↦ ap (λ b. b || among (part test qs) letter) other | false ↦ refl ]) ∙ more
     ]

@@ -1,5 +1,5 @@
 -- The bytes of a side before its first digit, and those from it on.
-use Rattle.std.proofs.Common.{◌≡◌, ℕ, zero, suc, ◌+◌, ◌≤◌, Bool, true, false, cond, not, List, [], ◌∷◌, length, take, drop, refl, ap, ◌∙◌, sym, arith, length-take}
+use Rattle.std.proofs.Common.{◌≡◌, ℕ, zero, suc, Bool, true, false, cond, not, List, [], ◌∷◌, length, take, drop, refl, ap, ◌∙◌, sym}
 use Rattle.std.specs.List.{take_while}
 use Rattle.std.proofs.lemmas.List.Sums.{take_while-cons}
 use Rattle.lls_hensel.specs.Reading.{cut, cut_before, before_digit, is_count}
@@ -18,7 +18,7 @@ before_digit-take_while [] = refl
 before_digit-take_while (byte ∷ rest) =
     let more = before_digit-take_while rest in
     (elim (is_count byte) as (λ b. (cut_before b byte (cut rest)).0 ≡ cond (not b) (byte ∷ take_while (λ byte. not (is_count byte)) rest) []) [
-        true ↦ refl
+      | true ↦ refl
       | false ↦ ap (λ bytes. byte ∷ bytes) more
     ]) ∙ sym (take_while-cons (λ byte. not (is_count byte)) byte rest)
 
@@ -27,7 +27,7 @@ pub cut-drop : (bytes : List ℕ) → cut (drop (length (before_digit bytes)) by
 cut-drop [] = refl
 cut-drop (byte ∷ rest) =
     elim (is_count byte) as (λ b. is_count byte ≡ b → cut (drop (length (cut_before b byte (cut rest)).0) (byte ∷ rest)) ≡ ([], (cut_before b byte (cut rest)).1)) [
-        true ↦ λ e. ap (λ b. cut_before b byte (cut rest)) e
+      | true ↦ λ e. ap (λ b. cut_before b byte (cut rest)) e
       | false ↦ λ e. cut-drop rest
     ] refl
 
@@ -35,6 +35,6 @@ cut-drop (byte ∷ rest) =
 pub cut_at_digit : (digit : ℕ) (rest : List ℕ) → (cut (digit ∷ rest)).0 ≡ [] → (is_count digit ≡ true) × (cut (digit ∷ rest) ≡ ([], (digit, before_digit rest) ∷ (cut rest).1))
 cut_at_digit digit rest =
     elim (is_count digit) as (λ b. is_count digit ≡ b → (cut_before b digit (cut rest)).0 ≡ [] → (b ≡ true) × (cut_before b digit (cut rest) ≡ ([], (digit, before_digit rest) ∷ (cut rest).1))) [
-        true ↦ λ e h. (refl, refl)
+      | true ↦ λ e h. (refl, refl)
       | false ↦ λ e h. cc
     ] refl

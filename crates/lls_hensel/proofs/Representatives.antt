@@ -1,8 +1,7 @@
 -- The classes' representatives as the code keeps them, and as the classes have them.
-use Rattle.std.proofs.Common.{◌≡◌, ◌⊎◌, inl, inr, bit_and, ℕ, zero, suc, ◌+◌, ◌-◌, ◌<◌, ◌≤◌, nat_eq, nat_lt, Bool, true, false, cond, not, ◌&&◌, List, [], ◌∷◌, ◌++◌, map, filter, flat_map, length, Option, Some, None, refl, ap, ◌∙◌, sym, subst, arith}
+use Rattle.std.proofs.Common.{◌≡◌, ◌⊎◌, inl, inr, bit_and, ℕ, zero, suc, ◌<◌, ◌≤◌, nat_eq, nat_lt, Bool, true, false, cond, not, ◌&&◌, List, [], ◌∷◌, ◌++◌, map, filter, flat_map, Option, Some, None, refl, ap, ◌∙◌, sym, arith}
 use Rattle.std.specs.Prelude.{count_ones}
 use Rattle.std.specs.Int.Count.{ones}
-use Rattle.std.specs.List.{range_with_len}
 use Rattle.std.specs.Cmp.Lexicographic.{pointwise}
 use Rattle.std.specs.Cmp.{booleans_Decides}
 use Rattle.std.proofs.Math.Bool.{beq, not-not}
@@ -10,11 +9,11 @@ use Rattle.std.proofs.lemmas.Bool.{agree_below, agree_below_at, and_parts, eqb-t
 use Rattle.std.proofs.lemmas.Slice.Eq.{slice_eq-Decides}
 use Rattle.lls_rule.specs.Rule.{answer, has_bit}
 use Rattle.lls_hensel.specs.declared.class.Representative.{Representative}
-use Rattle.lls_hensel.specs.Class.{Picture, pictures}
-use Rattle.lls_hensel.specs.Neighbours.{eight_of, around, are_images}
+use Rattle.lls_hensel.specs.Class.{pictures}
+use Rattle.lls_hensel.specs.Neighbours.{eight_of}
 use Rattle.lls_hensel.specs.Groups.{around_number, nine_number}
 use Rattle.lls_hensel.specs.Numbers.{live_number, holds_by_number, classes_by_number, letter_text, representative_by_number, representatives_of, representatives_of_fewer, images_by_number, fewer_of, turned, mirrored}
-use Rattle.lls_hensel.specs.Printing.{number_with, named, first_eight, representative_eight, representative_nine, letters_at, grouped, group_text}
+use Rattle.lls_hensel.specs.Printing.{number_with, named, representative_eight, representative_nine, letters_at}
 use Rattle.lls_rule.proofs.Counts.{centre_test}
 use Rattle.lls_hensel.proofs.Tells.{around_number-lt, around-eight_of}
 
@@ -38,12 +37,12 @@ nines_agree = refl
 stands_told : (n : ℕ) → n < 256 → (nat_lt (stands n) 256 ≡ true) × (pointwise beq (eight_of (stands n)) (representative_eight (eight_of n)) ≡ true)
 stands_told n h =
     and_parts (nat_lt (stands n) 256) (pointwise beq (eight_of (stands n)) (representative_eight (eight_of n)))
-        (agree_below_at (λ n. nat_lt (stands n) 256 && pointwise beq (eight_of (stands n)) (representative_eight (eight_of n))) (λ _. true) 256 n stands_below h)
+    (agree_below_at (λ n. nat_lt (stands n) 256 && pointwise beq (eight_of (stands n)) (representative_eight (eight_of n))) (λ _. true) 256 n stands_below h)
 
 nines_told : (n : ℕ) → n < 256 → (nat_eq (nine_number true n) (number_with true (eight_of n)) ≡ true) × (nat_eq (nine_number false n) (number_with false (eight_of n)) ≡ true)
 nines_told n h =
     and_parts (nat_eq (nine_number true n) (number_with true (eight_of n))) (nat_eq (nine_number false n) (number_with false (eight_of n)))
-        (agree_below_at (λ n. nat_eq (nine_number true n) (number_with true (eight_of n)) && nat_eq (nine_number false n) (number_with false (eight_of n))) (λ _. true) 256 n nines_agree h)
+    (agree_below_at (λ n. nat_eq (nine_number true n) (number_with true (eight_of n)) && nat_eq (nine_number false n) (number_with false (eight_of n))) (λ _. true) 256 n nines_agree h)
 
 nine_number-number_with : (centre : Bool) (n : ℕ) → n < 256 → nine_number centre n ≡ number_with centre (eight_of n)
 nine_number-number_with true n h = eqb-true (nine_number true n) (number_with true (eight_of n)) (nines_told n h).0
@@ -56,7 +55,7 @@ standing n h =
     let within = around_number-lt n h in
     let told = stands_told e within in
     let same : eight_of (stands e) ≡ representative_eight (eight_of e) =
-        (slice_eq-Decides booleans_Decides (eight_of (stands e)) (representative_eight (eight_of e)) true (sym told.1)).0 refl in
+    (slice_eq-Decides booleans_Decides (eight_of (stands e)) (representative_eight (eight_of e)) true (sym told.1)).0 refl in
     nine_number-number_with (has_bit n 4) (stands e) (ltb-true (stands e) 256 told.0) ∙
     ap (number_with (has_bit n 4)) (same ∙ ap representative_eight (sym (around-eight_of n h)))
 
@@ -75,12 +74,12 @@ pub representative_nine-steps : (n eight few least : ℕ) (found : Option Repres
 unfolding stands
 representative_nine-steps n eight few least found h is is_few is_found picked =
     let chosen : least ≡ eight_at few found = elim picked [
-            inl (r, e, l) ↦ l ∙ sym (eight_some few found r e)
-          | inr (e, l) ↦ l ∙ sym (eight_none few found e)
-        ] in
+      | inl (r, e, l) ↦ l ∙ sym (eight_some few found r e)
+      | inr (e, l) ↦ l ∙ sym (eight_none few found e)
+    ] in
     let centre : not (nat_eq (bit_and n 16) 0) ≡ has_bit n 4 = ap not (centre_test n h) ∙ not-not (has_bit n 4) in
     let steps : live_number (count_ones eight) least ≡ stands eight =
-        ap (live_number (count_ones eight)) (chosen ∙ (ap (λ m. eight_at m found) is_few ∙ ap (eight_at (fewer_of eight)) (is_found ∙ ap (representative_by_number (count_ones eight)) is_few))) in
+    ap (live_number (count_ones eight)) (chosen ∙ (ap (λ m. eight_at m found) is_few ∙ ap (eight_at (fewer_of eight)) (is_found ∙ ap (representative_by_number (count_ones eight)) is_few))) in
     ap (λ b. nine_number b (live_number (count_ones eight) least)) centre ∙ (ap (nine_number (has_bit n 4)) (steps ∙ ap stands is) ∙ standing n h)
 
 -- the letters of a list's elements whose answer is sought
@@ -94,8 +93,8 @@ by_pairs table live letter number [] = refl
 by_pairs table live letter number (x ∷ xs) =
     let more = by_pairs table live letter number xs in
     elim (beq (answer table (number x)) live) as (λ b. map letter (cond b (x ∷ filter (λ x. beq (answer table (number x)) live) xs) (filter (λ x. beq (answer table (number x)) live) xs)) ≡
-        map (λ (p : Option ℕ × ℕ). p.0) (cond b ((letter x, number x) ∷ filter (λ (p : Option ℕ × ℕ). beq (answer table p.1) live) (map {B = Option ℕ × ℕ} (λ x. (letter x, number x)) xs)) (filter (λ (p : Option ℕ × ℕ). beq (answer table p.1) live) (map {B = Option ℕ × ℕ} (λ x. (letter x, number x)) xs)))) [
-        true ↦ ap (λ ls. letter x ∷ ls) more
+    map (λ (p : Option ℕ × ℕ). p.0) (cond b ((letter x, number x) ∷ filter (λ (p : Option ℕ × ℕ). beq (answer table p.1) live) (map {B = Option ℕ × ℕ} (λ x. (letter x, number x)) xs)) (filter (λ (p : Option ℕ × ℕ). beq (answer table p.1) live) (map {B = Option ℕ × ℕ} (λ x. (letter x, number x)) xs)))) [
+      | true ↦ ap (λ ls. letter x ∷ ls) more
       | false ↦ more
     ]
 
@@ -142,7 +141,7 @@ letter_texts table survival count live (r ∷ rs) =
     let more = letter_texts table survival count live rs in
     let rest = filter (λ r. beq (holds_by_number table survival count r) live) rs in
     elim (beq (holds_by_number table survival count r) live) as (λ b. cond b (named (r.letter ∷ [])) [] ++ flat_map (letter_text table survival count live) rs ≡ named (map (λ r. r.letter) (cond b (r ∷ rest) rest))) [
-        true ↦ ap (λ bytes. named (r.letter ∷ []) ++ bytes) more ∙ named_more r.letter (map (λ r. r.letter) rest)
+      | true ↦ ap (λ bytes. named (r.letter ∷ []) ++ bytes) more ∙ named_more r.letter (map (λ r. r.letter) rest)
       | false ↦ more
     ]
 

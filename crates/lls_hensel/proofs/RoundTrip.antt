@@ -1,5 +1,5 @@
 -- The canonical text of an isotropic rule is read as that rule.
-use Rattle.std.proofs.Common.{◌≡◌, ℕ, zero, suc, ◌+◌, ◌-◌, ◌<◌, ◌≤◌, Bool, true, false, cond, not, ◌&&◌, ◌||◌, List, [], ◌∷◌, ◌++◌, drop, find, flat_map, length, Option, Some, None, Result, Ok, Err, inl, inr, nat_le, refl, ap, ◌∙◌, sym, subst, arith}
+use Rattle.std.proofs.Common.{◌≡◌, ℕ, zero, suc, ◌+◌, ◌<◌, ◌≤◌, Bool, true, false, cond, not, ◌&&◌, ◌||◌, List, [], ◌∷◌, ◌++◌, drop, find, flat_map, length, Some, None, Ok, inl, inr, refl, ap, ◌∙◌, sym, arith}
 use Rattle.std.specs.List.{range_with_len, list_all, take_while}
 use Rattle.std.proofs.Math.Bool.{beq, or-false}
 use Rattle.std.proofs.Math.Seq.{drop-append_seam}
@@ -9,13 +9,12 @@ use Rattle.lls_rule.specs.Rule.{answer, has_bit, table_of}
 use Rattle.lls_rule.proofs.Tables.{same_table_of}
 use Rattle.lls_hensel.specs.Entries.{Entry, next_of, entries_of_group}
 use Rattle.lls_hensel.specs.Groups.{around_number}
-use Rattle.lls_hensel.specs.Neighbours.{around, eight_of}
+use Rattle.lls_hensel.specs.Neighbours.{around}
 use Rattle.lls_hensel.specs.Numbers.{class_by_number}
 use Rattle.lls_hensel.specs.Printing.{number_with, representative_eight, representative_nine, differs, uneven, side_text, rule_text}
-use Rattle.lls_hensel.specs.Reading.{Cut, cut, side_read, side_entries, side_before, is_slash, is_survival_mark, survival_after, both_sides, birth_first, entries_of, and_then}
-use Rattle.lls_hensel.specs.declared.read.RuleError.{RuleError}
+use Rattle.lls_hensel.specs.Reading.{Cut, side_read, side_entries, side_before, is_slash, is_survival_mark, survival_after, both_sides, birth_first, entries_of, and_then}
 use Rattle.lls_hensel.proofs.Back.{own_answer}
-use Rattle.lls_hensel.proofs.SidesBack.{texts, is_inside, said, IsSideBack, SideBack, whole_side_back}
+use Rattle.lls_hensel.proofs.SidesBack.{texts, is_inside, whole_side_back}
 use Rattle.lls_hensel.proofs.Tells.{around-eight_of}
 use Rattle.lls_hensel.proofs.Uneven.{from_beq}
 use Rattle.lls_hensel.proofs.With.{next_of-append}
@@ -25,11 +24,11 @@ none_found : (p : ℕ → Bool) (from many : ℕ) → find p (range_with_len fro
 none_found p from zero e k h g = absurd (omega arith)
 none_found p from (suc many) e k h g =
     (elim (p from) as (λ b. p from ≡ b → cond b (Some from) (find p (range_with_len (from + 1) many)) ≡ None → p k ≡ false) [
-        true ↦ λ t e. cc
+      | true ↦ λ t e. cc
       | false ↦ λ f e. elim (cases_eq k from) [
-            inl is ↦ ap p is ∙ f
-          | inr other ↦ none_found p (from + 1) many e k (omega arith) (omega arith)
-        ]
+        | inl is ↦ ap p is ∙ f
+        | inr other ↦ none_found p (from + 1) many e k (omega arith) (omega arith)
+      ]
     ]) refl e
 
 pub isotropic : (table : List Bool) → uneven table ≡ None → (n : ℕ) → n < 512 → answer table n ≡ answer table (representative_nine n)
@@ -70,7 +69,7 @@ own_representative table h n within e =
 chosen : (table : List Bool) (n : ℕ) → n < 512 → cond (has_bit n 4) (own_answer table true (around_number n)) (own_answer table false (around_number n)) ≡ answer table (representative_nine n)
 chosen table n within =
     (elim (has_bit n 4) as (λ h. has_bit n 4 ≡ h → cond h (own_answer table true (around_number n)) (own_answer table false (around_number n)) ≡ answer table (representative_nine n)) [
-        true ↦ own_representative table true n within
+      | true ↦ own_representative table true n within
       | false ↦ own_representative table false n within
     ]) refl
 
@@ -78,10 +77,10 @@ chosen table n within =
 table_back : (table : List Bool) → length table ≡ 512 → uneven table ≡ None → table ≡ table_of (next_of (entries_back table false ++ entries_back table true))
 table_back table whole even =
     same_table_of table (next_of (entries_back table false ++ entries_back table true)) whole (λ n h.
-        isotropic table even n h ∙ sym (next_of-append (entries_back table false) (entries_back table true) n ∙
-            (ap (λ b. b || next_of (entries_back table true) n) (next_of-back table false n h) ∙
-            (ap (λ b. (beq false (has_bit n 4) && own_answer table false (around_number n)) || b) (next_of-back table true n h) ∙
-            (both_answers (has_bit n 4) (own_answer table false (around_number n)) (own_answer table true (around_number n)) ∙ chosen table n h)))))
+    isotropic table even n h ∙ sym (next_of-append (entries_back table false) (entries_back table true) n ∙
+    (ap (λ b. b || next_of (entries_back table true) n) (next_of-back table false n h) ∙
+    (ap (λ b. (beq false (has_bit n 4) && own_answer table false (around_number n)) || b) (next_of-back table true n h) ∙
+    (both_answers (has_bit n 4) (own_answer table false (around_number n)) (own_answer table true (around_number n)) ∙ chosen table n h)))))
 
 side_is : (table : List Bool) → side_before (λ byte. is_slash byte || is_survival_mark byte) (side_text table false ++ 47 ∷ 83 ∷ side_text table true) ≡ side_text table false
 unfolding side_text

@@ -34,7 +34,7 @@ next_take side at h =
     let rest = drop (at + 1) side in
     let m = length (before_digit rest) in
     let front : take (1 + m) (get_or side at 0 ∷ rest) ≡ get_or side at 0 ∷ before_digit rest =
-        ap (λ n. take n (get_or side at 0 ∷ rest)) (one_more m) ∙ ap (λ bytes. get_or side at 0 ∷ bytes) (taken rest) in
+    ap (λ n. take n (get_or side at 0 ∷ rest)) (one_more m) ∙ ap (λ bytes. get_or side at 0 ∷ bytes) (taken rest) in
     take-add at (1 + m) side ∙ ap (λ bytes. take at side ++ bytes) (ap (take (1 + m)) (from_place side at h) ∙ front)
 
 pub next_at_digit : (side : List ℕ) (at : ℕ) → before_digit (drop (at + (1 + length (before_digit (drop (at + 1) side)))) side) ≡ []
@@ -44,7 +44,7 @@ next_at_digit side at =
 -- the groups from a place on are the group there and those behind it
 pub groups_at-step : (column : ℕ) (side : List ℕ) (at : ℕ) → at < length side → before_digit (drop at side) ≡ [] →
     groups_at column side at ≡ and_then (group_read (column + at) (take at side) (get_or side at 0) (before_digit (drop (at + 1) side))) (λ group.
-        and_then (groups_at column side (at + (1 + length (before_digit (drop (at + 1) side))))) (λ groups. Ok (group ∷ groups)))
+    and_then (groups_at column side (at + (1 + length (before_digit (drop (at + 1) side))))) (λ groups. Ok (group ∷ groups)))
 unfolding groups_at
 groups_at-step column side at h e =
     let digit = get_or side at 0 in
@@ -53,9 +53,9 @@ groups_at-step column side at h e =
     let next = at + (1 + length tail) in
     let here = (cut_at_digit digit rest (subst (λ bytes. before_digit bytes ≡ []) (from_place side at h) e)).1 in
     let behind : groups_read (column + at + (1 + length tail)) (take at side ++ digit ∷ tail) (cut rest).1 ≡ groups_read (column + next) (take next side) (cut (drop next side)).1 =
-        ap (λ n. groups_read n (take at side ++ digit ∷ tail) (cut rest).1) (add_assoc column at (1 + length tail)) ∙
-        (ap (λ before. groups_read (column + next) before (cut rest).1) (sym (next_take side at h)) ∙
-        sym (ap (λ bytes. groups_read (column + next) (take next side) (cut bytes).1) (next_drop side at) ∙ ap (λ (pair : Cut). groups_read (column + next) (take next side) pair.1) (cut-drop rest))) in
+    ap (λ n. groups_read n (take at side ++ digit ∷ tail) (cut rest).1) (add_assoc column at (1 + length tail)) ∙
+    (ap (λ before. groups_read (column + next) before (cut rest).1) (sym (next_take side at h)) ∙
+    sym (ap (λ bytes. groups_read (column + next) (take next side) (cut bytes).1) (next_drop side at) ∙ ap (λ (pair : Cut). groups_read (column + next) (take next side) pair.1) (cut-drop rest))) in
     ap (λ bytes. groups_read (column + at) (take at side) (cut bytes).1) (from_place side at h) ∙
     (ap (λ (pair : Cut). groups_read (column + at) (take at side) pair.1) here ∙
     ap (λ read. and_then (group_read (column + at) (take at side) digit tail) (λ group. and_then read (λ groups. Ok (group ∷ groups)))) behind)
@@ -70,7 +70,7 @@ table_read-cons survival table group (Err fault) = refl
 listed_is : (column count : ℕ) (minus : Bool) (letters : List ℕ) (group : Group) → listed column count minus letters ≡ Ok group → record { count = count; minus = minus; letters = letters } ≡ group
 listed_is column count minus letters group =
     elim (letters_read column count [] letters) as (λ r. and_then r (λ _. Ok (record { count = count; minus = minus; letters = letters })) ≡ Ok group → record { count = count; minus = minus; letters = letters } ≡ group) [
-        Ok _ ↦ λ e. cc
+      | Ok _ ↦ λ e. cc
       | Err _ ↦ λ e. cc
     ]
 
@@ -83,10 +83,10 @@ tail_read-length column count [] group =
     λ e. let is : record { count = count; minus = false; letters = [] } ≡ group = cc in sym (ap group_length is)
 tail_read-length column count (byte ∷ rest) group =
     elim (byte == 45) as (λ b. cond b (cond (letter_first rest) (listed (column + 1) count true rest) (Err (NoLetters column))) (listed column count false (byte ∷ rest)) ≡ Ok group → cond group.minus 1 0 + length group.letters ≡ length (byte ∷ rest)) [
-        true ↦ elim (letter_first rest) as (λ b. cond b (listed (column + 1) count true rest) (Err (NoLetters column)) ≡ Ok group → cond group.minus 1 0 + length group.letters ≡ length (byte ∷ rest)) [
-            true ↦ λ e. sym (ap group_length (listed_is (column + 1) count true rest group e)) ∙ one_more (length rest)
-          | false ↦ λ e. cc
-        ]
+      | true ↦ elim (letter_first rest) as (λ b. cond b (listed (column + 1) count true rest) (Err (NoLetters column)) ≡ Ok group → cond group.minus 1 0 + length group.letters ≡ length (byte ∷ rest)) [
+        | true ↦ λ e. sym (ap group_length (listed_is (column + 1) count true rest group e)) ∙ one_more (length rest)
+        | false ↦ λ e. cc
+      ]
       | false ↦ λ e. sym (ap group_length (listed_is column count false (byte ∷ rest) group e)) ∙ zero-add (length (byte ∷ rest))
     ]
 
@@ -94,7 +94,7 @@ tail_read-length column count (byte ∷ rest) group =
 pub group_read-length : (column : ℕ) (before : List ℕ) (digit : ℕ) (tail : List ℕ) (group : Group) → group_read column before digit tail ≡ Ok group → cond group.minus 1 0 + length group.letters ≡ length tail
 group_read-length column before digit tail group =
     elim (among before digit) as (λ b. cond b (Err (RepeatedDigit column)) (tail_read (column + 1) (digit - 48) tail) ≡ Ok group → cond group.minus 1 0 + length group.letters ≡ length tail) [
-        true ↦ λ e. cc
+      | true ↦ λ e. cc
       | false ↦ λ e. tail_read-length (column + 1) (digit - 48) tail group e
     ]
 
@@ -114,12 +114,13 @@ table_read-group survival table column side at group len h e g is =
     let tail = before_digit (drop (at + 1) side) in
     let long : cond group.minus 1 0 + length group.letters ≡ length tail = group_read-length (column + at) (take at side) (get_or side at 0) tail group g in
     let next : len ≡ 1 + length tail = omega (arith, is, long) in
-    let short : length tail ≤ length (drop (at + 1) side) = omega (arith, ap length (taken (drop (at + 1) side)), length-take (length tail) (drop (at + 1) side)) in
-    (omega (arith, next, short, length-drop (at + 1) side),
-     subst (λ n. before_digit (drop (at + n) side) ≡ []) (sym next) (next_at_digit side at),
-     ap (table_read survival table) (groups_at-step column side at h e ∙ ap (λ read. and_then read (λ group. and_then (groups_at column side (at + (1 + length tail))) (λ groups. Ok (group ∷ groups)))) g) ∙
-     (table_read-cons survival table group (groups_at column side (at + (1 + length tail))) ∙
-     ap (λ n. table_read survival (with_entries table (entries_of_group survival group)) (groups_at column side (at + n))) (sym next)))
+    let short : length tail ≤ length (drop (at + 1) side) = omega (arith, ap length (taken (drop (at + 1) side)), length-take (length tail) (drop (at + 1) side)) in (
+      omega (arith, next, short, length-drop (at + 1) side),
+      subst (λ n. before_digit (drop (at + n) side) ≡ []) (sym next) (next_at_digit side at),
+      ap (table_read survival table) (groups_at-step column side at h e ∙ ap (λ read. and_then read (λ group. and_then (groups_at column side (at + (1 + length tail))) (λ groups. Ok (group ∷ groups)))) g) ∙
+          (table_read-cons survival table group (groups_at column side (at + (1 + length tail))) ∙
+          ap (λ n. table_read survival (with_entries table (entries_of_group survival group)) (groups_at column side (at + n))) (sym next)),
+    )
 
 drop_past : (n : ℕ) (bytes : List ℕ) → length bytes ≤ n → drop n bytes ≡ []
 drop_past zero [] h = refl

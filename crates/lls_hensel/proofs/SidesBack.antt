@@ -1,8 +1,8 @@
 -- The text that is printed for a side is read back.
-use Rattle.std.proofs.Common.{◌≡◌, ◌≢◌, inl, inr, ℕ, zero, suc, ◌+◌, ◌-◌, ◌<◌, ◌≤◌, nat_eq, nat_le, Bool, true, false, cond, not, ◌&&◌, ◌||◌, List, [], ◌∷◌, ◌++◌, flat_map, length, Result, Ok, Err, refl, ap, ◌∙◌, sym, subst, arith, append_assoc}
-use Rattle.std.specs.List.{range_with_len, list_any, list_all}
+use Rattle.std.proofs.Common.{◌≡◌, ◌≢◌, inl, inr, ℕ, zero, suc, ◌+◌, ◌-◌, ◌<◌, ◌≤◌, nat_eq, nat_le, Bool, true, false, cond, not, ◌&&◌, ◌||◌, List, [], ◌∷◌, ◌++◌, flat_map, length, Ok, Err, refl, ap, ◌∙◌, sym, arith}
+use Rattle.std.specs.List.{range_with_len, list_all}
 use Rattle.std.proofs.Math.Bool.{beq, or-false}
-use Rattle.std.proofs.lemmas.Bool.{and_parts, and_from, or_from, le-leb, lt-leb, ne_eqb, eq-eqb, eqb-true, false_from_ne_true, or_cases, cases_lt, and_left, and_right}
+use Rattle.std.proofs.lemmas.Bool.{and_parts, and_from, or_from, le-leb, lt-leb, ne_eqb, eq-eqb, eqb-true, false_from_ne_true, cases_lt, and_left, and_right}
 use Rattle.std.proofs.lemmas.Bool.Decides.{eqb_tells}
 use Rattle.std.proofs.lemmas.List.Folds.{list_any-append, list_all-append}
 use Rattle.lls_rule.specs.Rule.{has_bit}
@@ -10,10 +10,9 @@ use Rattle.lls_hensel.specs.Entries.{Group, among, next_of, stands_for, entries_
 use Rattle.lls_hensel.specs.Groups.{around_number}
 use Rattle.lls_hensel.specs.Numbers.{class_by_number}
 use Rattle.lls_hensel.specs.Printing.{group_text}
-use Rattle.lls_hensel.specs.Reading.{Cut, cut, cut_before, is_count, is_slash, is_survival_mark, group_read, groups_read, tail_read, and_then}
-use Rattle.lls_hensel.specs.declared.read.RuleError.{RuleError}
+use Rattle.lls_hensel.specs.Reading.{cut, cut_before, is_count, is_slash, is_survival_mark, group_read, groups_read, tail_read, and_then}
 use Rattle.lls_hensel.specs.declared.read.RuleError.TheVariants.{RepeatedDigit}
-use Rattle.lls_hensel.proofs.Back.{own_answer, is_behind, IsAbsent, IsPresent, GroupBack, group_back}
+use Rattle.lls_hensel.proofs.Back.{own_answer, is_behind, IsAbsent, IsPresent, group_back}
 use Rattle.lls_hensel.proofs.Tells.{next_of-entries_of_group, around_number-lt, counts-le}
 use Rattle.lls_hensel.proofs.With.{next_of-append}
 
@@ -71,7 +70,7 @@ among-behind (x ∷ xs) digit h e =
 from_next : (a o : ℕ) → o ≢ a → nat_le a o ≡ nat_le (a + 1) o
 from_next a o h =
     elim (cases_lt a o) [
-        inl l ↦ le-leb a o (omega arith) ∙ sym (le-leb (a + 1) o (omega arith))
+      | inl l ↦ le-leb a o (omega arith) ∙ sym (le-leb (a + 1) o (omega arith))
       | inr g ↦ lt-leb a o (omega (arith, h)) ∙ sym (lt-leb (a + 1) o (omega arith))
     ]
 
@@ -83,17 +82,23 @@ said-nine table survival from n h e =
 
 side_end : (table : List Bool) (survival : Bool) (from : ℕ) → from + 0 ≡ 9 → SideBack table survival from 0
 unfolding next_of
-side_end table survival from e = ([], [], record {
+side_end table survival from e = (
+  [],
+  [],
+  record {
     cuts = refl;
     inside = refl;
     reads = λ column before h. refl;
-    says = λ n h. said-nine table survival from n h (omega (arith, e))
-  })
+    says = λ n h. said-nine table survival from n h (omega (arith, e));
+  },
+)
 
 side_absent : (table : List Bool) (survival : Bool) (from many : ℕ) → IsAbsent table survival from → SideBack table survival (from + 1) many → SideBack table survival from (suc many)
 side_absent table survival from many gone (pairs, groups, rest) =
-    let same : texts table survival from (suc many) ≡ texts table survival (from + 1) many = ap (λ bytes. bytes ++ texts table survival (from + 1) many) gone.text in
-    (pairs, groups, record {
+    let same : texts table survival from (suc many) ≡ texts table survival (from + 1) many = ap (λ bytes. bytes ++ texts table survival (from + 1) many) gone.text in (
+      pairs,
+      groups,
+      record {
         cuts = ap cut same ∙ rest.cuts;
         inside = ap (list_all is_inside) same ∙ rest.inside;
         reads = λ column before h. rest.reads column before (λ k l g. h k (omega arith) (omega arith));
@@ -101,11 +106,12 @@ side_absent table survival from many gone (pairs, groups, rest) =
             let own = class_by_number (around_number n) in
             let q = own_answer table survival (around_number n) in
             rest.says n h ∙ ap (λ b. beq survival (has_bit n 4) && b)
-                (elim (eqb_tells own.count from) [
-                    inl t ↦ and_right (nat_le (from + 1) own.count) q (gone.out (around_number n) (around_number-lt n h) t.1) ∙ sym (and_right (nat_le from own.count) q (gone.out (around_number n) (around_number-lt n h) t.1))
-                  | inr t ↦ ap (λ b. b && q) (sym (from_next from own.count t.1))
-                ])
-      })
+            (elim (eqb_tells own.count from) [
+              | inl t ↦ and_right (nat_le (from + 1) own.count) q (gone.out (around_number n) (around_number-lt n h) t.1) ∙ sym (and_right (nat_le from own.count) q (gone.out (around_number n) (around_number-lt n h) t.1))
+              | inr t ↦ ap (λ b. b && q) (sym (from_next from own.count t.1))
+            ]);
+      },
+    )
 
 -- a group, and what is said behind it
 joined : (side here own from next q : Bool) → (here ≡ true → (own ≡ q) × (from ≡ true) × (next ≡ false)) → (here ≡ false → from ≡ next) →
@@ -121,20 +127,22 @@ side_present : (table : List Bool) (survival : Bool) (from many : ℕ) (tail : L
 side_present table survival from many tail group low end here (pairs, groups, rest) =
     let behind = texts table survival (from + 1) many in
     let digit = 48 + from in
-    let same : texts table survival from (suc many) ≡ digit ∷ tail ++ behind = ap (λ bytes. bytes ++ behind) here.text in
-    ((digit, tail) ∷ pairs, group ∷ groups, record {
+    let same : texts table survival from (suc many) ≡ digit ∷ tail ++ behind = ap (λ bytes. bytes ++ behind) here.text in (
+      (digit, tail) ∷ pairs,
+      group ∷ groups,
+      record {
         cuts = ap cut same ∙ (ap (λ b. cut_before b digit (cut (tail ++ behind))) (digit_counts from low) ∙ ap (cut_before true digit) (cut-behind tail behind pairs here.behind rest.cuts));
         inside = ap (list_all is_inside) same ∙ and_from (is_inside digit) (list_all is_inside (tail ++ behind)) (digit_inside from low)
             (list_all-append is_inside tail behind ∙ and_from (list_all is_inside tail) (list_all is_inside behind) (behind_inside tail here.behind) rest.inside);
         reads = λ column before h.
             let alone : group_read column before digit tail ≡ Ok group =
-                ap (λ b. cond b (Err (RepeatedDigit column)) (tail_read (column + 1) (digit - 48) tail)) (h from (omega arith) (omega arith)) ∙
-                (ap (λ count. tail_read (column + 1) count tail) (omega arith) ∙ here.reads (column + 1)) in
+            ap (λ b. cond b (Err (RepeatedDigit column)) (tail_read (column + 1) (digit - 48) tail)) (h from (omega arith) (omega arith)) ∙
+            (ap (λ count. tail_read (column + 1) count tail) (omega arith) ∙ here.reads (column + 1)) in
             let others : groups_read (column + (1 + length tail)) (before ++ digit ∷ tail) pairs ≡ Ok groups =
-                rest.reads (column + (1 + length tail)) (before ++ digit ∷ tail) (λ k l g.
-                    list_any-append (λ other. nat_eq other (48 + k)) before (digit ∷ tail) ∙
-                    or_from (among before (48 + k)) (among (digit ∷ tail) (48 + k)) (h k (omega arith) (omega arith))
-                        (or_from (nat_eq digit (48 + k)) (among tail (48 + k)) (ne_eqb digit (48 + k) (λ e. absurd (omega arith))) (among-behind tail (48 + k) here.behind (digit_counts k (omega arith))))) in
+            rest.reads (column + (1 + length tail)) (before ++ digit ∷ tail) (λ k l g.
+            list_any-append (λ other. nat_eq other (48 + k)) before (digit ∷ tail) ∙
+            or_from (among before (48 + k)) (among (digit ∷ tail) (48 + k)) (h k (omega arith) (omega arith))
+            (or_from (nat_eq digit (48 + k)) (among tail (48 + k)) (ne_eqb digit (48 + k) (λ e. absurd (omega arith))) (among-behind tail (48 + k) here.behind (digit_counts k (omega arith))))) in
             ap (λ read. and_then read (λ group. and_then (groups_read (column + (1 + length tail)) (before ++ digit ∷ tail) pairs) (λ groups. Ok (group ∷ groups)))) alone ∙
             ap (λ read. and_then read (λ groups. Ok (group ∷ groups))) others;
         says = λ n h.
@@ -147,17 +155,18 @@ side_present table survival from many tail group low end here (pairs, groups, re
             (ap (λ b. b || next_of (flat_map (entries_of_group survival) groups) n) (next_of-entries_of_group survival group n h) ∙
             (ap (λ b. (side && (nat_eq group.count own.count && stands_for group own.letter)) || b) (rest.says n h) ∙
             joined side (nat_eq group.count own.count) (stands_for group own.letter) (nat_le from own.count) (nat_le (from + 1) own.count) q
-                (λ t. let is : own.count ≡ from = sym (eqb-true group.count own.count t) ∙ here.counts in
-                    (here.stands e within is, le-leb from own.count (omega (arith, is)), lt-leb (from + 1) own.count (omega (arith, is))))
-                (λ f. from_next from own.count (λ is. let t = eq-eqb group.count own.count (here.counts ∙ sym is) in cc))))
-      })
+            (λ t. let is : own.count ≡ from = sym (eqb-true group.count own.count t) ∙ here.counts in
+            (here.stands e within is, le-leb from own.count (omega (arith, is)), lt-leb (from + 1) own.count (omega (arith, is))))
+            (λ f. from_next from own.count (λ is. let t = eq-eqb group.count own.count (here.counts ∙ sym is) in cc))));
+      },
+    )
 
 side_back : (table : List Bool) (survival : Bool) (from many : ℕ) → from + many ≡ 9 → SideBack table survival from many
 side_back table survival from zero e = side_end table survival from e
 side_back table survival from (suc many) e =
     let rest = side_back table survival (from + 1) many (omega arith) in
     elim (group_back table survival from (omega arith)) [
-        inl gone ↦ side_absent table survival from many gone rest
+      | inl gone ↦ side_absent table survival from many gone rest
       | inr (tail, group, here) ↦ side_present table survival from many tail group (omega arith) e here rest
     ]
 

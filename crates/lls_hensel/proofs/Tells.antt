@@ -1,5 +1,5 @@
 -- What a group says of a neighbourhood, by the class of the eight round its centre.
-use Rattle.std.proofs.Common.{◌≡◌, ℕ, bit_and, ◌+◌, ◌/◌, ◌<◌, ◌≤◌, ◌∙◌, sym, ap, inl, inr, nat_eq, nat_le, nat_lt, Bool, true, false, cond, not, ◌&&◌, ◌||◌, List, [], ◌∷◌, map, filter, Option, Some, None, refl, arith, subst}
+use Rattle.std.proofs.Common.{◌≡◌, ℕ, bit_and, ◌<◌, ◌≤◌, ◌∙◌, sym, ap, inl, inr, nat_eq, nat_le, nat_lt, Bool, true, false, cond, not, ◌&&◌, ◌||◌, List, [], ◌∷◌, map, filter, Option, Some, None, refl, arith, subst}
 use Rattle.std.specs.Int.Count.{ones}
 use Rattle.std.specs.List.{list_any}
 use Rattle.std.specs.Cmp.Lexicographic.{pointwise}
@@ -15,7 +15,7 @@ use Rattle.lls_rule.specs.Rule.{has_bit}
 use Rattle.lls_hensel.specs.declared.class.Class.{Class}
 use Rattle.lls_rule.proofs.Counts.{centre_test}
 use Rattle.lls_hensel.proofs.Classes.{classes_of-class_by_number}
-use Rattle.lls_hensel.specs.Class.{Picture, classes_of, pictures, same_letter, is_of_class}
+use Rattle.lls_hensel.specs.Class.{classes_of, pictures, same_letter, is_of_class}
 use Rattle.lls_hensel.specs.Neighbours.{eight_of, around, are_images}
 use Rattle.lls_hensel.specs.Numbers.{class_by_number, letter_by_number, representative_by_number, representatives_of, representatives_of_fewer, images_by_number, fewer_of, turned, mirrored}
 use Rattle.lls_hensel.specs.Entries.{Entry, Group, tells, next_of, letters_of, stands_for, entries_of_group}
@@ -59,8 +59,8 @@ letters_same (x ∷ xs) (y ∷ ys) h =
 letters_found-eight_of : (n count : ℕ) → n < 256 → count < 9 → letters_found count (eight_of n) ≡ letter_at_count (class_by_number n) count
 letters_found-eight_of n count h g =
     letters_same (letters_found count (eight_of n)) (letter_at_count (class_by_number n) count)
-        (agree_below_at (λ count. pointwise same_letter (letters_found count (eight_of n)) (letter_at_count (class_by_number n) count)) (λ _. true) 9 count
-            (agree_below_at (λ n. agree_below (λ count. pointwise same_letter (letters_found count (eight_of n)) (letter_at_count (class_by_number n) count)) (λ _. true) 9) (λ _. true) 256 n found_at_each h) g)
+    (agree_below_at (λ count. pointwise same_letter (letters_found count (eight_of n)) (letter_at_count (class_by_number n) count)) (λ _. true) 9 count
+    (agree_below_at (λ n. agree_below (λ count. pointwise same_letter (letters_found count (eight_of n)) (letter_at_count (class_by_number n) count)) (λ _. true) 9) (λ _. true) 256 n found_at_each h) g)
 
 pub counts-le : (n : ℕ) → n < 256 → (class_by_number n).count ≤ 8
 counts-le n h = leb-true (class_by_number n).count 8 (and_parts _ _ (agree_below_at (λ n. nat_le (class_by_number n).count 8 && list_any (same_letter (class_by_number n).letter) (letters_of (class_by_number n).count)) (λ _. true) 256 n letters_are_counts h)).0
@@ -73,14 +73,14 @@ any_filtered keep f test [] = refl
 any_filtered keep f test (x ∷ xs) =
     let more = any_filtered keep f test xs in
     elim (keep x) as (λ b. ((b && test (f x)) || list_any (λ x. keep x && test (f x)) xs) ≡ list_any test (map f (cond b (x ∷ filter keep xs) (filter keep xs)))) [
-        true ↦ ap (λ r. test (f x) || r) more
+      | true ↦ ap (λ r. test (f x) || r) more
       | false ↦ more
     ]
 
 at_count : (count own : ℕ) (letter other : Option ℕ) → list_any (λ l. same_letter l other) (cond (nat_eq count own) (letter ∷ []) []) ≡ (nat_eq count own && same_letter letter other)
 at_count count own letter other =
     elim (nat_eq count own) as (λ b. list_any (λ l. same_letter l other) (cond b (letter ∷ []) []) ≡ (b && same_letter letter other)) [
-        true ↦ or-false (same_letter letter other)
+      | true ↦ or-false (same_letter letter other)
       | false ↦ refl
     ]
 
@@ -91,9 +91,9 @@ found_by_letter : (n : ℕ) (class : Class) → n < 256 → list_any (λ l. same
 unfolding letters_found letter_at_count
 found_by_letter n class h =
     elim (leb_tells class.count 8) [
-        inl t ↦ ap (list_any (λ l. same_letter l class.letter)) (letters_found-eight_of n class.count h (omega (arith, t.1))) ∙ at_count class.count (class_by_number n).count (class_by_number n).letter class.letter
+      | inl t ↦ ap (list_any (λ l. same_letter l class.letter)) (letters_found-eight_of n class.count h (omega (arith, t.1))) ∙ at_count class.count (class_by_number n).count (class_by_number n).letter class.letter
       | inr t ↦ ap (λ ps. list_any (λ l. same_letter l class.letter) (map (λ p. p.letter) (filter (λ p. are_images p.eight (eight_of n)) ps))) (pictures_none class.count t.1) ∙
-            sym (and_left (nat_eq class.count (class_by_number n).count) _ (ne_eqb class.count (class_by_number n).count (λ e. absurd (omega (arith, counts-le n h, t.1)))))
+          sym (and_left (nat_eq class.count (class_by_number n).count) _ (ne_eqb class.count (class_by_number n).count (λ e. absurd (omega (arith, counts-le n h, t.1)))))
     ]
 
 -- eight neighbours are of a class where it is the class that the code finds
@@ -105,7 +105,7 @@ is_of_class-eight_of n class h =
 around_told : (n : ℕ) → n < 512 → (nat_lt (around_number n) 256 ≡ true) × (pointwise beq (around n) (eight_of (around_number n)) ≡ true)
 around_told n h =
     and_parts (nat_lt (around_number n) 256) (pointwise beq (around n) (eight_of (around_number n)))
-        (agree_below_at (λ n. nat_lt (around_number n) 256 && pointwise beq (around n) (eight_of (around_number n))) (λ _. true) 512 n around_as_number h)
+    (agree_below_at (λ n. nat_lt (around_number n) 256 && pointwise beq (around n) (eight_of (around_number n))) (λ _. true) 512 n around_as_number h)
 
 pub around_number-lt : (n : ℕ) → n < 512 → around_number n < 256
 around_number-lt n h = ltb-true (around_number n) 256 (around_told n h).0
@@ -130,21 +130,21 @@ any_const b f xs = elim b as (λ v. list_any (λ x. v && f x) xs ≡ (v && list_
 
 own_chosen : (group : Group) (n : ℕ) → n < 256 →
     (nat_eq group.count (class_by_number n).count && list_any (same_letter (class_by_number n).letter) (filter (stands_for group) (letters_of group.count))) ≡
-        (nat_eq group.count (class_by_number n).count && stands_for group (class_by_number n).letter)
+    (nat_eq group.count (class_by_number n).count && stands_for group (class_by_number n).letter)
 own_chosen group n h =
     let own = class_by_number n in
     elim (eqb_tells group.count own.count) [
-        inl t ↦ ap (λ b. nat_eq group.count own.count && b)
-            (any-filter_same (same_letter own.letter) (stands_for group) (stands_for group own.letter) (λ l e. ap (stands_for group) (sym (letter_same own.letter l e))) (letters_of group.count) ∙
-                (ap (λ count. stands_for group own.letter && list_any (same_letter own.letter) (letters_of count)) t.1 ∙
-                (ap (λ b. stands_for group own.letter && b) (own_letter n h) ∙ and-true (stands_for group own.letter))))
+      | inl t ↦ ap (λ b. nat_eq group.count own.count && b)
+          (any-filter_same (same_letter own.letter) (stands_for group) (stands_for group own.letter) (λ l e. ap (stands_for group) (sym (letter_same own.letter l e))) (letters_of group.count) ∙
+          (ap (λ count. stands_for group own.letter && list_any (same_letter own.letter) (letters_of count)) t.1 ∙
+          (ap (λ b. stands_for group own.letter && b) (own_letter n h) ∙ and-true (stands_for group own.letter))))
       | inr t ↦ and_left (nat_eq group.count own.count) _ t.0 ∙ sym (and_left (nat_eq group.count own.count) _ t.0)
     ]
 
 -- what a group says of a neighbourhood, by the class of the eight
 pub next_of-entries_of_group : (survival : Bool) (group : Group) (n : ℕ) → n < 512 →
     next_of (entries_of_group survival group) n ≡
-        (beq survival (has_bit n 4) && (nat_eq group.count (class_by_number (around_number n)).count && stands_for group (class_by_number (around_number n)).letter))
+    (beq survival (has_bit n 4) && (nat_eq group.count (class_by_number (around_number n)).count && stands_for group (class_by_number (around_number n)).letter))
 unfolding next_of entries_of_group tells
 next_of-entries_of_group survival group n h =
     let own = class_by_number (around_number n) in
@@ -154,7 +154,7 @@ next_of-entries_of_group survival group n h =
     let chosen = filter (stands_for group) (letters_of group.count) in
     any_map (tells n) make chosen ∙
     (any_congr (λ l. tells n (make l)) (λ l. side && (nat_eq group.count own.count && same_letter own.letter l))
-        (λ l. ap (λ b. side && b) (ap (λ eight. is_of_class eight (record { count = group.count; letter = l })) (around-eight_of n h) ∙ is_of_class-eight_of (around_number n) (record { count = group.count; letter = l }) within)) chosen ∙
+    (λ l. ap (λ b. side && b) (ap (λ eight. is_of_class eight (record { count = group.count; letter = l })) (around-eight_of n h) ∙ is_of_class-eight_of (around_number n) (record { count = group.count; letter = l }) within)) chosen ∙
     (any_const side (λ l. nat_eq group.count own.count && same_letter own.letter l) chosen ∙
     ap (λ b. side && b) (any_const (nat_eq group.count own.count) (same_letter own.letter) chosen ∙ own_chosen group (around_number n) within)))
 

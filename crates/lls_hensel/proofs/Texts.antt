@@ -1,11 +1,11 @@
 -- The text of a rule by its parts.
-use Rattle.std.proofs.Common.{◌≡◌, ◌≢◌, ℕ, zero, suc, ◌+◌, ◌<◌, ◌≤◌, nat_eq, nat_le, Bool, cond, List, [], ◌∷◌, ◌++◌, map, flat_map, take, get_or, length, Option, refl, ap, ◌∙◌, sym, arith, append_assoc, append-nil, add-zero, zero-add, add-one, add_assoc, true, false}
+use Rattle.std.proofs.Common.{◌≡◌, ◌≢◌, ℕ, zero, suc, ◌+◌, ◌<◌, ◌≤◌, Bool, List, [], ◌∷◌, ◌++◌, map, flat_map, take, get_or, length, Option, refl, ap, ◌∙◌, sym, arith, add-zero, zero-add, add-one, true, false}
 use Rattle.std.specs.List.{range_with_len}
 use Rattle.std.proofs.lemmas.Bool.{eq-eqb, ne_eqb, le-leb, lt-leb}
 use Rattle.std.proofs.lemmas.List.{take_more, flat_map_more, length-map}
 use Rattle.lls_hensel.specs.Numbers.{classes_by_number, representatives_of, letter_text}
 use Rattle.lls_hensel.specs.Printing.{letters_at}
-use Rattle.lls_hensel.specs.Printing.{named, grouped, group_text, side_text, rule_text}
+use Rattle.lls_hensel.specs.Printing.{named, grouped, group_text}
 use Rattle.lls_hensel.proofs.Representatives.{letters_at-classes, letter_text-classes}
 
 pub text_more : {X : Type 0} (f : X → List ℕ) (old text now : List ℕ) (xs : List X) (i : ℕ) (d : X) → i < length xs →
@@ -20,7 +20,7 @@ range_more a (suc n) = ap (λ ms. a ∷ ms) (range_more (a + 1) n ∙ ap (λ m. 
 pub count_more : (f : ℕ → List ℕ) (old text now : List ℕ) (n : ℕ) → text ≡ old ++ flat_map f (range_with_len 0 n) → now ≡ text ++ f n → now ≡ old ++ flat_map f (range_with_len 0 (n + 1))
 count_more f old text now n e g =
     let range : range_with_len 0 (n + 1) ≡ range_with_len 0 n ++ n ∷ [] =
-        ap (range_with_len 0) (add-one n) ∙ (range_more 0 n ∙ ap (λ m. range_with_len 0 n ++ m ∷ []) (zero-add n)) in
+    ap (range_with_len 0) (add-one n) ∙ (range_more 0 n ∙ ap (λ m. range_with_len 0 n ++ m ∷ []) (zero-add n)) in
     g ∙ (ap (λ bytes. bytes ++ f n) e ∙ (flat_map_more f old (range_with_len 0 n) n ∙ ap (λ ys. old ++ flat_map f ys) (sym range)))
 
 -- a group's text by how many letters are in and out
@@ -67,10 +67,10 @@ pub group_text-few : (table : List Bool) (survival : Bool) (count a b : ℕ) →
     a ≢ 0 → b ≢ 0 → a ≤ b → group_text table survival count ≡ (48 + count) ∷ flat_map (letter_text table survival count true) (representatives_of count)
 group_text-few table survival count a b h e g y z l =
     by_classes table survival count h ∙ (grouped_few (48 + count) a b _ _ (classes_counted table survival count true a e) (classes_counted table survival count false b g) y z l ∙
-        ap (λ letters. (48 + count) ∷ letters) (sym (letter_text-classes table survival count true)))
+    ap (λ letters. (48 + count) ∷ letters) (sym (letter_text-classes table survival count true)))
 
 pub group_text-many : (table : List Bool) (survival : Bool) (count a b : ℕ) → count ≤ 8 → a ≡ length (classes_by_number table survival count true) → b ≡ length (classes_by_number table survival count false) →
     a ≢ 0 → b ≢ 0 → b < a → group_text table survival count ≡ (48 + count) ∷ 45 ∷ flat_map (letter_text table survival count false) (representatives_of count)
 group_text-many table survival count a b h e g y z l =
     by_classes table survival count h ∙ (grouped_many (48 + count) a b _ _ (classes_counted table survival count true a e) (classes_counted table survival count false b g) y z l ∙
-        ap (λ letters. (48 + count) ∷ 45 ∷ letters) (sym (letter_text-classes table survival count false)))
+    ap (λ letters. (48 + count) ∷ 45 ∷ letters) (sym (letter_text-classes table survival count false)))

@@ -1,5 +1,5 @@
 -- Tables with what entries say beside them.
-use Rattle.std.proofs.Common.{◌≡◌, ℕ, ◌<◌, Bool, false, ◌||◌, List, [], ◌++◌, length, refl, ap, ◌∙◌, sym}
+use Rattle.std.proofs.Common.{◌≡◌, ℕ, ◌<◌, Bool, false, ◌||◌, List, [], ◌++◌, length, ap, ◌∙◌, sym}
 use Rattle.std.proofs.Math.Bool.{or-false, or_assoc}
 use Rattle.std.proofs.lemmas.List.Folds.{list_any-append}
 use Rattle.lls_rule.specs.Rule.{answer, table_of}
@@ -27,11 +27,11 @@ with_entries-none table whole = sym (same_table_of table _ whole (λ n h. sym (o
 pub with_entries-append : (table : List Bool) (first second : List Entry) → with_entries (with_entries table first) second ≡ with_entries table (first ++ second)
 with_entries-append table first second =
     same_tables (with_entries (with_entries table first) second) (with_entries table (first ++ second)) (length-with_entries _ second) (length-with_entries table _) (λ n h.
-        answer-with_entries (with_entries table first) second n h ∙ (ap (λ b. b || next_of second n) (answer-with_entries table first n h) ∙
-        (or_assoc (answer table n) (next_of first n) (next_of second n) ∙ (ap (λ b. answer table n || b) (sym (next_of-append first second n)) ∙ sym (answer-with_entries table (first ++ second) n h)))))
+    answer-with_entries (with_entries table first) second n h ∙ (ap (λ b. b || next_of second n) (answer-with_entries table first n h) ∙
+    (or_assoc (answer table n) (next_of first n) (next_of second n) ∙ (ap (λ b. answer table n || b) (sym (next_of-append first second n)) ∙ sym (answer-with_entries table (first ++ second) n h)))))
 
 -- entries on their own
 pub with_entries-dead : (entries : List Entry) → with_entries (table_of (λ _. false)) entries ≡ table_of (next_of entries)
 with_entries-dead entries =
     same_table_of (with_entries (table_of (λ _. false)) entries) (next_of entries) (length-with_entries _ entries) (λ n h.
-        answer-with_entries (table_of (λ _. false)) entries n h ∙ ap (λ b. b || next_of entries n) (answer-table_of (λ _. false) n h))
+    answer-with_entries (table_of (λ _. false)) entries n h ∙ ap (λ b. b || next_of entries n) (answer-table_of (λ _. false) n h))

@@ -27,7 +27,7 @@ few_live count = map (λ p. record { letter = Some p.0; eight = around p.1 }) (l
 abbrev pub pictures : ℕ → List Picture
 pictures count =
     cond (nat_le count 4) (few_live count)
-        (cond (nat_le count 8) (map (λ p. record { letter = p.letter; eight = map not p.eight }) (few_live (8 - count))) [])
+    (cond (nat_le count 8) (map (λ p. record { letter = p.letter; eight = map not p.eight }) (few_live (8 - count))) [])
 
 abbrev pub same_letter : Option ℕ → Option ℕ → Bool
 same_letter None None = true

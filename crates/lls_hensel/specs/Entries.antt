@@ -51,4 +51,4 @@ stands_for group letter =
 unfoldable pub entries_of_group : Bool → Group → List Entry
 entries_of_group survival group =
     map (λ letter. record { survival = survival; class = record { count = group.count; letter = letter } })
-        (filter (stands_for group) (letters_of group.count))
+    (filter (stands_for group) (letters_of group.count))

@@ -51,8 +51,8 @@ named (Some letter ∷ rest) = letter ∷ named rest
 abbrev pub grouped : ℕ → List (Option ℕ) → List (Option ℕ) → List ℕ
 grouped digit inside outside =
     cond (length inside == 0) []
-        (cond (length outside == 0) (digit ∷ [])
-            (cond (nat_le (length inside) (length outside)) (digit ∷ named inside) (digit ∷ 45 ∷ named outside)))
+    (cond (length outside == 0) (digit ∷ [])
+    (cond (nat_le (length inside) (length outside)) (digit ∷ named inside) (digit ∷ 45 ∷ named outside)))
 
 -- the text of a count on a side
 unfoldable pub group_text : List Bool → Bool → ℕ → List ℕ

@@ -1,5 +1,5 @@
 -- The reading of a rule text into entries, or its first fault.
-use Rattle.std.specs.Prelude.{ℕ, ◌+◌, ◌-◌, ◌==◌, nat_le, Bool, true, false, cond, not, List, [], ◌∷◌, ◌++◌, length, take, drop, flat_map, Option, Some, None, Result, Ok, Err, ◌&&◌, ◌||◌}
+use Rattle.std.specs.Prelude.{ℕ, ◌+◌, ◌-◌, ◌==◌, nat_le, Bool, true, false, cond, not, List, [], ◌∷◌, ◌++◌, length, drop, flat_map, Result, Ok, Err, ◌&&◌, ◌||◌}
 use Rattle.std.specs.Char.{is_ascii_lowercase}
 use Rattle.std.specs.List.{take_while}
 use Rattle.lls_hensel.specs.Class.{letter_among}
@@ -21,8 +21,8 @@ abbrev pub letters_read : ℕ → ℕ → List ℕ → List ℕ → Result (Unit
 letters_read column count before [] = Ok tt
 letters_read column count before (byte ∷ rest) =
     cond (not (is_ascii_lowercase byte)) (Err (Stray column))
-        (cond (not (letter_among count byte)) (Err (BadLetter column))
-            (cond (among before byte) (Err (RepeatedLetter column)) (letters_read (column + 1) count (before ++ byte ∷ []) rest)))
+    (cond (not (letter_among count byte)) (Err (BadLetter column))
+    (cond (among before byte) (Err (RepeatedLetter column)) (letters_read (column + 1) count (before ++ byte ∷ []) rest)))
 
 -- whether a letter stands first
 abbrev pub letter_first : List ℕ → Bool
@@ -39,7 +39,7 @@ abbrev pub tail_read : ℕ → ℕ → List ℕ → Result Group RuleError
 tail_read column count [] = Ok (record { count = count; minus = false; letters = [] })
 tail_read column count (byte ∷ rest) =
     cond (byte == 45) (cond (letter_first rest) (listed (column + 1) count true rest) (Err (NoLetters column)))
-        (listed column count false (byte ∷ rest))
+    (listed column count false (byte ∷ rest))
 
 -- bytes, cut before each digit: what stands before the first, and each digit with what follows it
 abbrev pub Cut : Type 0
@@ -66,7 +66,7 @@ abbrev pub groups_read : ℕ → List ℕ → List (ℕ × List ℕ) → Result 
 groups_read column before [] = Ok []
 groups_read column before ((digit, tail) ∷ rest) =
     and_then (group_read column before digit tail) (λ group.
-        and_then (groups_read (column + (1 + length tail)) (before ++ digit ∷ tail) rest) (λ groups. Ok (group ∷ groups)))
+    and_then (groups_read (column + (1 + length tail)) (before ++ digit ∷ tail) rest) (λ groups. Ok (group ∷ groups)))
 
 -- the fault of a byte that stands before the first digit of a side
 abbrev pub misplaced : ℕ → ℕ → RuleError

@@ -61,7 +61,10 @@ pub(crate) fn representative_of(count: u8, few: u8) -> Option<Representative>
     requires { count ≤ 8 }
     ensures { result ≡ representative_by_number count few }
 {
-    representatives(count).iter().copied().find(|representative| are_images(representative.eight, few))
+    representatives(count)
+        .iter()
+        .copied()
+        .find(|representative| are_images(representative.eight, few))
 }
 
 /// The classes of a count by their letters in alphabetical order, each with at most four live neighbours: above four, those of as many dead ones.
@@ -85,7 +88,10 @@ pub(crate) fn representatives(count: u8) -> &'static [Representative]
             b'a' 15, b'c' 325, b'e' 170, b'i' 45, b'j' 106, b'k' 99, b'n' 71, b'q' 102, b'r' 43, b't' 105, b'w' 78,
             b'y' 101, b'z' 108
         ],
-        _ => &[Representative { letter: None, eight: 0 }],
+        _ => &[Representative {
+            letter: None,
+            eight: 0,
+        }],
     }
 }
 
@@ -94,7 +100,11 @@ pub(crate) fn representatives(count: u8) -> &'static [Representative]
 pub(crate) fn fewer(eight: u8) -> u8
     ensures { result ≡ fewer_of eight }
 {
-    if eight.count_ones() > 4 { !eight } else { eight }
+    if eight.count_ones() > 4 {
+        !eight
+    } else {
+        eight
+    }
 }
 
 /// Whether turns and the mirror take the first eight neighbours to the second.
@@ -105,7 +115,9 @@ fn are_images(first: u8, second: u8) -> bool
     let once = quarter_turn(first);
     let twice = quarter_turn(once);
     let thrice = quarter_turn(twice);
-    [first, once, twice, thrice].iter().any(|turned| *turned == second || mirror(*turned) == second)
+    [first, once, twice, thrice]
+        .iter()
+        .any(|turned| *turned == second || mirror(*turned) == second)
 }
 
 /// The eight neighbours after a quarter turn.

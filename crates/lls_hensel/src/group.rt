@@ -76,5 +76,7 @@ pub(crate) fn is_letter_of(count: u8, byte: u8) -> bool
 fn has_letter(representatives: &[Representative], byte: u8) -> bool
     ensures { result ≡ list_any (λ r. same_letter r.letter (Some byte)) representatives.now }
 {
-    representatives.iter().any(|representative| representative.is_named(byte))
+    representatives
+        .iter()
+        .any(|representative| representative.is_named(byte))
 }

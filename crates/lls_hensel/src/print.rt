@@ -6,13 +6,11 @@ ghost use Rattle.lls_hensel.specs.Numbers.{live_number, classes_by_number, repre
 ghost use Rattle.lls_hensel.specs.Printing.{IsIsotropic, representative_nine, uneven, group_text, side_text, rule_text};
 ghost use Rattle.lls_hensel.specs.Reading.{entries_of, and_then};
 
-use std::alloc::{AllocError, AllocFailed, Global};
-
-use lls_base::Memory;
-use lls_rule::Rule;
-
 use crate::class::{Representative, fewer, representative_of, representatives};
 use crate::nine::{CENTRE, around, with_centre};
+use lls_base::Memory;
+use lls_rule::Rule;
+use std::alloc::Global;
 
 /// Why a rule has no text.
 #[derive(Clone, Copy, Debug, PartialEq, Eq)]
@@ -90,7 +88,13 @@ fn push_group(text: &mut Vec<u8>, rule: &Rule, survival: bool, count: u8) -> Res
 }
 
 /// Adds the letters of a count at whose classes a side has this answer.
-fn push_letters(text: &mut Vec<u8>, rule: &Rule, survival: bool, count: u8, live: bool) -> Result<(), Memory>
+fn push_letters(
+    text: &mut Vec<u8>,
+    rule: &Rule,
+    survival: bool,
+    count: u8,
+    live: bool,
+) -> Result<(), Memory>
     requires { count ≤ 8 }
     ensures { OnOk result (text.new.items ≡ text.old.items ++ flat_map (letter_text rule.now survival count live) (representatives_of count)) }
 {
@@ -102,7 +106,14 @@ fn push_letters(text: &mut Vec<u8>, rule: &Rule, survival: bool, count: u8, live
 
 /// Adds the letter of a class, if it has one, where a side has this answer.
 #[tactic(auto, unfolding(crate::specs::Numbers::letter_text))]
-fn push_letter(text: &mut Vec<u8>, rule: &Rule, survival: bool, count: u8, live: bool, representative: Representative) -> Result<(), Memory>
+fn push_letter(
+    text: &mut Vec<u8>,
+    rule: &Rule,
+    survival: bool,
+    count: u8,
+    live: bool,
+    representative: Representative,
+) -> Result<(), Memory>
     ensures { OnOk result (text.new.items ≡ text.old.items ++ letter_text rule.now survival count live representative) }
 {
     if holds_at(rule, survival, count, representative) != live {

@@ -50,7 +50,10 @@ fn read_birth_first(bytes: &[u8]) -> Result<Rule, RuleError>
     ensures { result ≡ and_then (birth_first bytes.now) (λ entries. Ok (table_of (next_of entries))) }
 {
     let end = birth_len(bytes);
-    let birth = Side { column: 2, bytes: &bytes[..end] };
+    let birth = Side {
+        column: 2,
+        bytes: &bytes[..end],
+    };
     let born = read_side(Rule::dead(), false, birth)?;
     read_side(born, true, survival_after(2 + end as u64, &bytes[end..])?)
 }
@@ -60,9 +63,16 @@ fn read_survival_first(bytes: &[u8]) -> Result<Rule, RuleError>
     ensures { result ≡ and_then (survival_first bytes.now) (λ entries. Ok (table_of (next_of entries))) }
 {
     let end = survival_len(bytes);
-    let survival = Side { column: 1, bytes: &bytes[..end] };
+    let survival = Side {
+        column: 1,
+        bytes: &bytes[..end],
+    };
     let surviving = read_side(Rule::dead(), true, survival)?;
-    read_side(surviving, false, birth_after(1 + end as u64, &bytes[end..])?)
+    read_side(
+        surviving,
+        false,
+        birth_after(1 + end as u64, &bytes[end..])?,
+    )
 }
 
 /// How many bytes the birth side has that stands first.
@@ -103,7 +113,10 @@ fn after_mark(column: u64, bytes: &[u8]) -> Result<Side<'_>, RuleError>
     ensures { seen_side result ≡ after_mark column bytes.now }
 {
     match bytes {
-        [b'S' | b's', side @ ..] => Ok(Side { column: column + 1, bytes: side }),
+        [b'S' | b's', side @ ..] => Ok(Side {
+            column: column + 1,
+            bytes: side,
+        }),
         _ => Err(RuleError::Stray(column)),
     }
 }
@@ -114,7 +127,10 @@ fn birth_after(column: u64, bytes: &[u8]) -> Result<Side<'_>, RuleError>
     ensures { seen_side result ≡ birth_after column bytes.now }
 {
     match bytes {
-        [_, side @ ..] => Ok(Side { column: column + 1, bytes: side }),
+        [_, side @ ..] => Ok(Side {
+            column: column + 1,
+            bytes: side,
+        }),
         [] => Err(RuleError::Stray(column)),
     }
 }
@@ -175,7 +191,10 @@ fn read_tail(column: u64, count: u8, tail: &[u8]) -> Result<Group<'_>, RuleError
 {
     match tail {
         [b'-', letters @ ..] => {
-            if !letters.first().is_some_and(|letter| letter.is_ascii_lowercase()) {
+            if !letters
+                .first()
+                .is_some_and(|letter| letter.is_ascii_lowercase())
+            {
                 return Err(RuleError::NoLetters(column));
             }
             listed(column + 1, count, true, letters)
@@ -191,7 +210,11 @@ fn listed(column: u64, count: u8, minus: bool, letters: &[u8]) -> Result<Group<'
     ensures { seen_result result ≡ listed column count minus letters.now }
 {
     check_letters(column, count, letters)?;
-    Ok(Group { count, minus, letters })
+    Ok(Group {
+        count,
+        minus,
+        letters,
+    })
 }
 
 /// Refuses letters that aren't those of a count, each once.

@@ -1,9 +1,7 @@
 // Worked rows: texts with their canonical forms and faults, classes with their sizes, published rules.
 use super::*;
-
-use lls_rule::Rule;
-
 use crate::nine::with_centre;
+use lls_rule::Rule;
 
 #[test]
 fn texts_are_read_and_printed(rt: HostRuntime) {
@@ -12,7 +10,10 @@ fn texts_are_read_and_printed(rt: HostRuntime) {
         ("23/3", "B3/S23"),
         ("B3S23", "B3/S23"),
         ("/", "B/S"),
-        ("B2ci3ai4c8/S02ae3eijkq4iz5ar6i7e", "B2ci3ai4c8/S02ae3eijkq4iz5ar6i7e"),
+        (
+            "B2ci3ai4c8/S02ae3eijkq4iz5ar6i7e",
+            "B2ci3ai4c8/S02ae3eijkq4iz5ar6i7e",
+        ),
         ("b1ce2-acenk/S", "B12i/S"),
         ("B2ace/S2-ace", "B2ace/S2ikn"),
         ("B3/S23", "B3/S23"),
@@ -118,7 +119,9 @@ fn sizes_of_classes(rt: HostRuntime) {
         (4, 4, Some(b'z'), 4),
     ] {
         for count in [few, many] {
-            let found = (0..=255).filter(|eight| class_of(*eight) == (Class { count, letter })).count();
+            let found = (0..=255)
+                .filter(|eight| class_of(*eight) == (Class { count, letter }))
+                .count();
             assert_eq!(rt; found, size, "{count} {letter:?}");
         }
     }
@@ -156,6 +159,9 @@ fn a_rule_that_is_not_isotropic(rt: HostRuntime) {
         assert!(rt; nine < 512);
         let live = rule.next(nine);
         rule.set(nine, !live);
-        assert!(rt; print_rule(rt.alloc(), &rule) == Err(PrintRuleError::NotIsotropic(least)), "{nine}");
+        assert!(rt;
+            print_rule(rt.alloc(), &rule) == Err(PrintRuleError::NotIsotropic(least)),
+            "{nine}"
+        );
     }
 }

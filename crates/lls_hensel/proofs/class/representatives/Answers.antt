@@ -1,4 +1,4 @@
-use Rattle.std.proofs.Common.{◌≡◌, ◌∙◌, sym, ap, arith}
+use Rattle.std.proofs.Common.{◌∙◌, sym, ap, arith}
 use Rattle.lls_hensel.specs.Numbers.{representatives_of, representatives_of_fewer}
 use Rattle.lls_hensel.proofs.Numbers.{representatives_of_fewer_none}
 use Rattle.lls_hensel.proofs.class.representatives.Goals as goal
@@ -23,4 +23,4 @@ pub returns-in_default : goal.returns-in_default
 unfolding representatives_of
 returns-in_default c =
     sym (ap representatives_of_fewer (sym c.min.ensures) ∙
-        representatives_of_fewer_none c.min.result (omega (arith, c.min.ensures)) (λ e. absurd (omega arith)) (λ e. absurd (omega arith)) (λ e. absurd (omega arith)) (λ e. absurd (omega arith)))
+    representatives_of_fewer_none c.min.result (omega (arith, c.min.ensures)) (λ e. absurd (omega arith)) (λ e. absurd (omega arith)) (λ e. absurd (omega arith)) (λ e. absurd (omega arith)))

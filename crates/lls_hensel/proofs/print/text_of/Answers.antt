@@ -1,4 +1,4 @@
-use Rattle.std.proofs.Common.{◌≡◌, ◌∙◌, sym, ap, ◌++◌, [], ◌∷◌, true, false, append_assoc}
+use Rattle.std.proofs.Common.{◌≡◌, ◌∙◌, ap, ◌++◌, [], ◌∷◌, true, false, append_assoc}
 use Rattle.lls_hensel.specs.Printing.{side_text, rule_text}
 use Rattle.lls_hensel.proofs.print.text_of.Goals as goal
 

@@ -1,7 +1,6 @@
-use Rattle.std.proofs.Common.{◌≡◌, ℕ, ◌+◌, ◌-◌, ◌∙◌, ◌||◌, sym, ap, Bool, true, false, List, length, take, drop, Ok, Result}
+use Rattle.std.proofs.Common.{◌≡◌, ℕ, ◌+◌, ◌-◌, ◌∙◌, ◌||◌, ap, true, false, List, length, take, drop, Ok}
 use Rattle.std.proofs.lemmas.List.{take_rest}
 use Rattle.std.proofs.lemmas.Result.{err_from_is_err_and}
-use Rattle.lls_rule.specs.Rule.{table_of}
 use Rattle.lls_rule.proofs.Tables.{length-table_of}
 use Rattle.lls_hensel.specs.Entries.{with_entries}
 use Rattle.lls_hensel.specs.Reading.{birth_first, side_before, side_entries, survival_after, is_slash, is_survival_mark, and_then}
@@ -31,21 +30,21 @@ unfolding birth_first first_side
 returns-in_err-born c =
     let p = err_from_is_err_and c.from_residual.result c.from_residual.ensures.1 in
     rw (p.1, p.2) (both_sides-fault true c.dead.result (side_entries false 2 (first_side c.args.bytes.now)) _ c.in_err-born.field-0.0
-        (c.in_err-born.ensures ∙ ap (λ side. and_then (side_entries false 2 side) (λ entries. Ok (with_entries c.dead.result entries))) (side_is c.args.bytes.now c.birth_len-end.result c.birth_len-end.ensures)))
+    (c.in_err-born.ensures ∙ ap (λ side. and_then (side_entries false 2 side) (λ entries. Ok (with_entries c.dead.result entries))) (side_is c.args.bytes.now c.birth_len-end.result c.birth_len-end.ensures)))
 
 pub returns-in_err-survival_after : goal.returns-in_err-survival_after
 unfolding birth_first first_side
 returns-in_err-survival_after c =
     let p = err_from_is_err_and c.from_residual-in_err-survival_after.result c.from_residual-in_err-survival_after.ensures.1 in
     rw (p.1, p.2) (both_sides-fault_behind true c.dead.result c.in_ok-born.born (side_entries false 2 (first_side c.args.bytes.now)) _ c.in_err-survival_after.field-0.0
-        (c.in_ok-born.ensures ∙ ap (λ side. and_then (side_entries false 2 side) (λ entries. Ok (with_entries c.dead.result entries))) (side_is c.args.bytes.now c.birth_len-end.result c.birth_len-end.ensures))
-        (c.in_err-survival_after.ensures ∙ behind_is c.args.bytes.now c.birth_len-end.result c.birth_len-end.ensures))
+    (c.in_ok-born.ensures ∙ ap (λ side. and_then (side_entries false 2 side) (λ entries. Ok (with_entries c.dead.result entries))) (side_is c.args.bytes.now c.birth_len-end.result c.birth_len-end.ensures))
+    (c.in_err-survival_after.ensures ∙ behind_is c.args.bytes.now c.birth_len-end.result c.birth_len-end.ensures))
 
 pub returns : goal.returns
 unfolding birth_first first_side
 returns c =
     let end = c.birth_len-end.result in
     c.read_side-2.ensures ∙ both_sides-tables true c.in_ok-born.born (side_entries false 2 (first_side c.args.bytes.now)) (c.in_ok-survival_after.field-0.column, c.in_ok-survival_after.field-0.bytes.now) _
-        (c.in_ok-born.ensures ∙ (ap (λ side. and_then (side_entries false 2 side) (λ entries. Ok (with_entries c.dead.result entries))) (side_is c.args.bytes.now end c.birth_len-end.ensures) ∙
-            ap (λ table. and_then (side_entries false 2 (first_side c.args.bytes.now)) (λ entries. Ok (with_entries table entries))) c.dead.ensures))
-        (c.in_ok-survival_after.ensures ∙ behind_is c.args.bytes.now end c.birth_len-end.ensures)
+    (c.in_ok-born.ensures ∙ (ap (λ side. and_then (side_entries false 2 side) (λ entries. Ok (with_entries c.dead.result entries))) (side_is c.args.bytes.now end c.birth_len-end.ensures) ∙
+    ap (λ table. and_then (side_entries false 2 (first_side c.args.bytes.now)) (λ entries. Ok (with_entries table entries))) c.dead.ensures))
+    (c.in_ok-survival_after.ensures ∙ behind_is c.args.bytes.now end c.birth_len-end.ensures)

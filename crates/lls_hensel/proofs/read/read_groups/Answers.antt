@@ -1,4 +1,4 @@
-use Rattle.std.proofs.Common.{◌≡◌, ◌∙◌, sym, ap, length, ◌+◌}
+use Rattle.std.proofs.Common.{◌∙◌, sym, ap, length, ◌+◌}
 use Rattle.std.proofs.lemmas.Result.{err_from_is_err_and}
 use Rattle.lls_hensel.specs.Groups.{seen_group}
 use Rattle.lls_hensel.specs.Sides.{table_read, groups_at}
@@ -20,7 +20,7 @@ loop-at-preserved c =
       within = step.0;
       whole = ap length c.beside-both.ensures ∙ length-with_entries c.loop-at.both _;
       at_digit = step.1;
-      reads = c.loop-at.invariant.reads ∙ (step.2 ∙ ap (λ table. table_read c.args.survival table (groups_at c.args.side.column side (c.loop-at.at + c.len-at.result))) (sym c.beside-both.ensures))
+      reads = c.loop-at.invariant.reads ∙ (step.2 ∙ ap (λ table. table_read c.args.survival table (groups_at c.args.side.column side (c.loop-at.at + c.len-at.result))) (sym c.beside-both.ensures));
     }
 
 pub returns : goal.returns

@@ -12,7 +12,7 @@ returns-in_default c =
 pub returns-then-not-is_count : goal.returns-then-not-is_count
 returns-then-not-is_count c =
     sym (ap (λ read. and_then read (λ entries. Ok (with_entries c.args.rule entries)))
-        (side_entries-misplaced c.args.survival c.args.side.column c.args.side.bytes.now c.in-len1-up.len_at_least (sym c.is_count.ensures ∙ c.if-not-is_count.true) ∙ ap Err (sym c.misplaced.ensures)))
+    (side_entries-misplaced c.args.survival c.args.side.column c.args.side.bytes.now c.in-len1-up.len_at_least (sym c.is_count.ensures ∙ c.if-not-is_count.true) ∙ ap Err (sym c.misplaced.ensures)))
 
 pub returns : goal.returns
 returns c =

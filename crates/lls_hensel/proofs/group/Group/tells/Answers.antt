@@ -1,4 +1,4 @@
-use Rattle.std.proofs.Common.{◌∙◌, sym, ap, nat_eq, ◌&&◌}
+use Rattle.std.proofs.Common.{◌∙◌, sym, ap, ◌&&◌}
 use Rattle.std.proofs.lemmas.Bool.{eq-eqb, ne_eqb}
 use Rattle.lls_hensel.specs.Groups.{seen_group}
 use Rattle.lls_hensel.specs.Entries.{stands_for}
@@ -15,7 +15,7 @@ returns-then-class-self c =
     let class = c.class_of-class.result in
     c.stands_for.ensures ∙
     sym (next_of-same_side c.args.survival group c.args.nine c.around.result class c.requires c.if-nine-survival.false c.around.ensures c.class_of-class.ensures ∙
-        ap (λ b. b && stands_for group class.letter) (eq-eqb group.count class.count (sym c.if-class-self.true)))
+    ap (λ b. b && stands_for group class.letter) (eq-eqb group.count class.count (sym c.if-class-self.true)))
 
 pub returns-else-class-self : goal.returns-else-class-self
 returns-else-class-self c =
@@ -23,4 +23,4 @@ returns-else-class-self c =
     let class = c.class_of-class.result in
     ne_eqb class.count group.count c.if-class-self.false ∙
     sym (next_of-same_side c.args.survival group c.args.nine c.around.result class c.requires c.if-nine-survival.false c.around.ensures c.class_of-class.ensures ∙
-        ap (λ b. b && stands_for group class.letter) (ne_eqb group.count class.count (λ e. c.if-class-self.false (sym e))))
+    ap (λ b. b && stands_for group class.letter) (ne_eqb group.count class.count (λ e. c.if-class-self.false (sym e))))
