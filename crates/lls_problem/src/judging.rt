@@ -21,6 +21,7 @@ fn has_its_sizes(posed: &Posed, history: &History) -> bool
 
 /// Whether the history is a solution of the problem, or else the first demand that it breaks and the first place, by
 /// generation, row and column, where it does. It takes no memory.
+#[tactic(auto, using(crate::proofs::Faults::misfit_refutes, crate::proofs::Faults::transition_refutes))]
 pub fn judge(problem: &Problem, history: &History) -> Judgement
     ensures judgement { IsJudgement problem.now history.now result }
     ensures meets { result ≡ Judgement.Meets → IsSolution problem.now history.now }

@@ -1,20 +1,10 @@
 use Rattle.std.proofs.Common.{◌≡◌, w32, to_z, of_z, to_z-of_z, rules, FitsSigned}
-use Rattle.lls_problem.proofs.Faults.{no_solution}
+use Rattle.lls_problem.proofs.Faults.{disagreement_refutes}
 use Rattle.lls_problem.proofs.NameValues.{MeetsCells-by_firsts}
 use Rattle.lls_problem.proofs.judging.judge.Goals as goal
 
-pub returns-in-Some-clause-broken : goal.returns-in-Some-clause-broken
-returns-in-Some-clause-broken c = no_solution _ _ _ c.posed.ensures.kept (record {
-  sizes = rw c.posed.ensures.value at (c.has_its_sizes.ensures.0 c.if-not-has_its_sizes.false);
-  cell = c.in-Some.ensures;
-})
-
 pub returns-in-Some-first_disagreement-clause-broken : goal.returns-in-Some-first_disagreement-clause-broken
-returns-in-Some-first_disagreement-clause-broken c = no_solution _ _ _ c.posed.ensures.kept (record {
-  sizes = rw c.posed.ensures.value at (c.has_its_sizes.ensures.0 c.if-not-has_its_sizes.false);
-  fixed = c.in_default.ensures;
-  cell = c.in-Some-first_disagreement.ensures;
-})
+returns-in-Some-first_disagreement-clause-broken c = λ other. disagreement_refutes _ _ _ _ _ c.posed.ensures.kept c.in-Some-first_disagreement.ensures
 
 pub returns-in-Some-first_transition-clause-judgement : goal.returns-in-Some-first_transition-clause-judgement
 returns-in-Some-first_transition-clause-judgement c =
@@ -27,9 +17,6 @@ returns-in-Some-first_transition-clause-judgement c =
       cells = MeetsCells-by_firsts _ _ c.in_default.ensures c.in_default-first_disagreement.ensures;
       transition = c.in-Some-first_transition.ensures;
     })
-
-pub returns-in-Some-first_transition-clause-broken : goal.returns-in-Some-first_transition-clause-broken
-returns-in-Some-first_transition-clause-broken c = no_solution _ _ _ c.posed.ensures.kept (returns-in-Some-first_transition-clause-judgement c)
 
 pub returns-clause-judgement : goal.returns-clause-judgement
 returns-clause-judgement c = record {
