@@ -1,2 +1,4 @@
 pub mod Folded
 pub mod InOrder
+pub mod Chunks
+pub mod Joins

@@ -1,2 +1,5 @@
+pub mod Changes
+pub mod Chunks
 pub mod History
 pub mod Place
+pub mod Text

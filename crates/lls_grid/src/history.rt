@@ -1,7 +1,9 @@
 // A history.
-ghost use Rattle.std.specs.Prelude.{◌≡◌, ◌<◌, ◌≤◌, ◌*◌, [], ℤ, pos, negsuc, ◌≤ℤ◌, length, IfOk, if◌then◌else◌};
+ghost use Rattle.std.specs.Prelude.{◌≡◌, ◌<◌, ◌≤◌, ◌+◌, ◌*◌, [], ℤ, pos, negsuc, ◌≤ℤ◌, length, take, drop, IfOk, if◌then◌else◌};
 ghost use Rattle.lls_rule.specs.Rule.{number_of};
-ghost use Rattle.lls_grid.specs.History.{HasSizes, IsWithinLimits, at, nine, place_cell, three, dead, height_of, width_of};
+ghost use Rattle.lls_grid.specs.History.{HasSizes, IsWithinLimits, at, cells_of_rows, rows_at, nine, place_cell, three, dead, folded, height_of, width_of};
+ghost use Rattle.lls_grid.specs.Changes.{with_cell, population};
+ghost use Rattle.lls_grid.specs.Chunks.{chunked};
 
 use crate::place::{cell_index, index_within};
 use lls_base::Memory;
@@ -48,6 +50,23 @@ impl History {
         })
     }
 
+    /// A history of these sizes with these cells, in the order generation, row, column.
+    pub fn from_cells(generations: u32, height: u32, width: u32, cells: Vec<bool>) -> History
+        requires generations { (1 ≤ generations) × (generations ≤ 64) }
+        requires height { (1 ≤ height) × (height ≤ 64) }
+        requires width { (1 ≤ width) × (width ≤ 64) }
+        requires count { length cells.items ≡ width * (height * generations) }
+        requires most { length cells.items ≤ 8192 }
+        ensures { result ≡ folded generations height width cells.items }
+    {
+        History {
+            generations,
+            height,
+            width,
+            cells,
+        }
+    }
+
     pub fn generations(&self) -> u32
         ensures generations { result ≡ length self.now }
         ensures sizes { HasSizes (length self.now) (height_of self.now) (width_of self.now) self.now }
@@ -80,6 +99,38 @@ impl History {
             Some(live) => live,
             None => rule.background(t),
         }
+    }
+
+    /// Makes a cell inside the grid live or dead.
+    pub fn set(&mut self, t: u32, y: u32, x: u32, live: bool)
+        requires generation { t < length self.old }
+        requires row { y < height_of self.old }
+        requires column { x < width_of self.old }
+        ensures { self.new ≡ with_cell self.old t y x live }
+    {
+        let index = cell_index(self.generations, self.height, self.width, t, y, x);
+        self.cells[index] = live;
+    }
+
+    /// How many cells of a generation are live.
+    pub fn population(&self, t: u32) -> u32
+        requires { t < length self.now }
+        ensures { result ≡ population self.now t }
+    {
+        self.cells_at(t).iter().filter(|live| **live).count() as u32
+    }
+
+    /// The cells of a generation, row by row.
+    pub(crate) fn cells_at(&self, t: u32) -> &[bool]
+        requires { t < length self.now }
+        ensures cells { result.now ≡ cells_of_rows (rows_at self.now t) }
+        ensures rows { chunked (width_of self.now) (height_of self.now) result.now ≡ rows_at self.now t }
+        ensures count { length result.now ≡ width_of self.now * height_of self.now }
+        ensures most { length result.now ≤ 4096 }
+    {
+        let count = self.width * self.height;
+        let first = count * t;
+        part(&self.cells, first as usize, count as usize)
     }
 
     /// The cell at a place, None outside the grid.
@@ -119,6 +170,14 @@ impl History {
         let right = weight(self.at(rule, t, y, x + 1));
         4 * left + 2 * middle + right
     }
+}
+
+/// That many cells from a place on.
+fn part(cells: &[bool], first: usize, count: usize) -> &[bool]
+    requires { first + count ≤ length cells.now }
+    ensures { result.now ≡ take count (drop first cells.now) }
+{
+    &cells[first..first + count]
 }
 
 /// What a cell adds to a number in the place of weight 1.

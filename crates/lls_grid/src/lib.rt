@@ -3,6 +3,8 @@
 
 mod history;
 mod place;
+mod text;
 
 pub use history::History;
 pub use place::index_within;
+pub use text::print_history;

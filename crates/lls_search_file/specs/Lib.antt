@@ -1,5 +1,6 @@
 pub mod Kept
 pub mod Lines
+pub mod Plain
 pub mod Posed
 pub mod Reader
 pub mod Reading

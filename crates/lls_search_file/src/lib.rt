@@ -5,6 +5,7 @@ mod cell;
 mod error;
 mod lines;
 mod names;
+mod plain;
 mod posed;
 mod read;
 mod row;
@@ -13,6 +14,7 @@ mod word;
 
 pub use cell::{Cell, Cells, Kind};
 pub use error::PosedError;
+pub use plain::{HistoryError, read_history};
 pub use posed::{Names, Posed};
 pub use read::read_posed;
 

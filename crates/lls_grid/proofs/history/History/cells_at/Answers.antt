@@ -1,0 +1,58 @@
+use Rattle.std.proofs.Common.{◌≡◌, ◌<◌, ◌≤◌, ◌+◌, ◌*◌, ◌∙◌, length, take, drop, sym, ap, arith, length-take, length-drop}
+use Rattle.std.proofs.Math.Nat.{mul_assoc}
+use Rattle.lls_grid.specs.Chunks.{chunked}
+use Rattle.lls_grid.specs.History.{folded, cells_of_rows, rows_at, width_of, height_of}
+use Rattle.lls_grid.proofs.Folded.{length-folded, width_of-folded, height_of-folded}
+use Rattle.lls_grid.proofs.Chunks.{generation-le, cells_of_rows-folded, rows_at-folded_chunked, chunked-take}
+use Rattle.lls_grid.proofs.history.History.cells_at.Goals as goal
+
+pub overflow_mul-first : goal.overflow_mul-first
+overflow_mul-first c =
+    let h = c.self.inside in
+    let t_in : c.args.t < h.generations = omega (arith, c.requires, ap length c.self.view_is, length-folded h.generations h.height h.width h.cells.items) in
+    omega (arith, generation-le h.generations h.height h.width c.args.t t_in, c.self.invariant.count, c.self.invariant.most)
+
+pub part-requires : goal.part-requires
+part-requires c =
+    let h = c.self.inside in
+    let t_in : c.args.t < h.generations = omega (arith, c.requires, ap length c.self.view_is, length-folded h.generations h.height h.width h.cells.items) in
+    rw c.deref.ensures.value (omega (arith, generation-le h.generations h.height h.width c.args.t t_in, c.self.invariant.count))
+
+pub returns-clause-cells : goal.returns-clause-cells
+returns-clause-cells c =
+    let h = c.self.inside in
+    let t_in : c.args.t < h.generations = omega (arith, c.requires, ap length c.self.view_is, length-folded h.generations h.height h.width h.cells.items) in
+    rw (← c.self.view_is) (rw (c.part.ensures, c.deref.ensures.value, mul_assoc h.width h.height c.args.t)
+    (sym (cells_of_rows-folded h.generations h.height h.width c.args.t h.cells.items c.self.invariant.count t_in)))
+
+pub returns-clause-rows : goal.returns-clause-rows
+returns-clause-rows c =
+    let h = c.self.inside in
+    let t_in : c.args.t < h.generations = omega (arith, c.requires, ap length c.self.view_is, length-folded h.generations h.height h.width h.cells.items) in
+    rw (← c.self.view_is) (rw (
+      c.part.ensures,
+      c.deref.ensures.value,
+      mul_assoc h.width h.height c.args.t,
+      width_of-folded h.generations h.height h.width h.cells.items c.self.invariant.generations_fit.0 c.self.invariant.height_fits.0,
+      height_of-folded h.generations h.height h.width h.cells.items c.self.invariant.generations_fit.0,
+    )
+    (chunked-take h.width h.height (drop (h.width * (h.height * c.args.t)) h.cells.items) ∙ sym (rows_at-folded_chunked h.generations h.height h.width c.args.t h.cells.items c.self.invariant.count t_in)))
+
+pub returns-clause-count : goal.returns-clause-count
+returns-clause-count c =
+    let h = c.self.inside in
+    let t_in : c.args.t < h.generations = omega (arith, c.requires, ap length c.self.view_is, length-folded h.generations h.height h.width h.cells.items) in
+    let before = h.width * h.height * c.args.t in
+    rw (← c.self.view_is) (rw (
+      c.part.ensures,
+      c.deref.ensures.value,
+      width_of-folded h.generations h.height h.width h.cells.items c.self.invariant.generations_fit.0 c.self.invariant.height_fits.0,
+      height_of-folded h.generations h.height h.width h.cells.items c.self.invariant.generations_fit.0,
+    )
+    (omega (
+      arith,
+      length-take (h.width * h.height) (drop before h.cells.items),
+      length-drop before h.cells.items,
+      generation-le h.generations h.height h.width c.args.t t_in,
+      c.self.invariant.count,
+    )))

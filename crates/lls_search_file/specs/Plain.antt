@@ -1,0 +1,59 @@
+-- Search files that are histories: dead and live cells alone, without marks.
+use Rattle.std.specs.Prelude.{◌≡◌, ℕ, ◌*◌, ◌/◌, ◌%◌, Bool, true, false, not, if◌then◌else◌, List, map, Option, None, Some, Result, Ok, Err}
+use Rattle.std.specs.List.{position}
+use Rattle.lls_grid.specs.History.{History, folded}
+use Rattle.lls_search_file.specs.declared.cell.Cell.{Cell}
+use Rattle.lls_search_file.specs.declared.cell.Kind.{Kind}
+use Rattle.lls_search_file.specs.declared.cell.Kind.TheVariants.{Dead, Live, Free, Named, Negated}
+use Rattle.lls_search_file.specs.declared.error.PosedError.{PosedError}
+use Rattle.lls_search_file.specs.declared.plain.HistoryError.{HistoryError}
+use Rattle.lls_search_file.specs.declared.plain.HistoryError.TheVariants.{Text, NotPlain, Memory}
+use Rattle.lls_search_file.specs.Posed.{PosedFile}
+use Rattle.lls_search_file.specs.Reading.{posed_of}
+
+abbrev pub is_live : Kind → Bool
+is_live Dead = false
+is_live Live = true
+is_live Free = false
+is_live (Named n) = false
+is_live (Negated n) = false
+
+-- dead or live
+abbrev pub is_fixed : Kind → Bool
+is_fixed Dead = true
+is_fixed Live = true
+is_fixed Free = false
+is_fixed (Named n) = false
+is_fixed (Negated n) = false
+
+abbrev pub is_plain : Cell → Bool
+is_plain cell = if cell.mark then false else is_fixed cell.kind
+
+-- the generation, the row and the column of a place in the order of cells
+abbrev pub not_plain : PosedFile → ℕ → HistoryError
+not_plain file index = NotPlain (index / (file.width * file.height)) (index / file.width % file.height) (index % file.width)
+
+-- the history of a file whose cells are all plain, or the first cell that isn't
+abbrev pub history_or : PosedFile → Option ℕ → Result History HistoryError
+history_or file None = Ok (folded file.generations file.height file.width (map (λ cell. is_live cell.kind) file.cells))
+history_or file (Some index) = Err (not_plain file index)
+
+abbrev pub plain_file : PosedFile → Result History HistoryError
+plain_file file = history_or file (position (λ cell. not (is_plain cell)) file.cells)
+
+-- the history of a text
+abbrev pub plain_read : Result PosedFile PosedError → Result History HistoryError
+plain_read (Ok file) = plain_file file
+plain_read (Err fault) = Err (Text fault)
+
+abbrev pub plain_of : List ℕ → Result History HistoryError
+plain_of bytes = plain_read (posed_of bytes)
+
+-- what a call answered is what reading gives, unless memory ran out
+abbrev pub FailsPlain : HistoryError → Result History HistoryError → Type 0
+FailsPlain Memory read = Unit {0}
+FailsPlain fault read = read ≡ Err fault
+
+abbrev pub GivesHistory : Result History HistoryError → Result History HistoryError → Type 0
+GivesHistory (Ok history) read = read ≡ Ok history
+GivesHistory (Err fault) read = FailsPlain fault read
