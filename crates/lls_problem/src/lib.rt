@@ -6,6 +6,8 @@ mod demands;
 mod judgement;
 mod judging;
 mod problem;
+#[cfg(test)]
+mod tests;
 mod transitions;
 
 pub use demands::{DemandError, Demands, Edge};
