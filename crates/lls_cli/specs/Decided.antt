@@ -1,0 +1,112 @@
+-- What a command line is answered by the files that stand on the shelf, where memory and the outside don't fail.
+use Rattle.std.specs.Prelude.{◌≡◌, ◌⊎◌, ℕ, ◌++◌, nat_lt, Bool, List, [], ◌∷◌, length, Option, None, Some, Result, Ok, Err, if◌then◌else◌}
+use Rattle.std.specs.FinMap as map
+use Rattle.lls_base.specs.Shelf.{Files}
+use Rattle.lls_base.specs.Faults.{Rose}
+use Rattle.lls_hensel.specs.Printing.{rule_text}
+use Rattle.lls_search_file.specs.declared.error.PosedError.{PosedError}
+use Rattle.lls_search_file.specs.Posed.{PosedFile}
+use Rattle.lls_search_file.specs.Reading.{posed_of}
+use Rattle.lls_problem.specs.declared.demands.Demands.{Demands}
+use Rattle.lls_problem.specs.Problem.{PosedProblem}
+use Rattle.lls_problem.specs.Solution.{IsAbsent}
+use Rattle.lls_encode.specs.Formula.{formula_of}
+use Rattle.lls_lrat.specs.declared.error.CheckError.{CheckError}
+use Rattle.lls_lrat.specs.Verdict.{verdict}
+use Rattle.lls_cli.specs.declared.fault.Fault.{Fault}
+use Rattle.lls_cli.specs.declared.fault.Fault.TheVariants as faults
+use Rattle.lls_cli.specs.declared.fault.OutsideFault.{OutsideFault}
+use Rattle.lls_cli.specs.declared.fault.OutsideFault.TheVariants as outside
+use Rattle.lls_cli.specs.declared.job.Job.{Job}
+use Rattle.lls_cli.specs.declared.job.Job.TheVariants as jobs
+use Rattle.lls_cli.specs.declared.status.Status.{Status}
+use Rattle.lls_cli.specs.declared.status.Status.TheVariants as statuses
+use Rattle.lls_cli.specs.declared.words_error.WordsError.{WordsError}
+use Rattle.lls_cli.specs.Job.{job_of}
+use Rattle.lls_cli.specs.Texts.{check_text}
+
+abbrev pub and_so : {A B : Type 0} → Result A Fault → (A → Result B Fault) → Result B Fault
+and_so (Ok x) f = f x
+and_so (Err e) f = Err e
+
+-- a status and the text for the standard output
+pub record Decision : Type 0 where
+  pub status : Status
+  pub text : List ℕ
+
+-- the bytes of an input of at most `limit` bytes
+abbrev pub input_from : ℕ → Option (List ℕ) → Result (List ℕ) Fault
+input_from limit None = Err (faults.Outside outside.NoFile)
+input_from limit (Some bytes) = if nat_lt limit (length bytes) then Err (faults.TooLong limit) else Ok bytes
+
+abbrev pub input_of : Files → List ℕ → ℕ → Result (List ℕ) Fault
+input_of files name limit = input_from limit (map.get files name)
+
+abbrev pub posed_in : Result PosedFile PosedError → Result PosedFile Fault
+posed_in (Ok posed) = Ok posed
+posed_in (Err error) = Err (faults.Posed error)
+
+-- the problem of a search file
+abbrev pub problem_of : Files → List ℕ → List Bool → Demands → Result PosedProblem Fault
+problem_of files search rule demands =
+    and_so (input_of files search 1048576) (λ bytes. and_so (posed_in (posed_of bytes)) (λ posed. Ok (record { posed = posed; rule = rule; demands = demands })))
+
+abbrev pub check_status : Result (Unit {0}) CheckError → Status
+check_status (Ok accepted) = statuses.Done
+check_status (Err error) = statuses.Refused
+
+abbrev pub check_decision : Result (Unit {0}) CheckError → Decision
+check_decision verdict = record { status = check_status verdict; text = check_text verdict }
+
+-- the proof against the formula of the problem
+abbrev pub check_decided : Files → List ℕ → List ℕ → List Bool → Demands → Result Decision Fault
+check_decided files search proof rule demands =
+    and_so (problem_of files search rule demands)
+    (λ problem. and_so (input_of files proof 1073741824) (λ text. Ok (check_decision (verdict (formula_of problem) text))))
+
+abbrev pub job_decided : Job → Files → Result Decision Fault
+job_decided (jobs.Check search proof rule demands) files = check_decided files search proof rule demands
+job_decided (jobs.Rule rule) files = Ok (record { status = statuses.Done; text = rule_text rule ++ 10 ∷ [] })
+
+abbrev pub decided_by : Result Job WordsError → Files → Result Decision Fault
+decided_by (Ok job) files = job_decided job files
+decided_by (Err error) files = Err (faults.Words error)
+
+abbrev pub decided : List (List ℕ) → Files → Result Decision Fault
+decided words files = decided_by (job_of words) files
+
+-- a fault that may stand in the place of what is decided: want of memory and a failure of the outside, and else the fault that is
+abbrev pub Stands : {Y : Type 0} → Fault → Result Y Fault → Type 0
+Stands faults.Memory decided = Unit {0}
+Stands (faults.Outside outside.OpenFailed) decided = Unit {0}
+Stands (faults.Outside outside.ReadFailed) decided = Unit {0}
+Stands (faults.Outside outside.OutFailed) decided = Unit {0}
+Stands fault decided = decided ≡ Err fault
+
+-- an answer is what is decided
+abbrev pub Settles : {X Y : Type 0} → (X → Y) → Result X Fault → Result Y Fault → Type 0
+Settles view (Ok x) decided = decided ≡ Ok (view x)
+Settles view (Err fault) decided = Stands fault decided
+
+-- a failure of the outside comes only where a count of faults rose
+abbrev pub HasRisen : Fault → ℕ → ℕ → Type 0
+HasRisen (faults.Outside outside.NoFile) before after = Unit {0}
+HasRisen (faults.Outside outside.OpenFailed) before after = Rose before after
+HasRisen (faults.Outside outside.ReadFailed) before after = Rose before after
+HasRisen (faults.Outside outside.OutFailed) before after = Rose before after
+HasRisen fault before after = Unit {0}
+
+-- a fault that isn't of the outside
+abbrev pub IsInside : Fault → Type 0
+IsInside (faults.Outside fault) = ⊥
+IsInside fault = Unit {0}
+
+-- no history is a solution of the problem
+abbrev pub ProblemIsAbsent : Result PosedProblem Fault → Type 0
+ProblemIsAbsent (Ok problem) = IsAbsent problem
+ProblemIsAbsent (Err fault) = ⊥
+
+-- what the yes of a check says
+abbrev pub JobIsAbsent : Job → Files → Type 0
+JobIsAbsent (jobs.Check search proof rule demands) files = ProblemIsAbsent (problem_of files search rule demands)
+JobIsAbsent (jobs.Rule rule) files = Unit {0}

@@ -1,0 +1,9 @@
+pub mod Command
+pub mod Scan
+pub mod Job
+pub mod Status
+pub mod Texts
+pub mod Decided
+pub mod Inputs
+pub mod Answer
+pub mod Run

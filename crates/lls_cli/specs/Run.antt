@@ -1,0 +1,66 @@
+-- What a run leaves on the standard output and the standard error.
+use Rattle.std.specs.Prelude.{◌≡◌, ◌⊎◌, ◌≤◌, ℕ, List, [], ◌∷◌, ◌++◌, length, take, codes, Option, Result, Ok, Err}
+use Rattle.std.specs.Io.KnownBytes.{append_known}
+use Rattle.lls_base.specs.Faults.{Rose}
+use Rattle.lls_base.specs.Shelf.{Files}
+use Rattle.lls_cli.specs.declared.fault.Fault.{Fault}
+use Rattle.lls_cli.specs.declared.fault.Fault.TheVariants as faults
+use Rattle.lls_cli.specs.declared.fault.OutsideFault.TheVariants as outside
+use Rattle.lls_cli.specs.declared.job.Job.{Job}
+use Rattle.lls_cli.specs.declared.status.Status.{Status}
+use Rattle.lls_cli.specs.declared.status.Status.TheVariants as statuses
+use Rattle.lls_cli.specs.declared.words_error.WordsError.{WordsError}
+use Rattle.lls_cli.specs.Decided.{Decision, JobIsAbsent}
+use Rattle.lls_cli.specs.Status.{status_of}
+use Rattle.lls_cli.specs.Texts.{fault_line}
+
+-- the status of what is decided
+abbrev pub status_decided : Result Decision Fault → Status
+status_decided (Ok decision) = decision.status
+status_decided (Err fault) = status_of fault
+
+-- the status is what is decided, or want of memory or a failure of the outside stands in its place
+abbrev pub IsStatus : Status → Result Decision Fault → Type 0
+IsStatus statuses.Memory decided = Unit {0}
+IsStatus statuses.Outside decided = Unit {0}
+IsStatus status decided = status_decided decided ≡ status
+
+-- a sink grew by some first bytes of a text, and by all of it but where its count of faults rose
+pub record GrewBy (text : List ℕ) (before after : Option (List ℕ)) (faults_before faults_after : ℕ) : Type 0 where
+  pub taken : (n : ℕ) × (after ≡ append_known before (take n text)) × ((length text ≤ n) ⊎ Rose faults_before faults_after)
+
+-- what is decided has this status and this text
+abbrev pub IsDecision : Result Decision Fault → Status → List ℕ → Type 0
+IsDecision (Ok decision) status text = (decision.status ≡ status) × (decision.text ≡ text)
+IsDecision (Err fault) status text = ⊥
+
+-- the text that is decided, none where there is a fault
+abbrev pub text_decided : Result Decision Fault → List ℕ
+text_decided (Ok decision) = decision.text
+text_decided (Err fault) = []
+
+-- the file of an input isn't there
+abbrev pub IsNoFile : Result Decision Fault → Type 0
+IsNoFile decided = decided ≡ Err (faults.Outside outside.NoFile)
+
+-- what status 0 says of a check
+abbrev pub WordsAreAbsent : Result Job WordsError → Files → Type 0
+WordsAreAbsent (Ok job) files = JobIsAbsent job files
+WordsAreAbsent (Err error) files = ⊥
+
+-- a yes or a no
+abbrev pub IsYesOrNo : Status → Type 0
+IsYesOrNo status = (status ≡ statuses.Done) ⊎ (status ≡ statuses.Refused)
+
+-- a fault that isn't of the words
+abbrev pub IsBehindWords : Fault → Type 0
+IsBehindWords (faults.Words error) = ⊥
+IsBehindWords fault = Unit {0}
+
+-- nothing was given to the standard output
+abbrev pub IsSilent : Status → Type 0
+IsSilent statuses.Words = Unit {0}
+IsSilent statuses.Content = Unit {0}
+IsSilent statuses.Memory = Unit {0}
+IsSilent statuses.Limit = Unit {0}
+IsSilent status = ⊥

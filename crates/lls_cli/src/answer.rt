@@ -1,0 +1,126 @@
+// What a job is answered.
+ghost use Rattle.std.specs.Prelude.{◌≡◌, ◌∷◌, ◌++◌, [], Ok, IfOk, IfErr, IfSome, List, ℕ};
+ghost use Rattle.lls_base.specs.Faults.{Counts};
+ghost use Rattle.lls_base.specs.Shelf.{known_files};
+ghost use Rattle.lls_problem.specs.Solution.{IsAbsent};
+ghost use Rattle.lls_encode.specs.Formula.{formula_of};
+ghost use Rattle.lls_hensel.specs.Printing.{rule_text};
+ghost use Rattle.lls_lrat.specs.Verdict.{verdict};
+ghost use Rattle.lls_cli.specs.Decided.{problem_of, check_decision, check_decided, job_decided, ProblemIsAbsent, JobIsAbsent, HasRisen, IsInside, Settles};
+ghost use Rattle.lls_cli.specs.Answer.{answer_seen};
+ghost use Rattle.lls_cli.specs.Run.{IsYesOrNo, IsBehindWords};
+
+use crate::fault::Fault;
+use crate::input::{read_input, read_problem};
+use crate::job::Job;
+use crate::status::Status;
+use crate::text::check_text;
+use lls_base::{Name, Shelf};
+use lls_encode::encode;
+use lls_hensel::print_rule;
+use lls_lrat::{CheckError, check_bytes};
+use lls_problem::{Demands, Problem};
+use lls_rule::Rule;
+use std::alloc::Global;
+
+/// The longest proof in bytes.
+const PROOF_LIMIT: u64 = 1_073_741_824;
+
+/// What a job is answered: the status and the text for the standard output.
+#[derive(Drop)]
+pub struct Answer {
+    pub status: Status,
+    pub text: Vec<u8>,
+}
+
+/// The answer to a proof against the formula of a problem.
+fn check_proof(alloc: Global, problem: &Problem, proof: &[u8]) -> Result<Answer, Fault>
+    ensures answer { Settles answer_seen result (Ok (check_decision (verdict (formula_of problem.now) proof.now))) }
+    ensures yes_or_no { IfOk result (λ answer. IsYesOrNo answer.status) }
+    ensures inside { IfErr result IsInside }
+    ensures behind_words { IfErr result IsBehindWords }
+
+    // A proof is accepted only where there is no solution.
+    ensures absent { IfOk result (λ answer. answer.status ≡ Status.Done → IsAbsent problem.now) }
+{
+    let Ok(formula) = encode(alloc, problem) else {
+        return Err(Fault::Memory);
+    };
+    let verdict = check_bytes(alloc, &formula, proof);
+    let status = match verdict {
+        Ok(()) => Status::Done,
+        Err(CheckError::Memory) => return Err(Fault::Memory),
+        Err(_) => Status::Refused,
+    };
+    match Vec::from_slice(alloc, check_text(verdict)) {
+        Ok(text) => Ok(Answer { status, text }),
+        Err(_) => Err(Fault::Memory),
+    }
+}
+
+/// The canonical text of a rule.
+fn print(alloc: Global, rule: &Rule) -> Result<Answer, Fault>
+    ensures answer { Settles answer_seen result (Ok (record { status = Status.Done; text = rule_text rule.now ++ 10 ∷ [] })) }
+    ensures yes_or_no { IfOk result (λ answer. IsYesOrNo answer.status) }
+    ensures inside { IfErr result IsInside }
+    ensures behind_words { IfErr result IsBehindWords }
+{
+    match print_rule(alloc, rule) {
+        Ok(mut text) => match text.push(b'\n') {
+            Ok(()) => Ok(Answer {
+                status: Status::Done,
+                text,
+            }),
+            Err(_) => Err(Fault::Memory),
+        },
+        Err(_) => Err(Fault::Memory),
+    }
+}
+
+/// The answer of a job, read from the shelf.
+pub fn answer_job<S: Shelf>(alloc: Global, shelf: &mut S, job: Job) -> Result<Answer, Fault>
+    ensures decided { IfSome (known_files (S.told shelf.old)) (λ files. Settles answer_seen result (job_decided job files)) }
+    ensures yes_or_no { IfOk result (λ answer. IsYesOrNo answer.status) }
+    ensures behind_words { IfErr result IsBehindWords }
+    ensures failed { IfErr result (λ fault. HasRisen fault (S.faults shelf.old) (S.faults shelf.new)) }
+    ensures absent { IfSome (known_files (S.told shelf.old)) (λ files. IfOk result (λ answer. answer.status ≡ Status.Done → JobIsAbsent job files)) }
+    ensures counts { Counts (S.faults shelf.old) (S.faults shelf.new) }
+    ensures files { known_files (S.told shelf.new) ≡ known_files (S.told shelf.old) }
+{
+    match job {
+        Job::Check {
+            search,
+            proof,
+            rule,
+            demands,
+        } => check(alloc, shelf, &search, &proof, rule, demands),
+        Job::Rule { rule } => print(alloc, &rule),
+    }
+}
+
+/// The answer of a check.
+fn check<S: Shelf>(
+    alloc: Global,
+    shelf: &mut S,
+    search: &Name,
+    proof: &Name,
+    rule: Rule,
+    demands: Demands,
+) -> Result<Answer, Fault>
+    ensures decided { IfSome (known_files (S.told shelf.old)) (λ files. Settles answer_seen result (check_decided files search.now proof.now rule demands)) }
+    ensures yes_or_no { IfOk result (λ answer. IsYesOrNo answer.status) }
+    ensures behind_words { IfErr result IsBehindWords }
+    ensures failed { IfErr result (λ fault. HasRisen fault (S.faults shelf.old) (S.faults shelf.new)) }
+    ensures absent { IfSome (known_files (S.told shelf.old)) (λ files. IfOk result (λ answer. answer.status ≡ Status.Done → ProblemIsAbsent (problem_of files search.now rule demands))) }
+    ensures counts { Counts (S.faults shelf.old) (S.faults shelf.new) }
+    ensures files { known_files (S.told shelf.new) ≡ known_files (S.told shelf.old) }
+{
+    let problem = match read_problem(alloc, shelf, search, rule, demands) {
+        Ok(problem) => problem,
+        Err(fault) => return Err(fault),
+    };
+    match read_input(alloc, shelf, proof, PROOF_LIMIT) {
+        Ok(bytes) => check_proof(alloc, &problem, &bytes),
+        Err(fault) => Err(fault),
+    }
+}

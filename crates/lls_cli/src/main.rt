@@ -1,0 +1,37 @@
+//! `lls`: searches of two-state cellular automata whose answers carry their evidence. `run` does all that the program does.
+#![tactic(auto)]
+
+mod answer;
+mod command;
+mod fault;
+mod input;
+mod job;
+mod run;
+mod scan;
+mod settings;
+mod status;
+#[cfg(test)]
+mod tests;
+mod text;
+mod words;
+mod words_error;
+
+use lls_base::{DiskShelf, StdSink};
+use std::env;
+use std::process::ExitCode;
+
+/// The status where the system doesn't give the words.
+const NO_WORDS: u8 = 7;
+
+fn main(rt: HostRuntime) -> ExitCode {
+    let Ok(words) = env::args(&rt) else {
+        return ExitCode::from(NO_WORDS);
+    };
+    let Ok(words) = words.skip(1).collect::<Vec<String>>(rt.alloc()) else {
+        return ExitCode::from(NO_WORDS);
+    };
+    let mut shelf = DiskShelf::new(&rt);
+    let mut out = StdSink::new(rt.stdout());
+    let mut err = StdSink::new(rt.stderr());
+    ExitCode::from(run::run(rt.alloc(), &words, &mut shelf, &mut out, &mut err).code())
+}
