@@ -1,5 +1,5 @@
 -- Clauses, formulas and assignments (DIMACS CNF), and what it means that an assignment satisfies them.
-use Rattle.std.specs.Prelude.{◌≡◌, ◌<◌, ◌≤◌, ℕ, zero, suc, ◌-◌, ℤ, pos, negsuc, Bool, true, false, not, nat_le, List, [], ◌∷◌, length, slice_index_or}
+use Rattle.std.specs.Prelude.{◌≡◌, ℕ, zero, suc, ℤ, pos, negsuc, Bool, false, not, nat_le, List, length, slice_index_or}
 use Rattle.std.specs.List.{list_any, list_all}
 use Rattle.lls_lit.specs.Literal.{variable_of}
 

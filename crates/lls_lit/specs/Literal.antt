@@ -1,5 +1,5 @@
 -- A literal is a whole number that isn't 0: v for a variable, -v for its negation, as DIMACS CNF writes them.
-use Rattle.std.specs.Prelude.{◌≡◌, ◌<◌, ◌≤◌, ℕ, zero, suc, ◌+◌, ◌-◌, ◌*◌, ℤ, pos, negsuc}
+use Rattle.std.specs.Prelude.{◌≤◌, ℕ, zero, suc, ◌+◌, ◌-◌, ◌*◌, ℤ, pos, negsuc}
 
 -- a variable's number
 abbrev pub IsVariable : ℕ → Type 0

@@ -1,5 +1,5 @@
 -- What holds of a checker's parts, after its marks reach further and after a good step.
-use Rattle.std.proofs.Common.{◌≡◌, ℕ, ◌+◌, ◌<◌, ◌≤◌, Bool, true, false, not, ◌&&◌, cond, eqb, leb, leb-true, List, [], ◌∷◌, ◌++◌, length, get_or, take, Option, Some, None, refl, sym, ap, ◌∙◌, arith, Bor}
+use Rattle.std.proofs.Common.{◌≡◌, ℕ, ◌+◌, ◌<◌, ◌≤◌, Bool, true, false, cond, eqb, leb, leb-true, List, [], ◌∷◌, ◌++◌, length, get_or, take, Option, Some, None, refl, sym, ◌∙◌, arith, Bor}
 use Rattle.std.specs.Prelude.{ℤ, filter, is_some, is_none}
 use Rattle.std.specs.List.{list_all, enumerate_from}
 use Rattle.std.specs.Option.{option_copied}
@@ -7,17 +7,13 @@ use Rattle.std.proofs.lemmas.Bool.{le-leb}
 use Rattle.std.proofs.lemmas.Bool.Decides.{nat_tests}
 use Rattle.std.proofs.lemmas.List.Folds.{list_all-append, list_all_more}
 use Rattle.lls_lit.specs.Literal.{variable_of}
-use Rattle.lls_lit.specs.Formula.{Clause, Cnf, is_within, IsUnsatisfiable}
-use Rattle.lls_prooflog.specs.declared.step.Step.{Step}
+use Rattle.lls_lit.specs.Formula.{Clause, Cnf, is_within}
 use Rattle.lls_prooflog.specs.declared.step.Step.TheVariants.{Add, Del}
-use Rattle.lls_prooflog.specs.Steps.{Live, IdLive, numbered, find_clause, unit_walk, fault_of, after, is_empty_addition, IsEntailed}
+use Rattle.lls_prooflog.specs.Steps.{Live, numbered, find_clause, unit_walk, fault_of, after, is_empty_addition}
 use Rattle.lls_prooflog.proofs.Soundness.{IsEntailed-numbered, IsEntailed-after, unsatisfiable_at_empty}
 use Rattle.lls_lrat.specs.Hinted.{are_within}
 use Rattle.lls_lrat.specs.Checking.{IsChecking}
-
-both_true : (a b : Bool) → (a && b) ≡ true → (a ≡ true) × (b ≡ true)
-both_true true b e = (refl, e)
-both_true false b e = absurd cc
+use Rattle.lls_lrat.proofs.Booleans.{both_true}
 
 -- what is within the variables is within more
 pub is_within-more : (v w : ℕ) (clause : Clause) → v ≤ w → is_within v clause ≡ true → is_within w clause ≡ true

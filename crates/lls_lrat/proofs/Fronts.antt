@@ -1,18 +1,10 @@
 -- The first line of a text and the first word of a line.
-use Rattle.std.proofs.Common.{◌≡◌, ℕ, zero, suc, ◌<◌, Bool, true, false, not, ◌&&◌, cond, eqb, List, [], ◌∷◌, ◌++◌, length, Option, Some, None, refl, sym, ap, ◌∙◌, arith, Bor}
+use Rattle.std.proofs.Common.{◌≡◌, ℕ, true, false, not, eqb, List, [], ◌∷◌, ◌++◌, length, Option, Some, None, refl, ap, ◌∙◌, Bor}
 use Rattle.std.specs.Prelude.{unwrap_or}
 use Rattle.std.specs.List.{list_all}
-use Rattle.std.proofs.lemmas.List.{append-nil}
 use Rattle.lls_lrat.specs.Texts.{put_first, lines_of, words_of}
 use Rattle.lls_lrat.specs.Split.{words_left, IsSplit}
-
-both_true : (a b : Bool) → (a && b) ≡ true → (a ≡ true) × (b ≡ true)
-both_true true b e = (refl, e)
-both_true false b e = absurd cc
-
-not_true : (b : Bool) → not b ≡ true → b ≡ false
-not_true true e = absurd cc
-not_true false e = refl
+use Rattle.lls_lrat.proofs.Booleans.{both_true, not_true}
 
 lines-front : (front after : List ℕ) → list_all (λ b. not (eqb b 10)) front ≡ true → lines_of (front ++ 10 ∷ after) ≡ front ∷ lines_of after
 lines-front [] after h = refl

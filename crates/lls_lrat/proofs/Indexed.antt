@@ -1,5 +1,5 @@
 -- The map from ids to the places of the clauses that are stored under them.
-use Rattle.std.proofs.Common.{◌≡◌, ℕ, zero, suc, ◌+◌, ◌<◌, ◌≤◌, ◌≢◌, Bool, true, false, cond, eqb, ltb, List, [], ◌∷◌, ◌++◌, map, length, get_or, Option, Some, None, refl, sym, ap, ◌∙◌, append_assoc, arith, eq-eqb, ltb-true}
+use Rattle.std.proofs.Common.{◌≡◌, ℕ, zero, suc, ◌+◌, ◌<◌, true, false, cond, eqb, ltb, List, [], ◌∷◌, ◌++◌, map, length, get_or, Option, Some, None, refl, sym, ap, ◌∙◌, append_assoc, arith, ltb-true}
 use Rattle.std.specs.Prelude.{slice_get}
 use Rattle.std.specs.List.{zip, enumerate_from}
 use Rattle.std.proofs.lemmas.Bool.{eqb-true}
@@ -93,17 +93,6 @@ IsIndexed-push place_of place_of' clauses ids added id n lits h e at = record {
             rw (← last) (get_last firsts id ∙ ap (λ (m : ℕ). Some m) (eqb-true id q same))
         | false ↦ λ other. get_front firsts (id ∷ []) place q (h.under q place (sym (at q ∙ ap (λ b. cond b (Some n) (place_of q)) other) ∙ is))
       ] refl);
-}
-
--- ids are taken out of the map
-pub IsIndexed-less : (place_of place_of' : ℕ → Option ℕ) (gone : ℕ → Bool) (clauses : List Clause) (ids : List ℕ) (added : List Clause) → IsIndexed place_of clauses ids added → ((q : ℕ) → place_of' q ≡ cond (gone q) None (place_of q)) → IsIndexed place_of' clauses ids added
-IsIndexed-less place_of place_of' gone clauses ids added h at = record {
-  same_many = h.same_many;
-  under = λ q place is.
-      elim (gone q) as (λ b. gone q ≡ b → slice_get (map (λ (pair : ℕ × Clause). pair.0) (stored clauses ids added)) place ≡ Some q) [
-        | true ↦ λ out. let none : None ≡ Some place = sym (at q ∙ ap (λ b. cond b None (place_of q)) out) ∙ is in absurd cc
-        | false ↦ λ stays. h.under q place (sym (at q ∙ ap (λ b. cond b None (place_of q)) stays) ∙ is)
-      ] refl;
 }
 
 -- an id that isn't live leads nowhere

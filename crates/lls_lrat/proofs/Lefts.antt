@@ -1,5 +1,5 @@
 -- What is left of a clause, as a loop goes through it.
-use Rattle.std.proofs.Common.{◌≡◌, ℕ, ◌+◌, ◌<◌, Bool, true, false, not, ◌&&◌, cond, List, [], ◌∷◌, ◌++◌, length, get_or, take, drop, Option, Some, None, refl, sym, ap, ◌∙◌, append_assoc, arith}
+use Rattle.std.proofs.Common.{◌≡◌, ℕ, ◌+◌, ◌<◌, Bool, true, false, cond, List, [], ◌∷◌, ◌++◌, length, get_or, take, drop, Option, Some, None, refl, sym, ap, ◌∙◌}
 use Rattle.std.specs.Prelude.{ℤ, filter}
 use Rattle.std.specs.List.{list_all}
 use Rattle.std.specs.Ordering.{int_eq}
@@ -36,7 +36,3 @@ left_in-differs keep clause i m d lt e passes other =
     ap (filter keep) split ∙ filter-append keep (take i clause) (l ∷ drop (i + 1) clause)
     ∙ ap (λ b. filter keep (take i clause) ++ cond b (l ∷ filter keep (drop (i + 1) clause)) (filter keep (drop (i + 1) clause))) passes
     in rw kept (differs (filter keep (take i clause)) m l (filter keep (drop (i + 1) clause)) e other)
-
-pub not_true : (b : Bool) → true ≡ not b → b ≡ false
-not_true true e = absurd cc
-not_true false e = refl

@@ -1,3 +1,4 @@
+pub mod Booleans
 pub mod Maps
 pub mod Kept
 pub mod Indexed

@@ -1,5 +1,5 @@
 -- Unit propagation by hints, as a loop goes through them.
-use Rattle.std.proofs.Common.{◌≡◌, ℕ, ◌+◌, ◌<◌, ◌≤◌, Bool, true, false, not, ◌&&◌, cond, List, [], ◌∷◌, ◌++◌, length, get_or, drop, Option, Some, None, refl, sym, ap, ◌∙◌, arith}
+use Rattle.std.proofs.Common.{◌≡◌, ℕ, ◌+◌, ◌<◌, ◌≤◌, true, false, not, cond, List, [], ◌∷◌, ◌++◌, length, get_or, drop, Option, Some, None, refl, sym, ap, ◌∙◌}
 use Rattle.std.specs.Prelude.{ℤ, pos, negsuc, filter, is_none}
 use Rattle.std.specs.List.{list_all}
 use Rattle.std.specs.Ordering.{int_cmp, int_eq}
@@ -10,7 +10,7 @@ use Rattle.std.proofs.lemmas.List.Elements.{filter_agree}
 use Rattle.lls_lit.specs.Literal.{negation}
 use Rattle.lls_lit.specs.Formula.{Clause}
 use Rattle.lls_lit.specs.Marked.{Marked}
-use Rattle.lls_prooflog.specs.UnitWalk.{Live, Fault, NotUnit, NoClause, is_among, remaining, at_clause, at_hint, find_clause, unit_walk}
+use Rattle.lls_prooflog.specs.UnitWalk.{Live, Fault, NotUnit, is_among, remaining, at_clause, at_hint, unit_walk}
 use Rattle.lls_lrat.specs.declared.walk.Left.{Left}
 use Rattle.lls_lrat.specs.declared.walk.Left.TheVariants.{Nothing, One, More}
 use Rattle.lls_lrat.specs.Left.{left_in}

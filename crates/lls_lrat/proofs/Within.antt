@@ -1,17 +1,13 @@
 -- Clauses and literals within the variables.
-use Rattle.std.proofs.Common.{◌≡◌, ℕ, zero, suc, ◌+◌, ◌<◌, ◌≤◌, Bool, true, false, ◌&&◌, cond, eqb, List, [], ◌∷◌, length, get_or, Option, Some, None, refl, sym, ap, ◌∙◌, arith, leb, leb-true}
+use Rattle.std.proofs.Common.{◌≡◌, ℕ, zero, suc, ◌<◌, ◌≤◌, true, false, cond, eqb, [], ◌∷◌, length, get_or, Some, refl, arith, leb, leb-true}
 use Rattle.std.specs.Prelude.{ℤ, pos, negsuc}
-use Rattle.std.specs.List.{list_all}
 use Rattle.std.proofs.lemmas.Option.{same_Some, slice_get-get_or}
 use Rattle.lls_lit.specs.Literal.{variable_of, negation}
 use Rattle.lls_lit.specs.Formula.{Clause, is_within}
 use Rattle.lls_cnf.proofs.Within.{passes_at}
 use Rattle.lls_prooflog.specs.UnitWalk.{Live, find_clause}
 use Rattle.lls_lrat.specs.Hinted.{are_within, hinted_clause}
-
-both_true : (a b : Bool) → (a && b) ≡ true → (a ≡ true) × (b ≡ true)
-both_true true b e = (refl, e)
-both_true false b e = absurd cc
+use Rattle.lls_lrat.proofs.Booleans.{both_true}
 
 found_within : (vars : ℕ) (live : Live) (id : ℕ) (clause : Clause) → are_within vars live ≡ true → find_clause live id ≡ Some clause → is_within vars clause ≡ true
 found_within vars [] id clause all e = absurd cc

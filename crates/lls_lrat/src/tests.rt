@@ -63,7 +63,11 @@ fn proofs_as_text(rt: HostRuntime) -> Result<(), Fail> {
         ("\n5 0 1 2 4 0\n", Err(CheckError::Unbuilt)),
     ];
     for (text, want) in rows {
-        assert_eq!(rt; check_bytes(rt.alloc(), &formula, text.as_bytes()), want, "at {text:?}");
+        assert_eq!(rt;
+            check_bytes(rt.alloc(), &formula, text.as_bytes()),
+            want,
+            "at {text:?}"
+        );
     }
     Ok(())
 }

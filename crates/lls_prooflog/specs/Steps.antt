@@ -1,9 +1,9 @@
 -- Good steps, the clauses that are live after a step, and accepted proofs.
-use Rattle.std.specs.Prelude.{◌≡◌, ℕ, ℤ, Bool, true, false, not, ◌||◌, List, [], ◌∷◌, ◌++◌, map, length, Option, Some, None, is_some, is_none, filter, if◌then◌else◌, ◌==◌}
+use Rattle.std.specs.Prelude.{◌≡◌, Bool, true, false, not, ◌||◌, List, [], ◌∷◌, ◌++◌, map, length, Option, Some, None, is_some, is_none, filter, if◌then◌else◌, ◌==◌}
 use Rattle.std.specs.List.{list_any}
 use Rattle.lls_prooflog.specs.declared.step.Step.{Step}
 use Rattle.lls_prooflog.specs.declared.step.Step.TheVariants.{Add, Del}
-use Rattle.lls_lit.specs.Formula.{Clause, Cnf, satisfies}
+use Rattle.lls_lit.specs.Formula.{Cnf, satisfies}
 pub use Rattle.lls_prooflog.specs.UnitWalk.{Fault, IdLive, NoClause, NotUnit, NoConflict, RatHint, Live, numbered, find_clause, unit_walk}
 
 -- what is wrong with a step: None where it is good. Every deletion is

@@ -1,4 +1,4 @@
-use Rattle.std.proofs.Common.{◌≡◌, ◌-◌, ap, get_or, take, drop, arith}
+use Rattle.std.proofs.Common.{arith}
 use Rattle.lls_cnf.proofs.Cut.{bounds, slice_get-pieces}
 use Rattle.lls_cnf.proofs.clauses.piece.Goals as goal
 

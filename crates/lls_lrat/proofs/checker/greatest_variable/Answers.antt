@@ -1,7 +1,6 @@
-use Rattle.std.proofs.Common.{◌≡◌, ◌≤◌, true, take, get_or, arith, rules}
+use Rattle.std.proofs.Common.{◌≤◌, take, get_or, arith}
 use Rattle.std.proofs.lemmas.Grind.{common_steps}
 use Rattle.lls_lit.specs.Literal.{variable_of}
-use Rattle.lls_lit.specs.Formula.{is_within}
 use Rattle.lls_lrat.proofs.Checks.{is_within-more, is_within-push}
 use Rattle.lls_lrat.proofs.checker.greatest_variable.Goals as goal
 

@@ -1,6 +1,5 @@
-use Rattle.std.proofs.Common.{◌≡◌, ◌≤◌, ap, arith}
+use Rattle.std.proofs.Common.{◌≤◌, arith}
 use Rattle.std.proofs.lemmas.Grind.{common_steps}
-use Rattle.lls_lit.specs.Marked.{Marked}
 use Rattle.lls_lrat.proofs.Checks.{is_within-more}
 use Rattle.lls_lrat.proofs.checker.reach.Goals as goal
 

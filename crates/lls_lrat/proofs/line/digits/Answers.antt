@@ -1,4 +1,4 @@
-use Rattle.std.proofs.Common.{◌≡◌, ◌≤◌, ◌-◌, get_or, arith}
+use Rattle.std.proofs.Common.{◌≤◌, get_or, arith}
 use Rattle.std.proofs.lemmas.Grind.{common_steps}
 use Rattle.lls_lrat.proofs.Numbers.{below_17, below_18}
 use Rattle.lls_lrat.proofs.line.digits.Goals as goal

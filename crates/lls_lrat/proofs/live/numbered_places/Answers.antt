@@ -1,4 +1,3 @@
-use Rattle.std.proofs.Common.{◌≡◌}
 use Rattle.lls_lrat.proofs.PlaceMaps.{place_in-none, place_in-more}
 use Rattle.lls_lrat.proofs.live.numbered_places.Goals as goal
 

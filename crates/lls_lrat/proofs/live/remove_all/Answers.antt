@@ -1,4 +1,3 @@
-use Rattle.std.proofs.Common.{◌≡◌}
 use Rattle.lls_lrat.proofs.PlaceMaps.{removed_more}
 use Rattle.lls_lrat.proofs.live.remove_all.Goals as goal
 

@@ -1,4 +1,3 @@
-use Rattle.std.proofs.Common.{◌≡◌}
 use Rattle.lls_lrat.proofs.PlaceMaps.{remove-insert}
 use Rattle.lls_lrat.proofs.live.store_at.Goals as goal
 

@@ -1,8 +1,8 @@
-use Rattle.std.proofs.Common.{◌≡◌, ◌≤◌, List, [], ◌∷◌, ◌++◌, get_or, drop, refl, sym, ap, ◌∙◌}
-use Rattle.std.specs.Prelude.{ℤ, pos}
-use Rattle.lls_lit.specs.Literal.{variable_of, negation}
+use Rattle.std.proofs.Common.{◌≡◌, [], ◌∷◌, ◌++◌, get_or, refl, sym, ap, ◌∙◌}
+use Rattle.std.specs.Prelude.{pos}
+use Rattle.lls_lit.specs.Literal.{negation}
 use Rattle.lls_lit.specs.Marked.{Marked}
-use Rattle.lls_lrat.proofs.Walked.{Walked, ends_without_clause, ends_in_conflict, ends_not_unit, goes_on, ends_with_no_conflict}
+use Rattle.lls_lrat.proofs.Walked.{ends_without_clause, ends_in_conflict, ends_not_unit, goes_on, ends_with_no_conflict}
 use Rattle.lls_lrat.proofs.Within.{hinted_within, variable_of-negation}
 use Rattle.lls_lrat.proofs.walk.closes.Goals as goal
 

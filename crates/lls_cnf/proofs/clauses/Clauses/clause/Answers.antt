@@ -1,5 +1,4 @@
-use Rattle.std.proofs.Common.{◌≡◌, List, length, ap, arith}
-use Rattle.lls_lit.specs.Formula.{Clause}
+use Rattle.std.proofs.Common.{◌≡◌, length, ap, arith}
 use Rattle.lls_cnf.specs.Pieces.{pieces}
 use Rattle.lls_cnf.proofs.Cut.{length-pieces}
 use Rattle.lls_cnf.proofs.clauses.Clauses.clause.Goals as goal

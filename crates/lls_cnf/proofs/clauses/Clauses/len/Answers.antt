@@ -1,4 +1,4 @@
-use Rattle.std.proofs.Common.{length, arith}
+use Rattle.std.proofs.Common.{arith}
 use Rattle.lls_cnf.proofs.Cut.{length-pieces}
 use Rattle.lls_cnf.proofs.clauses.Clauses.len.Goals as goal
 

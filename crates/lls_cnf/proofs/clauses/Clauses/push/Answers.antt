@@ -1,4 +1,3 @@
-use Rattle.std.proofs.Common.{◌≡◌, arith}
 use Rattle.std.proofs.lemmas.List.{length-append}
 use Rattle.lls_cnf.proofs.Cut.{pieces-push, AreEnds-push}
 use Rattle.lls_cnf.proofs.clauses.Clauses.push.Goals as goal

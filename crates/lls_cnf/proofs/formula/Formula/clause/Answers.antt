@@ -1,4 +1,3 @@
-use Rattle.std.proofs.Common.{◌≡◌}
 use Rattle.lls_lit.specs.Formula.{is_within}
 use Rattle.lls_cnf.proofs.Within.{passes_at}
 use Rattle.lls_cnf.proofs.formula.Formula.clause.Goals as goal

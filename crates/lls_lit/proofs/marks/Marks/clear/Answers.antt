@@ -1,4 +1,4 @@
-use Rattle.std.proofs.Common.{◌≡◌, ap, ◌∙◌, length, arith}
+use Rattle.std.proofs.Common.{◌≡◌, ◌∙◌, length}
 use Rattle.std.proofs.lemmas.List.{with_items_is}
 use Rattle.lls_lit.proofs.Stamps.{marked-newer}
 use Rattle.lls_lit.proofs.marks.Marks.clear.Goals as goal

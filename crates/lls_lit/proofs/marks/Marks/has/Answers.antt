@@ -1,5 +1,4 @@
-use Rattle.std.proofs.Common.{◌≡◌, ◌<◌, ◌≤◌, sym, ap, ◌∙◌, eqb, get_or, length, arith}
-use Rattle.std.specs.FinSet as members
+use Rattle.std.proofs.Common.{◌≡◌, ◌<◌, ◌≤◌, sym, ap, get_or, length, arith}
 use Rattle.std.proofs.lemmas.List.{get_or_read}
 use Rattle.lls_lit.specs.Literal.{variable_of, index_of}
 use Rattle.lls_lit.specs.Marked.{Marked}

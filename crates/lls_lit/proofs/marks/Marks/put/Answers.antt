@@ -1,4 +1,4 @@
-use Rattle.std.proofs.Common.{◌≡◌, ◌<◌, ◌≤◌, sym, ap, ◌∙◌, length, arith}
+use Rattle.std.proofs.Common.{◌<◌, ◌≤◌, ap, length, arith}
 use Rattle.lls_lit.specs.Literal.{variable_of, index_of}
 use Rattle.lls_lit.specs.Marked.{Marked}
 use Rattle.lls_lit.proofs.Stamps.{marked-put, index_within}

@@ -1,10 +1,7 @@
-use Rattle.std.proofs.Common.{◌≡◌, ◌≤◌, true, false, refl, sym, ap, ◌∙◌, arith}
-use Rattle.std.specs.Prelude.{is_some, is_none}
-use Rattle.lls_lit.specs.Formula.{is_within}
-use Rattle.lls_prooflog.specs.declared.step.Step.TheVariants.{Add}
-use Rattle.lls_prooflog.specs.Steps.{find_clause, fault_of, is_empty_addition}
+use Rattle.std.proofs.Common.{◌≡◌, true, false, refl, sym, ap, ◌∙◌}
+use Rattle.std.specs.Prelude.{is_some}
+use Rattle.lls_prooflog.specs.Steps.{find_clause}
 use Rattle.lls_lrat.specs.Checking.{Checking, IsChecking}
-use Rattle.lls_lrat.specs.Hinted.{are_within}
 use Rattle.lls_lrat.proofs.Checks.{IsChecking-reach, IsChecking-add, good_addition, is_empty_addition-Add, is_some-copied}
 use Rattle.lls_lrat.proofs.checker.Checker.add.Goals as goal
 

@@ -1,4 +1,3 @@
-use Rattle.std.proofs.Common.{◌≡◌}
 use Rattle.lls_lrat.proofs.Checks.{IsChecking-start}
 use Rattle.lls_lrat.proofs.checker.Checker.new.Goals as goal
 

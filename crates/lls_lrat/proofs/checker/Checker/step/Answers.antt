@@ -1,4 +1,4 @@
-use Rattle.std.proofs.Common.{◌≡◌, false, subst}
+use Rattle.std.proofs.Common.{false}
 use Rattle.lls_lrat.specs.Checking.{IsChecking}
 use Rattle.lls_lrat.proofs.Checks.{IsChecking-delete}
 use Rattle.lls_lrat.proofs.checker.Checker.step.Goals as goal

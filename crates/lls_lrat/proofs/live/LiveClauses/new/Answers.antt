@@ -1,4 +1,4 @@
-use Rattle.std.proofs.Common.{◌≡◌, ℕ, length, ap, ◌∙◌}
+use Rattle.std.proofs.Common.{ℕ, ap, ◌∙◌}
 use Rattle.std.specs.FinMap as map
 use Rattle.lls_lrat.specs.Stored.{place_in}
 use Rattle.lls_lrat.proofs.Indexed.{IsIndexed-start, kept-start}

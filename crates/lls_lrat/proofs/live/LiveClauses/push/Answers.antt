@@ -1,4 +1,4 @@
-use Rattle.std.proofs.Common.{◌≡◌, ◌+◌, length, ap, sym, ◌∙◌, arith}
+use Rattle.std.proofs.Common.{◌≡◌, ◌+◌, length, arith}
 use Rattle.std.specs.FinMap as map
 use Rattle.lls_lrat.specs.Stored.{stored}
 use Rattle.lls_lrat.proofs.Kept.{kept-push}

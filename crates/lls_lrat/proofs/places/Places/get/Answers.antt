@@ -1,4 +1,4 @@
-use Rattle.std.proofs.Common.{◌≡◌, sym, ◌∙◌}
+use Rattle.std.proofs.Common.{sym, ◌∙◌}
 use Rattle.lls_lrat.proofs.Maps.{get-from_entries}
 use Rattle.lls_lrat.proofs.places.Places.get.Goals as goal
 

@@ -1,4 +1,4 @@
-use Rattle.std.proofs.Common.{◌≡◌, refl, sym}
+use Rattle.std.proofs.Common.{refl, sym}
 use Rattle.lls_lrat.proofs.Fronts.{lines-split}
 use Rattle.lls_lrat.proofs.texts.Lines.next.Goals as goal
 

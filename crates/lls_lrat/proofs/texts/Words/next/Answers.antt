@@ -1,4 +1,3 @@
-use Rattle.std.proofs.Common.{◌≡◌}
 use Rattle.lls_lrat.proofs.Fronts.{words-split}
 use Rattle.lls_lrat.proofs.texts.Words.next.Goals as goal
 
