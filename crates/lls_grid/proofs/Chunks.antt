@@ -155,20 +155,25 @@ take-chunked size (suc k) count items =
     let more : suc k + count ≡ suc (k + count) = omega arith in
     ap (λ n. take (suc k) (chunked size n items)) more ∙ ap (λ pieces. take size items ∷ pieces) (take-chunked size k count (drop size items))
 
--- the rows of a generation
-pub rows_at-folded_chunked : (generations height width t : ℕ) (cells : List Bool) → length cells ≡ width * (height * generations) → t < generations
-    → rows_at (folded generations height width cells) t ≡ chunked width height (drop (width * (height * t)) cells)
-rows_at-folded_chunked generations height width t cells count t_in =
-    let rows = chunked width (height * generations) cells in
+-- pieces of pieces, as the rows of a generation
+pub get_or-chunked_twice : {X : Type 0} (generations height width t : ℕ) (items : List X) → t < generations
+    → get_or (chunked height generations (chunked width (height * generations) items)) t [] ≡ chunked width height (drop (width * (height * t)) items)
+get_or-chunked_twice generations height width t items t_in =
+    let rows = chunked width (height * generations) items in
     let later = height * generations - (height * t + height) in
     let up : height * suc t ≤ height * generations = mul-le-mul_left height t_in in
     let step : height * suc t ≡ height * t + height = omega arith in
     let split : height * generations ≡ height * t + (height + later) = omega (arith, up, step) in
-    ap (λ h. rows_at h t) (folded-chunked generations height width cells count) ∙
-    (get_or-chunked height generations t rows t_in ∙
-    (ap (λ n. take height (drop (height * t) (chunked width n cells))) split ∙
-    (ap (take height) (drop-chunked width (height * t) (height + later) cells) ∙
-    take-chunked width height later (drop (width * (height * t)) cells))))
+    get_or-chunked height generations t rows t_in
+    ∙ (ap (λ n. take height (drop (height * t) (chunked width n items))) split
+    ∙ (ap (take height) (drop-chunked width (height * t) (height + later) items)
+    ∙ take-chunked width height later (drop (width * (height * t)) items)))
+
+-- the rows of a generation
+pub rows_at-folded_chunked : (generations height width t : ℕ) (cells : List Bool) → length cells ≡ width * (height * generations) → t < generations
+    → rows_at (folded generations height width cells) t ≡ chunked width height (drop (width * (height * t)) cells)
+rows_at-folded_chunked generations height width t cells count t_in =
+    ap (λ h. rows_at h t) (folded-chunked generations height width cells count) ∙ get_or-chunked_twice generations height width t cells t_in
 
 -- the cells of a generation in their order
 pub cells_of_rows-folded : (generations height width t : ℕ) (cells : List Bool) → length cells ≡ width * (height * generations) → t < generations

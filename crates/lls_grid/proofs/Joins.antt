@@ -1,5 +1,6 @@
 -- Texts joined by a byte.
-use Rattle.std.proofs.Common.{◌≡◌, ◌<◌, ◌⊎◌, inl, inr, ℕ, suc, eqb, Bool, true, false, cond, List, [], ◌∷◌, ◌++◌, length, refl, sym, ap, ◌∙◌, arith, append_assoc}
+use Rattle.std.proofs.Common.{◌≡◌, ◌<◌, ◌+◌, ◌⊎◌, inl, inr, ℕ, suc, eqb, Bool, true, false, cond, List, [], ◌∷◌, ◌++◌, length, get_or, take, map, refl, sym, ap, ◌∙◌, arith, append_assoc, length-take}
+use Rattle.std.proofs.lemmas.List.{take_more, map-append, length-map}
 use Rattle.std.specs.List.{join_with_byte}
 use Rattle.std.proofs.lemmas.Bool.{ne_eqb}
 
@@ -30,3 +31,18 @@ separated c done text old before middle after so_far (inl some) end =
 separated c [] text old before middle after so_far (inr none) end =
     end ∙ rw (none.1, so_far) (append_assoc old [] text)
 separated c (first ∷ done) text old before middle after so_far (inr none) end = absurd (omega (arith, none.0))
+
+-- one more word of a row
+pub word_more : {X : Type 0} (c : ℕ) (word : X → List ℕ) (row : List X) (x : ℕ) (d : X) (old before middle after : List ℕ) → x < length row
+    → before ≡ old ++ join_with_byte c (map word (take x row)) → ((0 < x) × (middle ≡ before ++ c ∷ [])) ⊎ ((x ≡ 0) × (middle ≡ before))
+    → after ≡ middle ++ word (get_or row x d) → after ≡ old ++ join_with_byte c (map word (take (x + 1) row))
+word_more c word row x d old before middle after within so_far between end =
+    let done = map word (take x row) in
+    let count : length done ≡ x = omega (arith, length-map (take x row) word, length-take x row, within) in
+    let more : map word (take (x + 1) row) ≡ done ++ word (get_or row x d) ∷ [] =
+    ap (map word) (take_more row x d within) ∙ map-append word (take x row) (get_or row x d ∷ []) in
+    rw more (separated c done (word (get_or row x d)) old before middle after so_far
+    (elim between [
+      | inl some ↦ inl (omega (arith, count, some.0), some.1)
+      | inr none ↦ inr (omega (arith, count, none.0), none.1)
+    ]) end)

@@ -3,7 +3,10 @@ pub mod Numbering
 pub mod Endings
 pub mod NameBytes
 pub mod Renumbering
+pub mod RowTexts
+pub mod RoundTrip
 pub mod Rows
 pub mod Texts
+pub mod WordTexts
 pub mod Cuts
 pub mod Pieces

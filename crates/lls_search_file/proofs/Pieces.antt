@@ -1,6 +1,8 @@
 -- Reading a row from a place on.
 use Rattle.std.proofs.Common.{◌≡◌, ◌<◌, ◌≤◌, ℕ, zero, suc, ◌+◌, ◌-◌, Bool, true, false, cond, not, ◌||◌, List, [], ◌∷◌, ◌++◌, length, take, drop, get_or, Option, Some, None, Result, Ok, Err, refl, sym, ap, ◌∙◌, arith, drop-cons, add-one, append_assoc}
-use Rattle.std.specs.List.{prefix_len, take_while}
+use Rattle.std.specs.List.{prefix_len, take_while, list_all}
+use Rattle.std.proofs.lemmas.Bool.{and_parts}
+use Rattle.std.proofs.Math.Seq.{take-append_seam, drop-append_seam}
 use Rattle.std.proofs.lemmas.List.{drop-drop}
 use Rattle.lls_search_file.specs.declared.error.PosedError.{PosedError}
 use Rattle.lls_search_file.specs.declared.error.PosedError.TheVariants.{BadCell}
@@ -98,3 +100,24 @@ good_word front line at after_comma bytes cell solid good =
     let rest = read_from line false (at + prefix_len is_solid (drop at bytes)) bytes in
     ap (after_front front) (read_solid line at after_comma bytes solid) ∙
     (ap (λ cell. after_front front (cell_before line (at + 1) cell rest)) good ∙ after_front-cell_before front line (at + 1) cell rest)
+
+prefix_front : (front rest : List ℕ) → list_all is_solid front ≡ true → begins_solid rest ≡ false → prefix_len is_solid (front ++ rest) ≡ length front
+prefix_front [] rest all end = none_solid rest end
+prefix_front (b ∷ front) rest all end =
+    let parts = and_parts (is_solid b) (list_all is_solid front) all in
+    rw (parts.0, prefix_front front rest parts.1 end) (omega arith)
+
+begins_front : (front rest : List ℕ) → 0 < length front → list_all is_solid front ≡ true → begins_solid (front ++ rest) ≡ true
+begins_front [] rest some all = absurd (omega arith)
+begins_front (b ∷ front) rest some all = (and_parts (is_solid b) (list_all is_solid front) all).0
+
+-- a word before what is no part of it
+pub word_then : (column : ℕ) (front rest : List ℕ) → 0 < length front → list_all is_solid front ≡ true → begins_solid rest ≡ false
+    → pieces_of column (front ++ rest) ≡ word column front ∷ pieces_of (column + length front) rest
+unfolding IsWordFirst
+word_then column front rest some all end =
+    let bytes = front ++ rest in
+    let count : prefix_len is_solid bytes ≡ length front = prefix_front front rest all end in
+    first_word column bytes (begins_front front rest some all) ∙
+    (ap (λ n. word column (take n bytes) ∷ pieces_of (column + n) (drop n bytes)) count ∙
+    rw (take-append_seam front rest, drop-append_seam front rest) refl)

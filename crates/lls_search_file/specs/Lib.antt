@@ -2,6 +2,7 @@ pub mod Kept
 pub mod Lines
 pub mod Plain
 pub mod Posed
+pub mod Printing
 pub mod Reader
 pub mod Reading
 pub mod Seen

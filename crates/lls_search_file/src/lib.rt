@@ -7,6 +7,7 @@ mod lines;
 mod names;
 mod plain;
 mod posed;
+mod print;
 mod read;
 mod row;
 mod shape;
@@ -16,6 +17,7 @@ pub use cell::{Cell, Cells, Kind};
 pub use error::PosedError;
 pub use plain::{HistoryError, read_history};
 pub use posed::{Names, Posed};
+pub use print::print_posed;
 pub use read::read_posed;
 
 #[cfg(test)]

@@ -1,0 +1,181 @@
+-- The rows of a printed file, and what they read as.
+use Rattle.std.proofs.Common.{◌≡◌, ◌<◌, ◌≤◌, ℕ, zero, suc, ◌+◌, ◌-◌, leb, ltb, eqb, Bool, true, false, cond, not, ◌&&◌, ◌||◌, List, [], ◌∷◌, ◌++◌, length, take, get_or, map, flat_map, Option, None, Some, Result, Ok, Err, refl, sym, ap, ◌∙◌, arith, append_assoc, append-nil}
+use Rattle.std.specs.List.{list_all, prefix_len, position, join_with_byte, onto_first}
+use Rattle.std.specs.Str.Lines.{strip_carriage_return}
+use Rattle.std.proofs.lemmas.Bool.{and_parts, and_from, leb-true, le-leb, le-ltb, ne_eqb, eqb-true}
+use Rattle.std.proofs.lemmas.List.Folds.{list_all-append}
+use Rattle.lls_grid.specs.Text.{row_text, rows_text}
+use Rattle.lls_search_file.specs.declared.cell.Cell.{Cell}
+use Rattle.lls_search_file.specs.declared.error.PosedError.{PosedError}
+use Rattle.lls_search_file.specs.Lines.{cut_lines, lines_of, is_blank, is_comment, is_separator}
+use Rattle.lls_search_file.specs.Words.{Word, word_of, is_comma, is_solid, begins_solid, pieces_of, cells_read, cell_before, row_of, ascii_or, and_then}
+use Rattle.lls_search_file.specs.Reading.{Rows, line_taken, with_words}
+use Rattle.lls_search_file.specs.Kept.{word_in, words_in, is_spelled}
+use Rattle.lls_search_file.specs.Printing.{word_text}
+use Rattle.lls_search_file.proofs.Pieces.{word_then}
+use Rattle.lls_search_file.proofs.WordTexts.{is_word_byte, word_all, some_word, word_reads}
+
+-- a row's line without its LF
+abbrev pub line_of : List (List ℕ) → List Cell → List ℕ
+line_of names cells = join_with_byte 32 (map (word_text names) cells)
+
+-- the names of cells are spelled as names
+abbrev pub are_spelled : List (List ℕ) → List Cell → Bool
+are_spelled names cells = list_all (λ cell. is_spelled (word_in names cell)) cells
+
+-- a byte of a row
+abbrev pub is_row_byte : ℕ → Bool
+is_row_byte b = leb 32 b && leb b 122
+
+all_as : (p q : ℕ → Bool) → ((b : ℕ) → p b ≡ true → q b ≡ true) → (bytes : List ℕ) → list_all p bytes ≡ true → list_all q bytes ≡ true
+all_as p q weaker [] e = refl
+all_as p q weaker (b ∷ bytes) e =
+    let parts = and_parts (p b) (list_all p bytes) e in
+    and_from (q b) (list_all q bytes) (weaker b parts.0) (all_as p q weaker bytes parts.1)
+
+-- what a byte of a word is: not below 39, not above 122, no comma
+word_byte : (b : ℕ) → is_word_byte b ≡ true → (39 ≤ b) × (b ≤ 122) × (eqb b 44 ≡ false)
+word_byte b e =
+    let outer = and_parts (leb 39 b) (leb b 122 && not (eqb b 44)) e in
+    let inner = and_parts (leb b 122) (not (eqb b 44)) outer.1 in
+    (leb-true 39 b outer.0, leb-true b 122 inner.0, untrue (eqb b 44) inner.1)
+  where
+    untrue : (v : Bool) → not v ≡ true → v ≡ false
+    untrue true e = cc
+    untrue false e = refl
+
+not_blank : (b : ℕ) → is_word_byte b ≡ true → is_blank b ≡ false
+not_blank b e =
+    let facts = word_byte b e in
+    let space = ne_eqb b 32 (λ same. absurd (omega (arith, facts.0, same))) in
+    let tab = ne_eqb b 9 (λ same. absurd (omega (arith, facts.0, same))) in
+    rw (space, tab) refl
+
+solid_byte : (b : ℕ) → is_word_byte b ≡ true → is_solid b ≡ true
+solid_byte b e = rw (not_blank b e, (word_byte b e).2) refl
+
+row_byte : (b : ℕ) → is_word_byte b ≡ true → is_row_byte b ≡ true
+row_byte b e =
+    let facts = word_byte b e in
+    and_from (leb 32 b) (leb b 122) (le-leb 32 b (omega (arith, facts.0))) (le-leb b 122 facts.1)
+
+-- a printed row reads as its cells
+line_reads : (names : List (List ℕ)) (number column : ℕ) (after_comma : Bool) (cells : List Cell) → are_spelled names cells ≡ true
+    → cells_read number after_comma (pieces_of column (line_of names cells)) ≡ Ok (words_in names cells)
+line_reads names number column after_comma [] e = refl
+line_reads names number column after_comma (cell ∷ cells) e = behind cells (λ column. line_reads names number column false cells (and_parts (is_spelled (word_in names cell)) (are_spelled names cells) e).1)
+  where
+    behind : (rest : List Cell) → ((column : ℕ) → cells_read number false (pieces_of column (line_of names rest)) ≡ Ok (words_in names rest))
+        → cells_read number after_comma (pieces_of column (line_of names (cell ∷ rest))) ≡ Ok (words_in names (cell ∷ rest))
+    behind [] more =
+        let spelled = (and_parts (is_spelled (word_in names cell)) (are_spelled names cells) e).0 in
+        let word = word_text names cell in
+        let solid : list_all is_solid word ≡ true = all_as is_word_byte is_solid solid_byte word (word_all names cell spelled) in
+        ap (λ bytes. cells_read number after_comma (pieces_of column bytes)) (sym (append-nil word)) ∙
+        (ap (cells_read number after_comma) (word_then column word [] (some_word names cell spelled) solid refl) ∙
+        ap (λ w. cell_before number column w (Ok [])) (word_reads names cell spelled))
+    behind (next ∷ rest) more =
+        let spelled = (and_parts (is_spelled (word_in names cell)) (are_spelled names cells) e).0 in
+        let word = word_text names cell in
+        let line = line_of names (next ∷ rest) in
+        let solid : list_all is_solid word ≡ true = all_as is_word_byte is_solid solid_byte word (word_all names cell spelled) in
+        ap (cells_read number after_comma) (word_then column word (32 ∷ line) (some_word names cell spelled) solid refl) ∙
+        (ap (λ w. cell_before number column w (cells_read number false (pieces_of ((column + length word) + 1) line))) (word_reads names cell spelled) ∙
+        ap (cell_before number column (Some (word_in names cell))) (more ((column + length word) + 1)))
+
+-- the bytes of a printed row
+line_bytes : (names : List (List ℕ)) (cells : List Cell) → are_spelled names cells ≡ true → list_all is_row_byte (line_of names cells) ≡ true
+line_bytes names [] e = refl
+line_bytes names (cell ∷ cells) e = behind cells (line_bytes names cells (and_parts (is_spelled (word_in names cell)) (are_spelled names cells) e).1)
+  where
+    behind : (rest : List Cell) → list_all is_row_byte (line_of names rest) ≡ true → list_all is_row_byte (line_of names (cell ∷ rest)) ≡ true
+    behind [] more =
+        all_as is_word_byte is_row_byte row_byte (word_text names cell) (word_all names cell (and_parts (is_spelled (word_in names cell)) (are_spelled names cells) e).0)
+    behind (next ∷ rest) more =
+        let word = all_as is_word_byte is_row_byte row_byte (word_text names cell) (word_all names cell (and_parts (is_spelled (word_in names cell)) (are_spelled names cells) e).0) in
+        list_all-append is_row_byte (word_text names cell) (32 ∷ line_of names (next ∷ rest)) ∙ rw (word, more) refl
+
+-- no byte of it is above 127
+low_front : (bytes : List ℕ) → list_all is_row_byte bytes ≡ true → prefix_len (λ b. not (ltb 127 b)) bytes ≡ length bytes
+low_front [] e = refl
+low_front (b ∷ bytes) e =
+    let parts = and_parts (is_row_byte b) (list_all is_row_byte bytes) e in
+    let low = le-ltb 127 b (omega (arith, leb-true b 122 (and_parts (leb 32 b) (leb b 122) parts.0).1)) in
+    rw (low, low_front bytes parts.1) (omega arith)
+
+no_high : (bytes : List ℕ) → list_all is_row_byte bytes ≡ true → position (λ b. ltb 127 b) bytes ≡ None
+no_high bytes e =
+    let not_below = le-ltb (length bytes) (length bytes) (omega arith) in
+    rw (low_front bytes e, not_below) refl
+
+-- it begins with a byte of a word
+begins_word : List ℕ → Bool
+begins_word [] = false
+begins_word (b ∷ bytes) = is_word_byte b
+
+word_first : (front rest : List ℕ) → 0 < length front → list_all is_word_byte front ≡ true → begins_word (front ++ rest) ≡ true
+unfolding begins_word
+word_first [] rest some all = absurd (omega arith)
+word_first (b ∷ front) rest some all = (and_parts (is_word_byte b) (list_all is_word_byte front) all).0
+
+line_begins : (names : List (List ℕ)) (cell : Cell) (cells : List Cell) → is_spelled (word_in names cell) ≡ true → begins_word (line_of names (cell ∷ cells)) ≡ true
+line_begins names cell [] e =
+    ap begins_word (sym (append-nil (word_text names cell))) ∙ word_first (word_text names cell) [] (some_word names cell e) (word_all names cell e)
+line_begins names cell (next ∷ cells) e =
+    word_first (word_text names cell) (32 ∷ line_of names (next ∷ cells)) (some_word names cell e) (word_all names cell e)
+
+no_comment : (bytes : List ℕ) → begins_word bytes ≡ true → is_comment bytes ≡ false
+unfolding begins_word
+no_comment [] e = cc
+no_comment (b ∷ bytes) e =
+    rw (not_blank b e) (ne_eqb b 35 (λ same. absurd (omega (arith, (word_byte b e).0, same))))
+
+no_separator : (bytes : List ℕ) → begins_word bytes ≡ true → is_separator bytes ≡ false
+unfolding begins_word
+no_separator [] e = cc
+no_separator (b ∷ bytes) e = rw (not_blank b e) refl
+
+-- a printed row is taken with its words
+pub row_taken : (names : List (List ℕ)) (number : ℕ) (cells : List Cell) (rows : Rows) → 0 < length cells → are_spelled names cells ≡ true
+    → line_taken number (line_of names cells) rows ≡ with_words number rows (words_in names cells)
+row_taken names number [] rows some e = absurd (omega arith)
+row_taken names number (cell ∷ cells) rows some e =
+    let line = line_of names (cell ∷ cells) in
+    let begins = line_begins names cell cells (and_parts (is_spelled (word_in names cell)) (are_spelled names cells) e).0 in
+    let read : row_of number line ≡ Ok (words_in names (cell ∷ cells)) =
+    ap (λ place. ascii_or number place (cells_read number true (pieces_of 1 line))) (no_high line (line_bytes names (cell ∷ cells) e)) ∙ line_reads names number 1 true (cell ∷ cells) e in
+    rw (no_comment line begins, no_separator line begins) (ap (λ read. and_then read (with_words number rows)) read)
+
+-- the lines of a text that begins with a printed row
+cut_row : (line rest : List ℕ) → list_all is_row_byte line ≡ true → cut_lines (line ++ 10 ∷ rest) ≡ line ∷ cut_lines rest
+cut_row [] rest e = refl
+cut_row (b ∷ line) rest e =
+    let parts = and_parts (is_row_byte b) (list_all is_row_byte line) e in
+    let other = ne_eqb b 10 (λ same. absurd (omega (arith, leb-true 32 b (and_parts (leb 32 b) (leb b 122) parts.0).0, same))) in
+    rw other (ap (onto_first b) (cut_row line rest parts.1))
+
+no_return_at : (line : List ℕ) (i : ℕ) → list_all is_row_byte line ≡ true → eqb (get_or line i 0) 13 ≡ false
+no_return_at [] i e = refl
+no_return_at (b ∷ line) zero e =
+    ne_eqb b 13 (λ same. absurd (omega (arith, leb-true 32 b (and_parts (leb 32 b) (leb b 122) (and_parts (is_row_byte b) (list_all is_row_byte line) e).0).0, same)))
+no_return_at (b ∷ line) (suc i) e = no_return_at line i (and_parts (is_row_byte b) (list_all is_row_byte line) e).1
+
+lines_row : (line rest : List ℕ) → list_all is_row_byte line ≡ true → lines_of (line ++ 10 ∷ rest) ≡ line ∷ lines_of rest
+lines_row line rest e =
+    ap (map strip_carriage_return) (cut_row line rest e) ∙ rw (no_return_at line (length line - 1) e) refl
+
+-- every row's names are spelled
+abbrev pub rows_spelled : List (List ℕ) → List (List Cell) → Bool
+rows_spelled names rows = list_all (are_spelled names) rows
+
+-- the lines of a text that begins with printed rows
+pub lines_rows : (names : List (List ℕ)) (rows : List (List Cell)) (rest : List ℕ) → rows_spelled names rows ≡ true
+    → lines_of (rows_text (map (map (word_text names)) rows) ++ rest) ≡ map (line_of names) rows ++ lines_of rest
+lines_rows names [] rest e = refl
+lines_rows names (row ∷ rows) rest e =
+    let parts = and_parts (are_spelled names row) (rows_spelled names rows) e in
+    let line = line_of names row in
+    let more = rows_text (map (map (word_text names)) rows) in
+    let split : ((line ++ 10 ∷ []) ++ more) ++ rest ≡ line ++ (10 ∷ (more ++ rest)) =
+    append_assoc (line ++ 10 ∷ []) more rest ∙ append_assoc line (10 ∷ []) (more ++ rest) in
+    ap lines_of split ∙ (lines_row line (more ++ rest) (line_bytes names row parts.0) ∙ ap (λ lines. line ∷ lines) (lines_rows names rows rest parts.1))
