@@ -49,13 +49,13 @@ length-cells_of generations height width history sizes =
     ∙ ap (λ n. width * height * n) sizes.0 ∙ mul_assoc width height generations
 
 -- the generations, and the rows of one, of a history of these sizes
-shape_at : (height width : ℕ) (history : List (List (List Bool))) (t : ℕ) → list_all (has_shape height width) history ≡ true → t < length history
+pub shape_at : (height width : ℕ) (history : List (List (List Bool))) (t : ℕ) → list_all (has_shape height width) history ≡ true → t < length history
     → has_shape height width (get_or history t []) ≡ true
 shape_at height width [] t all t_in = absurd (omega arith)
 shape_at height width (rows ∷ history) zero all t_in = (and_parts _ _ all).0
 shape_at height width (rows ∷ history) (suc t) all t_in = let less : t < length history = omega arith in shape_at height width history t (and_parts _ _ all).1 less
 
-width_at : (width : ℕ) (rows : List (List Bool)) (y : ℕ) → list_all (λ row. length row == width) rows ≡ true → y < length rows → length (get_or rows y []) ≡ width
+pub width_at : (width : ℕ) (rows : List (List Bool)) (y : ℕ) → list_all (λ row. length row == width) rows ≡ true → y < length rows → length (get_or rows y []) ≡ width
 width_at width [] y all y_in = absurd (omega arith)
 width_at width (row ∷ rows) zero all y_in = eqb-true (length row) width (and_parts _ _ all).0
 width_at width (row ∷ rows) (suc y) all y_in = let less : y < length rows = omega arith in width_at width rows y (and_parts _ _ all).1 less

@@ -2,3 +2,5 @@ pub mod Folded
 pub mod InOrder
 pub mod Chunks
 pub mod Joins
+pub mod Whole
+pub mod Steps

@@ -12,10 +12,16 @@ with_cell history t y x live = slice_set history t (slice_set (rows_at history t
 abbrev pub population : History → ℕ → ℕ
 population history t = count_by (λ live. live) (cells_of_rows (rows_at history t))
 
--- what the cells of a generation become
+-- another row y of generation t
+abbrev pub with_row : History → ℕ → ℕ → List Bool → History
+with_row history t y row = slice_set history t (slice_set (rows_at history t) y row)
+
+-- what the cells of a generation become, row by row
+abbrev pub successor_row : List Bool → History → ℕ → ℕ → List Bool
+successor_row table history t y = map (λ x. successor table (nine table history t (pos y) (pos x))) (range_with_len 0 (width_of history))
+
 abbrev pub successors : List Bool → History → ℕ → List (List Bool)
-successors table history t =
-    map (λ y. map (λ x. successor table (nine table history t (pos y) (pos x))) (range_with_len 0 (width_of history))) (range_with_len 0 (height_of history))
+successors table history t = map (successor_row table history t) (range_with_len 0 (height_of history))
 
 -- the generation after t follows from it
 abbrev pub stepped : List Bool → History → ℕ → History

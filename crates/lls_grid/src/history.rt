@@ -2,7 +2,7 @@
 ghost use Rattle.std.specs.Prelude.{◌≡◌, ◌<◌, ◌≤◌, ◌+◌, ◌*◌, [], ℤ, pos, negsuc, ◌≤ℤ◌, length, take, drop, IfOk, if◌then◌else◌};
 ghost use Rattle.lls_rule.specs.Rule.{number_of};
 ghost use Rattle.lls_grid.specs.History.{HasSizes, IsWithinLimits, at, cells_of_rows, rows_at, nine, place_cell, three, dead, folded, height_of, width_of};
-ghost use Rattle.lls_grid.specs.Changes.{with_cell, population};
+ghost use Rattle.lls_grid.specs.Changes.{with_cell, with_row, population, successor_row, stepped};
 ghost use Rattle.lls_grid.specs.Chunks.{chunked};
 
 use crate::place::{cell_index, index_within};
@@ -131,6 +131,28 @@ impl History {
         let count = self.width * self.height;
         let first = count * t;
         part(&self.cells, first as usize, count as usize)
+    }
+
+    /// Makes each cell of the generation after t what the rule says of its neighbourhood in generation t.
+    pub fn step(&mut self, rule: &Rule, t: u32)
+        requires { t + 1 < length self.old }
+        ensures { self.new ≡ stepped rule.now self.old t }
+    {
+        for y in 0..self.height {
+            self.step_row(rule, t, y);
+        }
+    }
+
+    /// Steps one row.
+    fn step_row(&mut self, rule: &Rule, t: u32, y: u32)
+        requires generation { t + 1 < length self.old }
+        requires row { y < height_of self.old }
+        ensures { self.new ≡ with_row self.old (t + 1) y (successor_row rule.now self.old t y) }
+    {
+        for x in 0..self.width {
+            let live = rule.next(self.nine(rule, t, y as i32, x as i32));
+            self.set(t + 1, y, x, live);
+        }
     }
 
     /// The cell at a place, None outside the grid.

@@ -10,3 +10,4 @@ pub mod Texts
 pub mod WordTexts
 pub mod Cuts
 pub mod Pieces
+pub mod HistoryTexts

@@ -1,4 +1,5 @@
 pub mod Kept
+pub mod Law
 pub mod Lines
 pub mod Plain
 pub mod Posed

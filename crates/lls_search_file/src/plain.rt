@@ -1,6 +1,7 @@
 // Search files that are histories: dead and live cells alone, without marks.
 ghost use Rattle.std.specs.Prelude.{◌≡◌, map, not, IfOk};
 ghost use Rattle.std.specs.List.{position};
+ghost use Rattle.lls_search_file.specs.Law.{HistoriesReadBack};
 ghost use Rattle.lls_search_file.specs.Plain.{GivesHistory, plain_of, plain_file, not_plain, is_plain, is_live};
 
 use crate::{Cell, Kind, Posed, PosedError, read_posed};
@@ -92,3 +93,8 @@ fn is_live(kind: Kind) -> bool
 {
     matches!(kind, Kind::Live)
 }
+
+/// The text of a history is read as the history.
+pub fn histories_read_back()
+    ensures { HistoriesReadBack }
+{}
