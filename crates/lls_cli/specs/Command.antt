@@ -9,6 +9,7 @@ use Rattle.lls_cli.specs.declared.command.Setting.TheVariants as settings
 abbrev pub command_of : List ℕ → Option Command
 command_of name =
     if bytes_eq name (codes "check") then Some commands.Check else
+    if bytes_eq name (codes "judge") then Some commands.Judge else
     if bytes_eq name (codes "rule") then Some commands.Rule else None
 
 abbrev pub setting_of : List ℕ → Option Setting
@@ -18,10 +19,13 @@ setting_of name =
 
 abbrev pub operand_count : Command → ℕ
 operand_count commands.Check = 2
+operand_count commands.Judge = 2
 operand_count commands.Rule = 1
 
 abbrev pub takes : Command → Setting → Bool
 takes commands.Check settings.Rule = true
 takes commands.Check settings.Edge = true
+takes commands.Judge settings.Rule = true
+takes commands.Judge settings.Edge = true
 takes commands.Rule settings.Rule = false
 takes commands.Rule settings.Edge = false

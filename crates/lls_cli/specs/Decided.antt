@@ -9,7 +9,13 @@ use Rattle.lls_search_file.specs.Posed.{PosedFile}
 use Rattle.lls_search_file.specs.Reading.{posed_of}
 use Rattle.lls_problem.specs.declared.demands.Demands.{Demands}
 use Rattle.lls_problem.specs.Problem.{PosedProblem}
-use Rattle.lls_problem.specs.Solution.{IsAbsent}
+use Rattle.lls_problem.specs.Solution.{IsSolution, IsAbsent}
+use Rattle.lls_problem.specs.declared.judgement.Judgement.{Judgement}
+use Rattle.lls_problem.specs.Judgement.{IsJudgement}
+use Rattle.lls_grid.specs.History.{History}
+use Rattle.lls_search_file.specs.declared.plain.HistoryError.{HistoryError}
+use Rattle.lls_search_file.specs.declared.plain.HistoryError.TheVariants as plain
+use Rattle.lls_search_file.specs.Plain.{plain_of}
 use Rattle.lls_encode.specs.Formula.{formula_of}
 use Rattle.lls_lrat.specs.declared.error.CheckError.{CheckError}
 use Rattle.lls_lrat.specs.Verdict.{verdict}
@@ -23,7 +29,7 @@ use Rattle.lls_cli.specs.declared.status.Status.{Status}
 use Rattle.lls_cli.specs.declared.status.Status.TheVariants as statuses
 use Rattle.lls_cli.specs.declared.words_error.WordsError.{WordsError}
 use Rattle.lls_cli.specs.Job.{job_of}
-use Rattle.lls_cli.specs.Texts.{check_text}
+use Rattle.lls_cli.specs.Texts.{check_text, judgement_text}
 
 abbrev pub and_so : {A B : Type 0} → Result A Fault → (A → Result B Fault) → Result B Fault
 and_so (Ok x) f = f x
@@ -64,15 +70,39 @@ check_decided files search proof rule demands =
     and_so (problem_of files search rule demands)
     (λ problem. and_so (input_of files proof 1073741824) (λ text. Ok (check_decision (verdict (formula_of problem) text))))
 
-abbrev pub job_decided : Job → Files → Result Decision Fault
-job_decided (jobs.Check search proof rule demands) files = check_decided files search proof rule demands
-job_decided (jobs.Rule rule) files = Ok (record { status = statuses.Done; text = rule_text rule ++ 10 ∷ [] })
+-- a plain history, or why the pattern's text is none
+abbrev pub plain_in : Result History HistoryError → Result History Fault
+plain_in (Ok history) = Ok history
+plain_in (Err (plain.Text error)) = Err (faults.Posed error)
+plain_in (Err (plain.NotPlain t y x)) = Err (faults.NotPlain t y x)
+plain_in (Err plain.Memory) = Err faults.Memory
 
-abbrev pub decided_by : Result Job WordsError → Files → Result Decision Fault
+-- the history of a pattern file
+abbrev pub history_of : Files → List ℕ → Result History Fault
+history_of files pattern = and_so (input_of files pattern 1048576) (λ bytes. plain_in (plain_of bytes))
+
+-- a status and its text, or the judging of a history, of which the text says the first fault
+pub data Outcome : Type 0 where
+  Given : Decision → Outcome
+  Judged : PosedProblem → History → Outcome
+
+abbrev pub given : Result Decision Fault → Result Outcome Fault
+given decision = and_so decision (λ d. Ok (Given d))
+
+abbrev pub judge_decided : Files → List ℕ → List ℕ → List Bool → Demands → Result Outcome Fault
+judge_decided files search pattern rule demands =
+    and_so (problem_of files search rule demands) (λ problem. and_so (history_of files pattern) (λ history. Ok (Judged problem history)))
+
+abbrev pub job_decided : Job → Files → Result Outcome Fault
+job_decided (jobs.Check search proof rule demands) files = given (check_decided files search proof rule demands)
+job_decided (jobs.Judge search pattern rule demands) files = judge_decided files search pattern rule demands
+job_decided (jobs.Rule rule) files = Ok (Given (record { status = statuses.Done; text = rule_text rule ++ 10 ∷ [] }))
+
+abbrev pub decided_by : Result Job WordsError → Files → Result Outcome Fault
 decided_by (Ok job) files = job_decided job files
 decided_by (Err error) files = Err (faults.Words error)
 
-abbrev pub decided : List (List ℕ) → Files → Result Decision Fault
+abbrev pub decided : List (List ℕ) → Files → Result Outcome Fault
 decided words files = decided_by (job_of words) files
 
 -- a fault that may stand in the place of what is decided: want of memory and a failure of the outside, and else the fault that is
@@ -109,4 +139,21 @@ ProblemIsAbsent (Err fault) = ⊥
 -- what the yes of a check says
 abbrev pub JobIsAbsent : Job → Files → Type 0
 JobIsAbsent (jobs.Check search proof rule demands) files = ProblemIsAbsent (problem_of files search rule demands)
+JobIsAbsent (jobs.Judge search pattern rule demands) files = Unit {0}
 JobIsAbsent (jobs.Rule rule) files = Unit {0}
+
+-- the judgement that is printed, and what the status says
+pub record IsJudged (problem : PosedProblem) (history : History) (status : Status) (text : List ℕ) : Type 0 where
+  pub judged : (judgement : Judgement) × IsJudgement problem history judgement × (judgement_text judgement ≡ text)
+  pub done : status ≡ statuses.Done → IsSolution problem history
+  pub refused : status ≡ statuses.Refused → IsSolution problem history → ⊥
+
+-- the outcome has this status and this text
+abbrev pub IsOutcome : Outcome → Status → List ℕ → Type 0
+IsOutcome (Given decision) status text = (decision.status ≡ status) × (decision.text ≡ text)
+IsOutcome (Judged problem history) status text = IsJudged problem history status text
+
+-- an answer by its status and text
+abbrev pub Answers : Result Decision Fault → Result Outcome Fault → Type 0
+Answers (Ok answer) decided = (outcome : Outcome) × (decided ≡ Ok outcome) × IsOutcome outcome answer.status answer.text
+Answers (Err fault) decided = Stands fault decided

@@ -64,6 +64,9 @@ abbrev pub job_with : Command → List (List ℕ) → Scanned → Result Job Wor
 job_with commands.Check words s =
     and_then (settled words s.givens defaults)
     (λ settings. Ok (jobs.Check (word words (operand s 0)) (word words (operand s 1)) settings.rule (record { edge = settings.edge })))
+job_with commands.Judge words s =
+    and_then (settled words s.givens defaults)
+    (λ settings. Ok (jobs.Judge (word words (operand s 0)) (word words (operand s 1)) settings.rule (record { edge = settings.edge })))
 job_with commands.Rule words s = and_then (rule_at (operand s 0) (word words (operand s 0))) (λ rule. Ok (jobs.Rule rule))
 
 abbrev pub job_counted : Command → List (List ℕ) → Scanned → Result Job WordsError

@@ -10,37 +10,31 @@ use Rattle.lls_cli.specs.declared.job.Job.{Job}
 use Rattle.lls_cli.specs.declared.status.Status.{Status}
 use Rattle.lls_cli.specs.declared.status.Status.TheVariants as statuses
 use Rattle.lls_cli.specs.declared.words_error.WordsError.{WordsError}
-use Rattle.lls_cli.specs.Decided.{Decision, JobIsAbsent}
+use Rattle.lls_cli.specs.Decided.{Outcome, IsOutcome, JobIsAbsent}
 use Rattle.lls_cli.specs.Status.{status_of}
 use Rattle.lls_cli.specs.Texts.{fault_line}
 
 -- the status of what is decided
-abbrev pub status_decided : Result Decision Fault → Status
-status_decided (Ok decision) = decision.status
-status_decided (Err fault) = status_of fault
+abbrev pub HasStatus : Status → Result Outcome Fault → Type 0
+HasStatus status (Ok outcome) = (text : List ℕ) × IsOutcome outcome status text
+HasStatus status (Err fault) = status_of fault ≡ status
 
 -- the status is what is decided, or want of memory or a failure of the outside stands in its place
-abbrev pub IsStatus : Status → Result Decision Fault → Type 0
+abbrev pub IsStatus : Status → Result Outcome Fault → Type 0
 IsStatus statuses.Memory decided = Unit {0}
 IsStatus statuses.Outside decided = Unit {0}
-IsStatus status decided = status_decided decided ≡ status
+IsStatus status decided = HasStatus status decided
+
+-- a sink grew by the text of what is decided
+abbrev pub GaveText : Result Outcome Fault → Status → Option (List ℕ) → Option (List ℕ) → Type 0
+GaveText decided status before after = (outcome : Outcome) × (decided ≡ Ok outcome) × (text : List ℕ) × IsOutcome outcome status text × (after ≡ append_known before text)
 
 -- a sink grew by some first bytes of a text, and by all of it but where its count of faults rose
 pub record GrewBy (text : List ℕ) (before after : Option (List ℕ)) (faults_before faults_after : ℕ) : Type 0 where
   pub taken : (n : ℕ) × (after ≡ append_known before (take n text)) × ((length text ≤ n) ⊎ Rose faults_before faults_after)
 
--- what is decided has this status and this text
-abbrev pub IsDecision : Result Decision Fault → Status → List ℕ → Type 0
-IsDecision (Ok decision) status text = (decision.status ≡ status) × (decision.text ≡ text)
-IsDecision (Err fault) status text = ⊥
-
--- the text that is decided, none where there is a fault
-abbrev pub text_decided : Result Decision Fault → List ℕ
-text_decided (Ok decision) = decision.text
-text_decided (Err fault) = []
-
 -- the file of an input isn't there
-abbrev pub IsNoFile : Result Decision Fault → Type 0
+abbrev pub IsNoFile : Result Outcome Fault → Type 0
 IsNoFile decided = decided ≡ Err (faults.Outside outside.NoFile)
 
 -- what status 0 says of a check

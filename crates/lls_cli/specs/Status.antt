@@ -2,6 +2,8 @@
 use Rattle.std.specs.Prelude.{ℕ}
 use Rattle.lls_search_file.specs.declared.error.PosedError.{PosedError}
 use Rattle.lls_search_file.specs.declared.error.PosedError.TheVariants as posed
+use Rattle.lls_problem.specs.declared.judgement.Judgement.{Judgement}
+use Rattle.lls_problem.specs.declared.judgement.Judgement.TheVariants as judgements
 use Rattle.lls_cli.specs.declared.words_error.WordsError.{WordsError}
 use Rattle.lls_cli.specs.declared.words_error.WordsError.TheVariants as words
 use Rattle.lls_cli.specs.declared.fault.Fault.{Fault}
@@ -41,6 +43,11 @@ words_status error = statuses.Words
 abbrev pub status_of : Fault → Status
 status_of (faults.Words error) = words_status error
 status_of (faults.Posed error) = posed_status error
+status_of (faults.NotPlain t y x) = statuses.Content
 status_of (faults.Outside fault) = statuses.Outside
 status_of (faults.TooLong limit) = statuses.Limit
 status_of faults.Memory = statuses.Memory
+
+abbrev pub judgement_status : Judgement → Status
+judgement_status judgements.Meets = statuses.Done
+judgement_status judgement = statuses.Refused

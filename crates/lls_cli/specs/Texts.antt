@@ -1,12 +1,15 @@
 -- The texts of faults and answers. Every text ends with LF.
-use Rattle.std.specs.Prelude.{ℕ, List, [], ◌∷◌, ◌++◌, codes, decimal, Result, Ok, Err}
+use Rattle.std.specs.Prelude.{ℕ, ℤ, List, [], ◌∷◌, ◌++◌, codes, decimal, Result, Ok, Err}
 use Rattle.std.specs.List.{flat_map}
+use Rattle.std.specs.Fmt.{signed_decimal}
 use Rattle.lls_hensel.specs.declared.read.RuleError.{RuleError}
 use Rattle.lls_hensel.specs.declared.read.RuleError.TheVariants as rule
 use Rattle.lls_lrat.specs.declared.error.CheckError.{CheckError}
 use Rattle.lls_lrat.specs.declared.error.CheckError.TheVariants as proof
 use Rattle.lls_search_file.specs.declared.error.PosedError.{PosedError}
 use Rattle.lls_search_file.specs.declared.error.PosedError.TheVariants as posed
+use Rattle.lls_problem.specs.declared.judgement.Judgement.{Judgement}
+use Rattle.lls_problem.specs.declared.judgement.Judgement.TheVariants as judgements
 use Rattle.lls_cli.specs.declared.words_error.WordsError.{WordsError}
 use Rattle.lls_cli.specs.declared.words_error.WordsError.TheVariants as words
 use Rattle.lls_cli.specs.declared.fault.Fault.{Fault}
@@ -77,6 +80,7 @@ posed_kind (posed.NotAscii line column) = codes "lls: content: "
 abbrev pub fault_text : Fault → List ℕ
 fault_text (faults.Words error) = codes "lls: words: " ++ words_text error
 fault_text (faults.Posed error) = posed_kind error ++ posed_text error
+fault_text (faults.NotPlain t y x) = codes "lls: content: " ++ named_text (codes "NotPlain") (t ∷ y ∷ x ∷ [])
 fault_text (faults.Outside fault) = codes "lls: outside: " ++ outside_text fault
 fault_text (faults.TooLong limit) = codes "lls: limit: " ++ named_text (codes "TooLong") (limit ∷ [])
 fault_text faults.Memory = codes "lls: memory"
@@ -91,3 +95,23 @@ check_text (Err proof.Unbuilt) = codes "refused: Unbuilt\n"
 check_text (Err proof.NotGood) = codes "refused: NotGood\n"
 check_text (Err proof.NoEmpty) = codes "refused: NoEmpty\n"
 check_text (Err proof.Memory) = []
+
+-- a place of the grid or of the ring round it
+abbrev pub signed_place : ℕ → ℤ → ℤ → List ℕ
+signed_place t y x = numbers_text (t ∷ []) ++ (32 ∷ signed_decimal y) ++ (32 ∷ signed_decimal x)
+
+-- a judgement without its LF
+abbrev pub judgement_name : Judgement → List ℕ
+judgement_name judgements.Meets = codes "meets"
+judgement_name judgements.Size = codes "broken: Size"
+judgement_name (judgements.Cell t y x) = named_text (codes "broken: Cell") (t ∷ y ∷ x ∷ [])
+judgement_name (judgements.Name t y x) = named_text (codes "broken: Name") (t ∷ y ∷ x ∷ [])
+judgement_name (judgements.Symmetry t y x) = named_text (codes "broken: Symmetry") (t ∷ y ∷ x ∷ [])
+judgement_name (judgements.Background t) = named_text (codes "broken: Background") (t ∷ [])
+judgement_name (judgements.Moved t y x) = codes "broken: Moved" ++ signed_place t y x
+judgement_name (judgements.Rule t y x) = codes "broken: Rule" ++ signed_place t y x
+judgement_name (judgements.Population t n) = named_text (codes "broken: Population") (t ∷ n ∷ [])
+judgement_name judgements.Same = codes "broken: Same"
+
+abbrev pub judgement_text : Judgement → List ℕ
+judgement_text judgement = judgement_name judgement ++ 10 ∷ []

@@ -6,20 +6,21 @@ ghost use Rattle.lls_problem.specs.Solution.{IsAbsent};
 ghost use Rattle.lls_encode.specs.Formula.{formula_of};
 ghost use Rattle.lls_hensel.specs.Printing.{rule_text};
 ghost use Rattle.lls_lrat.specs.Verdict.{verdict};
-ghost use Rattle.lls_cli.specs.Decided.{problem_of, check_decision, check_decided, job_decided, ProblemIsAbsent, JobIsAbsent, HasRisen, IsInside, Settles};
-ghost use Rattle.lls_cli.specs.Answer.{answer_seen};
+ghost use Rattle.lls_cli.specs.Decided.{problem_of, check_decision, check_decided, judge_decided, job_decided, Outcome, Judged, ProblemIsAbsent, JobIsAbsent, HasRisen, IsInside, Settles};
+ghost use Rattle.lls_cli.specs.Answer.{answer_seen, SettlesOutcome};
 ghost use Rattle.lls_cli.specs.Run.{IsYesOrNo, IsBehindWords};
 
 use crate::fault::Fault;
-use crate::input::{read_input, read_problem};
+use crate::input::{read_input, read_pattern, read_problem};
 use crate::job::Job;
 use crate::status::Status;
-use crate::text::check_text;
+use crate::text::{check_text, judgement_text};
 use lls_base::{Name, Shelf};
 use lls_encode::encode;
+use lls_grid::History;
 use lls_hensel::print_rule;
 use lls_lrat::{CheckError, check_bytes};
-use lls_problem::{Demands, Problem};
+use lls_problem::{Demands, Judgement, Problem, judge};
 use lls_rule::Rule;
 use std::alloc::Global;
 
@@ -79,7 +80,7 @@ fn print(alloc: Global, rule: &Rule) -> Result<Answer, Fault>
 
 /// The answer of a job, read from the shelf.
 pub fn answer_job<S: Shelf>(alloc: Global, shelf: &mut S, job: Job) -> Result<Answer, Fault>
-    ensures decided { IfSome (known_files (S.told shelf.old)) (λ files. Settles answer_seen result (job_decided job files)) }
+    ensures decided { IfSome (known_files (S.told shelf.old)) (λ files. SettlesOutcome result (job_decided job files)) }
     ensures yes_or_no { IfOk result (λ answer. IsYesOrNo answer.status) }
     ensures behind_words { IfErr result IsBehindWords }
     ensures failed { IfErr result (λ fault. HasRisen fault (S.faults shelf.old) (S.faults shelf.new)) }
@@ -94,6 +95,12 @@ pub fn answer_job<S: Shelf>(alloc: Global, shelf: &mut S, job: Job) -> Result<An
             rule,
             demands,
         } => check(alloc, shelf, &search, &proof, rule, demands),
+        Job::Judge {
+            search,
+            pattern,
+            rule,
+            demands,
+        } => judge_job(alloc, shelf, &search, &pattern, rule, demands),
         Job::Rule { rule } => print(alloc, &rule),
     }
 }
@@ -121,6 +128,51 @@ fn check<S: Shelf>(
     };
     match read_input(alloc, shelf, proof, PROOF_LIMIT) {
         Ok(bytes) => check_proof(alloc, &problem, &bytes),
+        Err(fault) => Err(fault),
+    }
+}
+
+/// The answer to a history that is judged.
+fn judge_history(alloc: Global, problem: &Problem, history: &History) -> Result<Answer, Fault>
+    ensures answer { SettlesOutcome result (Ok (Judged problem.now history.now)) }
+    ensures yes_or_no { IfOk result (λ answer. IsYesOrNo answer.status) }
+    ensures inside { IfErr result IsInside }
+    ensures behind_words { IfErr result IsBehindWords }
+{
+    let judgement = judge(problem, history);
+    let status = if judgement == Judgement::Meets {
+        Status::Done
+    } else {
+        Status::Refused
+    };
+    match judgement_text(alloc, judgement) {
+        Ok(text) => Ok(Answer { status, text }),
+        Err(_) => Err(Fault::Memory),
+    }
+}
+
+/// The answer of a judging.
+fn judge_job<S: Shelf>(
+    alloc: Global,
+    shelf: &mut S,
+    search: &Name,
+    pattern: &Name,
+    rule: Rule,
+    demands: Demands,
+) -> Result<Answer, Fault>
+    ensures decided { IfSome (known_files (S.told shelf.old)) (λ files. SettlesOutcome result (judge_decided files search.now pattern.now rule demands)) }
+    ensures yes_or_no { IfOk result (λ answer. IsYesOrNo answer.status) }
+    ensures behind_words { IfErr result IsBehindWords }
+    ensures failed { IfErr result (λ fault. HasRisen fault (S.faults shelf.old) (S.faults shelf.new)) }
+    ensures counts { Counts (S.faults shelf.old) (S.faults shelf.new) }
+    ensures files { known_files (S.told shelf.new) ≡ known_files (S.told shelf.old) }
+{
+    let problem = match read_problem(alloc, shelf, search, rule, demands) {
+        Ok(problem) => problem,
+        Err(fault) => return Err(fault),
+    };
+    match read_pattern(alloc, shelf, pattern) {
+        Ok(history) => judge_history(alloc, &problem, &history),
         Err(fault) => Err(fault),
     }
 }

@@ -6,6 +6,7 @@ ghost use Rattle.lls_cli.specs.Command.{command_of, operand_count, setting_of, t
 #[derive(Clone, Copy, Debug, PartialEq, Eq)]
 pub enum Command {
     Check,
+    Judge,
     Rule,
 }
 
@@ -23,6 +24,8 @@ impl Command {
     {
         if name == b"check".as_slice() {
             Some(Command::Check)
+        } else if name == b"judge".as_slice() {
+            Some(Command::Judge)
         } else if name == b"rule".as_slice() {
             Some(Command::Rule)
         } else {
@@ -35,7 +38,7 @@ impl Command {
         ensures { result ≡ operand_count self }
     {
         match self {
-            Command::Check => 2,
+            Command::Check | Command::Judge => 2,
             Command::Rule => 1,
         }
     }
@@ -45,7 +48,7 @@ impl Command {
         ensures { result ≡ takes self setting }
     {
         match (self, setting) {
-            (Command::Check, Setting::Rule | Setting::Edge) => true,
+            (Command::Check | Command::Judge, Setting::Rule | Setting::Edge) => true,
             (Command::Rule, Setting::Rule | Setting::Edge) => false,
         }
     }

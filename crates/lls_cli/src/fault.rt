@@ -27,6 +27,8 @@ pub enum Fault {
     Words(WordsError),
     /// The search file isn't in its grammar, or is too large.
     Posed(PosedError),
+    /// The cell of this generation, row and column of the pattern is the first that is marked, or neither dead nor live.
+    NotPlain(u64, u64, u64),
     Outside(OutsideFault),
     /// An input has more bytes than this limit.
     TooLong(u64),
@@ -42,6 +44,7 @@ impl Fault {
             Fault::Words(WordsError::Memory) => Status::Memory,
             Fault::Words(_) => Status::Words,
             Fault::Posed(error) => posed_status(error),
+            Fault::NotPlain(_, _, _) => Status::Content,
             Fault::Outside(_) => Status::Outside,
             Fault::TooLong(_) => Status::Limit,
             Fault::Memory => Status::Memory,

@@ -2,16 +2,18 @@
 ghost use Rattle.std.specs.Prelude.{◌≡◌, IfErr, IfSome};
 ghost use Rattle.lls_base.specs.Faults.{Counts};
 ghost use Rattle.lls_base.specs.Shelf.{known_files};
-ghost use Rattle.lls_cli.specs.Decided.{input_of, problem_of, posed_in, HasRisen, Settles, IsInside};
+ghost use Rattle.lls_cli.specs.Decided.{input_of, problem_of, posed_in, plain_in, history_of, HasRisen, Settles, IsInside};
 ghost use Rattle.lls_search_file.specs.Reading.{posed_of};
+ghost use Rattle.lls_search_file.specs.Plain.{plain_of};
 ghost use Rattle.lls_cli.specs.Inputs.{input_fault};
 ghost use Rattle.lls_cli.specs.Run.{IsBehindWords};
 
 use crate::fault::{Fault, OutsideFault};
 use lls_base::{Name, ReadError, Shelf, read_all};
+use lls_grid::History;
 use lls_problem::{Demands, Problem, make_problem};
 use lls_rule::Rule;
-use lls_search_file::{Posed, PosedError, read_posed};
+use lls_search_file::{HistoryError, Posed, PosedError, read_history, read_posed};
 use std::alloc::Global;
 
 /// The longest search file in bytes.
@@ -83,6 +85,38 @@ pub fn read_problem<S: Shelf>(
     };
     match posed_input(alloc, &bytes) {
         Ok(posed) => Ok(make_problem(posed, rule, demands).unwrap()),
+        Err(fault) => Err(fault),
+    }
+}
+
+/// The history of a pattern's bytes.
+fn pattern_input(alloc: Global, bytes: &[u8]) -> Result<History, Fault>
+    ensures history { Settles (λ history. history) result (plain_in (plain_of bytes.now)) }
+    ensures inside { IfErr result IsInside }
+    ensures behind_words { IfErr result IsBehindWords }
+{
+    match read_history(alloc, bytes) {
+        Ok(history) => Ok(history),
+        Err(HistoryError::Text(PosedError::Memory) | HistoryError::Memory) => Err(Fault::Memory),
+        Err(HistoryError::Text(error)) => Err(Fault::Posed(error)),
+        Err(HistoryError::NotPlain(t, y, x)) => Err(Fault::NotPlain(t, y, x)),
+    }
+}
+
+/// The history of a pattern file.
+pub fn read_pattern<S: Shelf>(
+    alloc: Global,
+    shelf: &mut S,
+    pattern: &Name,
+) -> Result<History, Fault>
+    ensures history { IfSome (known_files (S.told shelf.old)) (λ files. Settles (λ history. history) result (history_of files pattern.now)) }
+    ensures behind_words { IfErr result IsBehindWords }
+    ensures failed { IfErr result (λ fault. HasRisen fault (S.faults shelf.old) (S.faults shelf.new)) }
+    ensures counts { Counts (S.faults shelf.old) (S.faults shelf.new) }
+    ensures files { known_files (S.told shelf.new) ≡ known_files (S.told shelf.old) }
+{
+    match read_input(alloc, shelf, pattern, SEARCH_LIMIT) {
+        Ok(bytes) => pattern_input(alloc, &bytes),
         Err(fault) => Err(fault),
     }
 }

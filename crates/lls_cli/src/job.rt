@@ -13,6 +13,13 @@ pub enum Job {
         rule: Rule,
         demands: Demands,
     },
+    /// Judge a pattern against a search file.
+    Judge {
+        search: Name,
+        pattern: Name,
+        rule: Rule,
+        demands: Demands,
+    },
     /// Print a rule's canonical text.
     Rule {
         rule: Rule,

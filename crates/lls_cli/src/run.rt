@@ -8,7 +8,7 @@ ghost use Rattle.lls_cli.specs.Decided.{decided, HasRisen, Settles};
 ghost use Rattle.lls_cli.specs.Job.{job_of};
 ghost use Rattle.lls_cli.specs.Status.{status_of};
 ghost use Rattle.lls_cli.specs.Texts.{fault_line};
-ghost use Rattle.lls_cli.specs.Run.{IsStatus, GrewBy, text_decided, IsNoFile, IsYesOrNo, IsSilent, WordsAreAbsent};
+ghost use Rattle.lls_cli.specs.Run.{IsStatus, GrewBy, GaveText, IsNoFile, IsYesOrNo, IsSilent, WordsAreAbsent};
 
 use crate::answer::{Answer, answer_job};
 use crate::fault::{Fault, OutsideFault};
@@ -78,7 +78,7 @@ pub fn run<S: Shelf, O: Sink, E: Sink>(
 
     // At a yes or a no the standard output grew by the text that they decide, and the standard error is as before.
     ensures text { IsYesOrNo result → IfSome (known_files (S.told shelf.old))
-        (λ files. O.written out.new ≡ append_known (O.written out.old) (text_decided (decided (map string_bytes words.now) files))) }
+        (λ files. GaveText (decided (map string_bytes words.now) files) result (O.written out.old) (O.written out.new)) }
     ensures quiet { IsYesOrNo result → E.written err.new ≡ E.written err.old }
 
     // The yes of a check: no history is a solution.

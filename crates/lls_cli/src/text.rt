@@ -1,12 +1,14 @@
 // The texts of faults and answers.
 ghost use Rattle.std.specs.Prelude.{◌≡◌, ◌++◌, ◌∷◌, [], OnOk, IfOk};
-ghost use Rattle.lls_cli.specs.Texts.{numbers_text, named_text, words_text, rule_text_at, posed_text, posed_kind, outside_text, fault_text, fault_line, check_text};
+ghost use Rattle.std.specs.Fmt.{signed_decimal};
+ghost use Rattle.lls_cli.specs.Texts.{numbers_text, named_text, words_text, rule_text_at, posed_text, posed_kind, outside_text, fault_text, fault_line, check_text, signed_place, judgement_name, judgement_text};
 
 use crate::fault::{Fault, OutsideFault};
 use crate::words_error::WordsError;
 use itoa::Buffer;
 use lls_hensel::RuleError;
 use lls_lrat::CheckError;
+use lls_problem::Judgement;
 use lls_search_file::PosedError;
 use std::alloc::{AllocError, Global};
 
@@ -128,6 +130,10 @@ fn push_fault(text: &mut Vec<u8>, fault: Fault) -> Result<(), AllocError>
             text.extend_from_slice(posed_kind(error))?;
             push_posed_error(text, error)
         }
+        Fault::NotPlain(t, y, x) => {
+            text.extend_from_slice(b"lls: content: ")?;
+            push_named(text, b"NotPlain", &[t, y, x])
+        }
         Fault::Outside(failure) => {
             push_bytes(text, b"lls: outside: ")?;
             push_outside(text, failure)
@@ -161,4 +167,63 @@ pub fn check_text(verdict: Result<(), CheckError>) -> &'static [u8]
         Err(CheckError::NoEmpty) => b"refused: NoEmpty\n",
         Err(CheckError::Memory) => b"",
     }
+}
+
+/// Appends a signed number after one blank.
+fn push_signed(text: &mut Vec<u8>, number: &i32) -> Result<(), AllocError>
+    ensures { OnOk result (text.new.items ≡ text.old.items ++ 32 ∷ signed_decimal number.now) }
+{
+    text.push(b' ')?;
+    text.extend_from_slice(Buffer::new().format(*number).as_bytes())
+}
+
+/// Appends a generation and a place of the grid or of the ring round it behind a name.
+fn push_place(text: &mut Vec<u8>, name: &[u8], t: u32, y: &i32, x: &i32) -> Result<(), AllocError>
+    ensures { OnOk result (text.new.items ≡ text.old.items ++ (name.now ++ signed_place t y.now x.now)) }
+{
+    push_named(text, name, &[u64::from(t)])?;
+    push_signed(text, y)?;
+    push_signed(text, x)
+}
+
+/// Appends two numbers behind a name.
+fn push_count(text: &mut Vec<u8>, name: &[u8], t: u32, n: u32) -> Result<(), AllocError>
+    ensures { OnOk result (text.new.items ≡ text.old.items ++ named_text name.now (t ∷ n ∷ [])) }
+{
+    push_named(text, name, &[u64::from(t), u64::from(n)])
+}
+
+/// Appends three numbers behind a name.
+fn push_cell(text: &mut Vec<u8>, name: &[u8], t: u32, y: u32, x: u32) -> Result<(), AllocError>
+    ensures { OnOk result (text.new.items ≡ text.old.items ++ named_text name.now (t ∷ y ∷ x ∷ [])) }
+{
+    push_named(text, name, &[u64::from(t), u64::from(y), u64::from(x)])
+}
+
+/// Appends a judgement, without its LF.
+fn push_judgement(text: &mut Vec<u8>, judgement: &Judgement) -> Result<(), AllocError>
+    ensures { OnOk result (text.new.items ≡ text.old.items ++ judgement_name judgement.now) }
+{
+    match judgement {
+        Judgement::Meets => push_bytes(text, b"meets"),
+        Judgement::Size => push_bytes(text, b"broken: Size"),
+        Judgement::Cell(t, y, x) => push_cell(text, b"broken: Cell", *t, *y, *x),
+        Judgement::Name(t, y, x) => push_cell(text, b"broken: Name", *t, *y, *x),
+        Judgement::Symmetry(t, y, x) => push_cell(text, b"broken: Symmetry", *t, *y, *x),
+        Judgement::Background(t) => push_named(text, b"broken: Background", &[u64::from(*t)]),
+        Judgement::Moved(t, y, x) => push_place(text, b"broken: Moved", *t, y, x),
+        Judgement::Rule(t, y, x) => push_place(text, b"broken: Rule", *t, y, x),
+        Judgement::Population(t, n) => push_count(text, b"broken: Population", *t, *n),
+        Judgement::Same => push_bytes(text, b"broken: Same"),
+    }
+}
+
+/// A judgement as the standard output has it.
+pub fn judgement_text(alloc: Global, judgement: Judgement) -> Result<Vec<u8>, AllocError>
+    ensures { IfOk result (λ text. text.items ≡ judgement_text judgement) }
+{
+    let mut text = Vec::new(alloc);
+    push_judgement(&mut text, &judgement)?;
+    text.push(b'\n')?;
+    Ok(text)
 }

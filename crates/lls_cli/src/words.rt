@@ -55,6 +55,19 @@ fn job_with(
                 },
             })
         }
+        Command::Judge => {
+            let settings = settle(words, scan.givens())?;
+            let search = name_at(alloc, words, first)?;
+            let pattern = name_at(alloc, words, operand_place(scan, 1))?;
+            Ok(Job::Judge {
+                search,
+                pattern,
+                rule: settings.rule,
+                demands: Demands {
+                    edge: settings.edge,
+                },
+            })
+        }
         Command::Rule => Ok(Job::Rule {
             rule: rule_at(first as u64, word_at(words, first))?,
         }),
