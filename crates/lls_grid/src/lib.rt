@@ -8,3 +8,6 @@ mod text;
 pub use history::History;
 pub use place::index_within;
 pub use text::print_history;
+
+#[cfg(test)]
+mod tests;

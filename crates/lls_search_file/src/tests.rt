@@ -1,5 +1,9 @@
 // Search files: read, refused, printed.
-use crate::{Cell, Kind, Posed, PosedError, read_posed};
+use crate::{
+    Cell, HistoryError, Kind, PosedError, histories_read_back, print_posed, read_history,
+    read_posed,
+};
+use lls_grid::print_history;
 use std::alloc::{AllocError, Global};
 use std::test::Fail;
 
@@ -137,5 +141,60 @@ fn names_of_32_letters(rt: HostRuntime) -> Result<(), Fail> {
         posed.names.items()[0].text(),
         "a2345678901234567890123456789012"
     );
+    Ok(())
+}
+
+#[test]
+fn a_printed_file_is_read_back(rt: HostRuntime) -> Result<(), Fail> {
+    let alloc = rt.alloc();
+    let text = b"b' -a *'\n0 1 b\n\na -b1' 1'\n0' * -b\n".as_slice();
+    let spaced = b"\n#x\n b'\t,-a, *',\r\n0 1 b\n \n\na -b1' 1'\n0',*,-b\n\n".as_slice();
+    for bytes in [text, spaced] {
+        let posed = read_posed(alloc, bytes)?;
+        let printed = print_posed(alloc, &posed)?;
+        assert_eq!(rt; printed.as_slice(), text);
+    }
+    Ok(())
+}
+
+#[test]
+fn a_printed_history_is_read_back(rt: HostRuntime) -> Result<(), Fail> {
+    let alloc = rt.alloc();
+    histories_read_back();
+    let text = b"0 0 0\n1 1 1\n0 0 0\n\n0 1 0\n0 1 0\n0 1 0\n".as_slice();
+    let spaced = b"# blinker\n0,0,0\n 1 1 1\r\n0 0 0 ,\n\n\n0 1 0\n0 1 0\n0 1 0".as_slice();
+    for bytes in [text, spaced] {
+        let history = read_history(alloc, bytes)?;
+        assert_eq!(rt;
+            (history.generations(), history.height(), history.width()),
+            (2, 3, 3)
+        );
+        let printed = print_history(alloc, &history)?;
+        assert_eq!(rt; printed.as_slice(), text);
+    }
+    Ok(())
+}
+
+#[test]
+fn texts_that_are_no_histories(rt: HostRuntime) -> Result<(), Fail> {
+    let alloc = rt.alloc();
+    let rows: [(&[u8], HistoryError); 7] = [
+        (b"", HistoryError::Text(PosedError::Empty)),
+        (b"* 2", HistoryError::Text(PosedError::BadCell(1, 3))),
+        (b"*", HistoryError::NotPlain(0, 0, 0)),
+        (b"a", HistoryError::NotPlain(0, 0, 0)),
+        (b"0 1\n1 0\n\n0 1\n1 1'", HistoryError::NotPlain(1, 1, 1)),
+        (
+            b"0 0 -a\n* 0 0\n\n0 0 0\n0 0 0\n",
+            HistoryError::NotPlain(0, 0, 2),
+        ),
+        (
+            b"0 1 0\n\n0 1 0\n\n1 * 1\n",
+            HistoryError::NotPlain(2, 0, 1),
+        ),
+    ];
+    for (text, fault) in rows {
+        assert_eq!(rt; read_history(alloc, text).err(), Some(fault));
+    }
     Ok(())
 }

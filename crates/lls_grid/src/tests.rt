@@ -1,0 +1,48 @@
+// Histories made, changed, counted, stepped and printed.
+use crate::{History, print_history};
+use lls_rule::Rule;
+use std::alloc::{AllocError, Global};
+use std::test::Fail;
+
+// Three generations of 3 by 4 cells; generation 0 is a blinker that stands upright.
+fn blinker(alloc: Global) -> Result<History, AllocError> {
+    let mut cells = vec![in alloc; false; 36]?;
+    cells[1] = true;
+    cells[5] = true;
+    cells[9] = true;
+    Ok(History::from_cells(3, 3, 4, cells))
+}
+
+#[test]
+fn a_blinker_steps(rt: HostRuntime) -> Result<(), Fail> {
+    let alloc = rt.alloc();
+    let rule = Rule::from_counts(1 << 3, 1 << 2 | 1 << 3);
+    let mut history = blinker(alloc)?;
+    for t in 0..2 {
+        assert!(rt; t + 1 < history.generations());
+        history.step(&rule, t);
+    }
+    let text =
+        b"0 1 0 0\n0 1 0 0\n0 1 0 0\n\n0 0 0 0\n1 1 1 0\n0 0 0 0\n\n0 1 0 0\n0 1 0 0\n0 1 0 0\n".as_slice();
+    assert_eq!(rt; print_history(alloc, &history)?.as_slice(), text);
+    assert_eq!(rt; history.generations(), 3);
+    assert_eq!(rt; history.at(&rule, 1, 1, 0), true);
+    assert_eq!(rt; history.at(&rule, 1, -1, 0), false);
+    // . . . / . . # / . . #
+    assert_eq!(rt; history.nine(&rule, 0, 0, 0), 9);
+    Ok(())
+}
+
+#[test]
+fn a_cell_is_set(rt: HostRuntime) -> Result<(), Fail> {
+    let alloc = rt.alloc();
+    let mut history = History::new(alloc, 2, 2, 3)?;
+    history.set(1, 0, 2, true);
+    history.set(0, 1, 0, true);
+    history.set(1, 1, 1, true);
+    history.set(0, 1, 0, false);
+    let text = b"0 0 0\n0 0 0\n\n0 0 1\n0 1 0\n".as_slice();
+    assert_eq!(rt; print_history(alloc, &history)?.as_slice(), text);
+    assert_eq!(rt; (history.population(0), history.population(1)), (0, 2));
+    Ok(())
+}
