@@ -3,6 +3,7 @@ use crate::run::run;
 use crate::status::Status;
 use lls_base::{MemShelf, MemSink, Name, Plan};
 use std::alloc::{AllocError, Global};
+use std::process::Abort;
 use std::test::Fail;
 
 /// The words of a command line, separated by single blanks.
@@ -39,36 +40,424 @@ struct Ended {
 fn run_words(
     alloc: Global,
     words: &str,
-    f: &[u8],
-    p: &[u8],
+    f: &str,
+    p: &str,
     fails: u64,
 ) -> Result<Ended, AllocError> {
     let words = words_of(alloc, words)?;
-    let mut shelf = shelf_of(alloc, f, p, fails)?;
+    let mut shelf = shelf_of(alloc, f.as_bytes(), p.as_bytes(), fails)?;
     let mut out = MemSink::new(alloc, Vec::new(alloc), 1000);
     let mut err = MemSink::new(alloc, Vec::new(alloc), 1000);
     let status = run(alloc, &words, &mut shelf, &mut out, &mut err);
     Ok(Ended { status, out, err })
 }
 
-/// One live cell that is to stay alive alone, and the one-line proof that it can't.
-const CELL: &[u8] = b"1\n\n1\n";
+/// A command line, the files `f` and `p`, the status that is wanted, and the text.
+type Row = (
+    &'static str,
+    &'static str,
+    &'static str,
+    Status,
+    &'static str,
+);
 
-const PROOF: &[u8] = b"5 0 1 2 4 0\n";
+/// Runs a row whose answer goes to the standard output.
+fn answers(rt: &impl Abort, alloc: Global, row: Row) -> Result<(), Fail> {
+    let (words, f, p, status, text) = row;
+    let ended = run_words(alloc, words, f, p, 0)?;
+    assert_eq!(rt; ended.status, status);
+    assert_eq!(rt; ended.out.bytes(), text.as_bytes());
+    assert!(rt; ended.err.bytes().is_empty());
+    Ok(())
+}
+
+/// Runs a row whose fault goes to the standard error, behind `lls: ` and before an LF.
+fn faults(rt: &impl Abort, alloc: Global, row: Row, fails: u64) -> Result<(), Fail> {
+    let (words, f, p, status, text) = row;
+    let ended = run_words(alloc, words, f, p, fails)?;
+    let mut line = b"lls: ".to_vec(alloc)?;
+    line.extend_from_slice(text.as_bytes())?;
+    line.push(b'\n')?;
+    assert_eq!(rt; ended.status, status);
+    assert_eq!(rt; ended.err.bytes(), line.as_slice());
+    assert!(rt; ended.out.bytes().is_empty());
+    Ok(())
+}
 
 #[test]
 fn proofs_are_checked(rt: HostRuntime) -> Result<(), Fail> {
-    let alloc = rt.alloc();
-    let rows: [(&[u8], &[u8], Status, &[u8]); 3] = [
-        (CELL, PROOF, Status::Done, b"accepted\n"),
-        (CELL, b"5 0 1 3 0\n", Status::Refused, b"refused: NotGood\n"),
-        (CELL, b"", Status::Refused, b"refused: NoEmpty\n"),
+    let rows: [Row; 18] = [
+        (
+            "check f p",
+            "1\n\n1\n",
+            "5 0 1 2 4 0\n",
+            Status::Done,
+            "accepted\n",
+        ),
+        (
+            "check f p",
+            "1\n\n1\n",
+            "5 1 0 1 0\n6 0 5 2 4 0\nrubbish\n",
+            Status::Done,
+            "accepted\n",
+        ),
+        (
+            "check f p",
+            "1\n\n1\n",
+            "5 0 1 3 0\n",
+            Status::Refused,
+            "refused: NotGood\n",
+        ),
+        (
+            "check f p",
+            "1\n\n1\n",
+            "4 0 1 2 4 0\n",
+            Status::Refused,
+            "refused: NotGood\n",
+        ),
+        (
+            "check f p",
+            "1\n\n1\n",
+            "5 0 1 0\n",
+            Status::Refused,
+            "refused: NotGood\n",
+        ),
+        (
+            "check f p",
+            "1\n\n1\n",
+            "",
+            Status::Refused,
+            "refused: NoEmpty\n",
+        ),
+        (
+            "check f p",
+            "1\n\n1\n",
+            "5 1 0 1 0\n",
+            Status::Refused,
+            "refused: NoEmpty\n",
+        ),
+        (
+            "check f p",
+            "1\n\n1\n",
+            "5 0 1 2 4\n",
+            Status::Refused,
+            "refused: Unbuilt\n",
+        ),
+        (
+            "check f p",
+            "1\n\n1\n",
+            "5 d 4 0\n6 0 1 2 4 0\n",
+            Status::Refused,
+            "refused: Unbuilt\n",
+        ),
+        (
+            "check f p",
+            "1\n\n1'\n",
+            "5 0 1 2 4 0\n",
+            Status::Refused,
+            "refused: NotGood\n",
+        ),
+        (
+            "check f p",
+            "1'\n\n1\n",
+            "5 0 1 2 4 0\n",
+            Status::Done,
+            "accepted\n",
+        ),
+        (
+            "check --rule B3/S0 f p",
+            "1\n\n1\n",
+            "5 0 1 2 4 0\n",
+            Status::Refused,
+            "refused: NotGood\n",
+        ),
+        (
+            "check f p --rule=23/3",
+            "1\n\n1\n",
+            "5 0 1 2 4 0\n",
+            Status::Done,
+            "accepted\n",
+        ),
+        (
+            "check f p",
+            "1 1 1\n\n* * *\n",
+            "900 0 1 2 3 4 0\n",
+            Status::Done,
+            "accepted\n",
+        ),
+        (
+            "check f p --edge closed",
+            "1 1 1\n\n* * *\n",
+            "900 0 1 2 3 4 0\n",
+            Status::Done,
+            "accepted\n",
+        ),
+        (
+            "check f p --edge open",
+            "1 1 1\n\n* * *\n",
+            "900 0 1 2 3 4 0\n",
+            Status::Refused,
+            "refused: NotGood\n",
+        ),
+        (
+            "check f p",
+            "a -a 1\n",
+            "900 0 1 0\n",
+            Status::Refused,
+            "refused: NotGood\n",
+        ),
+        (
+            "check --rule B0/S f p",
+            "*\n\n0\n",
+            "900 0 1 0\n",
+            Status::Refused,
+            "refused: NotGood\n",
+        ),
     ];
-    for (f, p, status, text) in rows {
-        let ended = run_words(alloc, "check f p", f, p, 0)?;
-        assert_eq!(rt; ended.status, status);
-        assert_eq!(rt; ended.out.bytes(), text);
-        assert!(rt; ended.err.bytes().is_empty());
+    for row in rows {
+        answers(&rt, rt.alloc(), row)?;
     }
     Ok(())
+}
+
+#[test]
+fn patterns_are_judged_and_rules_printed(rt: HostRuntime) -> Result<(), Fail> {
+    let rows: [Row; 16] = [
+        (
+            "judge f p",
+            "1\n\n1\n",
+            "1\n\n1\n",
+            Status::Refused,
+            "broken: Rule 1 0 0\n",
+        ),
+        (
+            "judge f p",
+            "1\n\n1'\n",
+            "1\n\n1\n",
+            Status::Done,
+            "meets\n",
+        ),
+        (
+            "judge f p",
+            "1\n\n1\n",
+            "1\n",
+            Status::Refused,
+            "broken: Size\n",
+        ),
+        (
+            "judge f p",
+            "1\n\n*\n",
+            "0\n\n0\n",
+            Status::Refused,
+            "broken: Cell 0 0 0\n",
+        ),
+        (
+            "judge f p",
+            "a -a\n",
+            "1 1\n",
+            Status::Refused,
+            "broken: Name 0 0 1\n",
+        ),
+        ("judge f p", "a -a\n", "1 0\n", Status::Done, "meets\n"),
+        (
+            "judge f p",
+            "0 0 0\n1 1 1\n0 0 0\n\n* * *\n* * *\n* * *\n",
+            "0 0 0\n1 1 1\n0 0 0\n\n0 1 0\n0 1 0\n0 1 0\n",
+            Status::Done,
+            "meets\n",
+        ),
+        (
+            "judge f p",
+            "0 0 0\n1 1 1\n0 0 0\n\n* * *\n* * *\n* * *\n",
+            "0 0 0\n1 1 1\n0 0 0\n\n0 0 0\n1 1 1\n0 0 0\n",
+            Status::Refused,
+            "broken: Rule 1 0 1\n",
+        ),
+        (
+            "judge f p",
+            "* * *\n\n* * *\n",
+            "1 1 1\n\n0 1 0\n",
+            Status::Refused,
+            "broken: Rule 1 -1 1\n",
+        ),
+        (
+            "judge --edge=open f p",
+            "* * *\n\n* * *\n",
+            "1 1 1\n\n0 1 0\n",
+            Status::Done,
+            "meets\n",
+        ),
+        (
+            "judge --rule B3/S0 f p",
+            "1\n\n1\n",
+            "1\n\n1\n",
+            Status::Done,
+            "meets\n",
+        ),
+        (
+            "judge --rule B0/S f p",
+            "*\n\n*\n",
+            "0\n\n1\n",
+            Status::Done,
+            "meets\n",
+        ),
+        ("rule b2-a/s12", "", "", Status::Done, "B2-a/S12\n"),
+        ("rule 23/3", "", "", Status::Done, "B3/S23\n"),
+        ("rule B3S23", "", "", Status::Done, "B3/S23\n"),
+        (
+            "rule B2ci3ai4c8/S02ae3eijkq4iz5ar6i7e",
+            "",
+            "",
+            Status::Done,
+            "B2ci3ai4c8/S02ae3eijkq4iz5ar6i7e\n",
+        ),
+    ];
+    for row in rows {
+        answers(&rt, rt.alloc(), row)?;
+    }
+    Ok(())
+}
+
+#[test]
+fn faults_are_named(rt: HostRuntime) -> Result<(), Fail> {
+    let rows: [Row; 25] = [
+        ("rule B1k/S", "", "", Status::Words, "words: BadLetter 2 3"),
+        (
+            "rule B33/S",
+            "",
+            "",
+            Status::Words,
+            "words: RepeatedDigit 2 3",
+        ),
+        (
+            "rule B2aa/S",
+            "",
+            "",
+            Status::Words,
+            "words: RepeatedLetter 2 4",
+        ),
+        ("rule B2-/S", "", "", Status::Words, "words: NoLetters 2 3"),
+        ("rule B9/S", "", "", Status::Words, "words: Stray 2 2"),
+        ("rule B3", "", "", Status::Words, "words: Stray 2 3"),
+        (
+            "check f p --rule B9/S",
+            "1\n\n1\n",
+            "",
+            Status::Words,
+            "words: Stray 4 2",
+        ),
+        ("check f", "1\n", "", Status::Words, "words: Operands 2 1"),
+        (
+            "judge f p f",
+            "1\n",
+            "",
+            Status::Words,
+            "words: Operands 2 3",
+        ),
+        (
+            "guess f p",
+            "1\n",
+            "",
+            Status::Words,
+            "words: UnknownCommand",
+        ),
+        (
+            "check f p --best",
+            "1\n",
+            "",
+            Status::Words,
+            "words: UnknownOption 4",
+        ),
+        (
+            "check f p --edge open --edge open",
+            "1\n",
+            "",
+            Status::Words,
+            "words: RepeatedOption 6",
+        ),
+        (
+            "check f p --edge",
+            "1\n",
+            "",
+            Status::Words,
+            "words: MissingValue 4",
+        ),
+        (
+            "check f p --edge shut",
+            "1\n",
+            "",
+            Status::Words,
+            "words: BadValue 4",
+        ),
+        ("check f p", "", "", Status::Content, "content: Empty"),
+        (
+            "check f p",
+            "1 0\n1\n",
+            "",
+            Status::Content,
+            "content: Ragged 2 2 1",
+        ),
+        (
+            "check f p",
+            "1\n\n1\n1\n",
+            "",
+            Status::Content,
+            "content: Sizes 1 1 2",
+        ),
+        (
+            "check f p",
+            "1 2\n",
+            "",
+            Status::Content,
+            "content: BadCell 1 3",
+        ),
+        (
+            "check f p",
+            "1 é\n",
+            "",
+            Status::Content,
+            "content: NotAscii 1 3",
+        ),
+        (
+            "judge f p",
+            "* *\n",
+            "1 *\n",
+            Status::Content,
+            "content: NotPlain 0 0 1",
+        ),
+        ("judge f p", "* *\n", "", Status::Content, "content: Empty"),
+        (
+            "judge f p",
+            "0 0 0 0 0 0 0 0 0 0 0 0 0 0 0 0 0 0 0 0 0 0 0 0 0 0 0 0 0 0 0 0 0 0 0 0 0 0 0 0 0 0 0 0 0 0 0 0 0 0 0 0 0 0 0 0 0 0 0 0 0 0 0 0 0\n",
+            "",
+            Status::Limit,
+            "limit: TooWide 65",
+        ),
+        (
+            "check f p",
+            "0\n0\n0\n0\n0\n0\n0\n0\n0\n0\n0\n0\n0\n0\n0\n0\n0\n0\n0\n0\n0\n0\n0\n0\n0\n0\n0\n0\n0\n0\n0\n0\n0\n0\n0\n0\n0\n0\n0\n0\n0\n0\n0\n0\n0\n0\n0\n0\n0\n0\n0\n0\n0\n0\n0\n0\n0\n0\n0\n0\n0\n0\n0\n0\n0\n",
+            "",
+            Status::Limit,
+            "limit: TooHigh 65",
+        ),
+        (
+            "check f q",
+            "1\n\n1\n",
+            "",
+            Status::Outside,
+            "outside: NoFile",
+        ),
+        (
+            "judge q p",
+            "1\n\n1\n",
+            "",
+            Status::Outside,
+            "outside: NoFile",
+        ),
+    ];
+    for row in rows {
+        faults(&rt, rt.alloc(), row, 0)?;
+    }
+    let failing = ("check f p", "1", "", Status::Outside, "outside: OpenFailed");
+    faults(&rt, rt.alloc(), failing, 1)
 }
