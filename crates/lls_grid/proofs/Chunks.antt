@@ -7,7 +7,7 @@ use Rattle.std.proofs.Math.Nat.{mul_comm, mul-le-mul_left}
 use Rattle.std.proofs.Math.Seq.{take-set-lt, take-add}
 use Rattle.std.proofs.lemmas.List.FromFn.{fill_by_all, length-map-range_with_len, get_or-map-range_with_len}
 use Rattle.lls_grid.specs.Chunks.{chunked}
-use Rattle.lls_grid.specs.History.{History, folded, rows_at, cells_of_rows}
+use Rattle.lls_grid.specs.History.{folded, rows_at, cells_of_rows}
 use Rattle.lls_grid.specs.Changes.{with_cell}
 
 pub length-chunked : {X : Type 0} (size count : ℕ) (items : List X) → length (chunked size count items) ≡ count

@@ -1,5 +1,5 @@
 -- Reading a history that is folded from its cells in order.
-use Rattle.std.proofs.Common.{◌≡◌, ◌<◌, ◌≤◌, ℕ, zero, suc, ◌+◌, ◌*◌, ℤ, pos, negsuc, Bool, true, false, List, [], ◌∷◌, length, map, refl, sym, ap, ◌∙◌, arith, Option, None, Some, slice_get, get_or, rules, replicate, subst, ltb, ◌==◌}
+use Rattle.std.proofs.Common.{◌≡◌, ◌<◌, ◌≤◌, ℕ, zero, suc, ◌+◌, ◌*◌, ℤ, pos, negsuc, Bool, true, false, List, [], ◌∷◌, length, map, refl, ap, ◌∙◌, arith, None, Some, slice_get, get_or, replicate, subst, ltb, ◌==◌}
 use Rattle.std.specs.List.{range_with_len}
 use Rattle.std.proofs.lemmas.List.{get_or_past}
 use Rattle.std.proofs.lemmas.List.FromFn.{length-map-range_with_len, get_or-map-range_with_len}
@@ -10,7 +10,7 @@ use Rattle.std.proofs.lemmas.Bool.Decides.{nat_tests}
 use Rattle.lls_grid.specs.Place.{inside}
 use Rattle.std.specs.List.{list_all}
 use Rattle.std.proofs.lemmas.Bool.{and_from, eq-eqb}
-use Rattle.lls_grid.specs.History.{HasSizes, has_shape, History, folded, rows_at, cell_at, place_cell, height_of, width_of, dead}
+use Rattle.lls_grid.specs.History.{HasSizes, has_shape, folded, rows_at, cell_at, place_cell, height_of, width_of, dead}
 
 -- the row y of generation t, and the rows of that generation
 abbrev row_at : ℕ → ℕ → List Bool → ℕ → ℕ → List Bool

@@ -1,12 +1,12 @@
 -- The cells of a history in the order generation, row, column, and where a cell stands in it.
-use Rattle.std.proofs.Common.{◌≡◌, ◌<◌, ◌≤◌, ℕ, zero, suc, ◌+◌, ◌*◌, ℤ, pos, negsuc, Bool, true, false, ◌&&◌, List, [], ◌∷◌, ◌++◌, ◌==◌, length, refl, sym, ap, ◌∙◌, subst, arith, Option, None, Some, get_or, slice_get, rules, mul-suc, length-append}
+use Rattle.std.proofs.Common.{◌≡◌, ◌<◌, ◌≤◌, ℕ, zero, suc, ◌+◌, ◌*◌, ℤ, pos, negsuc, Bool, true, false, List, [], ◌∷◌, ◌==◌, length, refl, sym, ap, ◌∙◌, arith, None, Some, get_or, slice_get, length-append}
 use Rattle.std.specs.List.{list_all, flat_map}
 use Rattle.std.proofs.lemmas.List.{get_or-append-add, get_or_append_left, get_or_past}
 use Rattle.std.proofs.lemmas.Option.{slice_get-get_or, slice_get_past}
 use Rattle.std.proofs.lemmas.Bool.{and_parts, eqb-true}
 use Rattle.std.proofs.lemmas.Nat.{mul-add-lt}
 use Rattle.std.proofs.Math.Nat.{mul_comm, mul_assoc, mul-add}
-use Rattle.lls_grid.specs.History.{History, HasSizes, has_shape, cells_of, cells_of_rows, rows_at, cell_at, place_cell}
+use Rattle.lls_grid.specs.History.{History, HasSizes, has_shape, cells_of, cells_of_rows, cell_at, place_cell}
 use Rattle.lls_grid.specs.Place.{inside}
 use Rattle.lls_grid.proofs.Folded.{some_row, no_row}
 

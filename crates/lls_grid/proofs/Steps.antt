@@ -1,15 +1,15 @@
 -- Writing a generation row by row and cell by cell, from the generation before.
-use Rattle.std.proofs.Common.{◌≡◌, ◌≢◌, ◌<◌, ◌≤◌, ℕ, zero, suc, ◌+◌, ℤ, pos, negsuc, ◌+ℤ◌, ◌-ℤ◌, Bool, true, false, List, [], ◌∷◌, ◌++◌, ◌==◌, length, get_or, set, take, drop, map, refl, sym, ap, ◌∙◌, arith, add-one, drop-cons, length-take, append-nil, append_assoc, take_all}
+use Rattle.std.proofs.Common.{◌≡◌, ◌≢◌, ◌<◌, ◌≤◌, ℕ, zero, suc, ◌+◌, ℤ, pos, negsuc, ◌+ℤ◌, ◌-ℤ◌, Bool, false, List, [], ◌∷◌, ◌++◌, ◌==◌, length, get_or, set, take, drop, map, refl, sym, ap, ◌∙◌, arith, add-one, drop-cons, length-take, append-nil, append_assoc, take_all}
 use Rattle.std.specs.List.{list_all, range_with_len}
 use Rattle.std.proofs.lemmas.Bool.{and_parts, eqb-true}
-use Rattle.std.proofs.lemmas.List.{set-get_or, get_or-set_same, get_or-set_other, take_more, length-set}
+use Rattle.std.proofs.lemmas.List.{set-get_or, get_or-set_same, get_or-set_other, take_more}
 use Rattle.std.proofs.lemmas.List.FromFn.{length-map-range_with_len, get_or-map-range_with_len}
 use Rattle.std.proofs.Math.Seq.{set-append_seam}
 use Rattle.std.proofs.Math.ListN.{drop_of_length-le}
-use Rattle.lls_rule.specs.Rule.{successor, background}
-use Rattle.lls_grid.specs.History.{History, HasSizes, has_shape, rows_at, place_cell, at, three, nine, height_of, width_of}
+use Rattle.lls_rule.specs.Rule.{successor}
+use Rattle.lls_grid.specs.History.{History, HasSizes, rows_at, place_cell, nine, height_of, width_of}
 use Rattle.lls_grid.proofs.InOrder.{shape_at, width_at}
-use Rattle.lls_grid.specs.Changes.{with_cell, with_row, successor_row, successors, stepped}
+use Rattle.lls_grid.specs.Changes.{with_cell, with_row, successor_row, successors}
 
 pub set_set : {X : Type 0} (items : List X) (i : ℕ) (a b : X) → set (set items i a) i b ≡ set items i b
 set_set [] i a b = refl

@@ -1,5 +1,5 @@
 -- What calls change in a history, and what they count.
-use Rattle.std.specs.Prelude.{ℕ, ◌+◌, ◌*◌, ℤ, pos, Bool, List, [], map, slice_index_or, slice_set, count_by}
+use Rattle.std.specs.Prelude.{ℕ, ◌+◌, pos, Bool, List, [], map, slice_index_or, slice_set, count_by}
 use Rattle.std.specs.List.{range_with_len}
 use Rattle.lls_rule.specs.Rule.{successor}
 use Rattle.lls_grid.specs.History.{History, rows_at, height_of, width_of, nine, cells_of_rows}

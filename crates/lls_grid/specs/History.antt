@@ -1,6 +1,6 @@
 -- Histories of two-state cells on the square grid, the values of places in and around the grid, and neighbourhoods.
-use Rattle.std.specs.Prelude.{◌≡◌, ◌<◌, ◌≤◌, ℕ, zero, suc, ◌+◌, ◌*◌, ◌-◌, ℤ, pos, negsuc, ◌+ℤ◌, ◌-ℤ◌, Bool, true, false, List, [], ◌∷◌, length, map, Option, None, Some, unwrap_or, replicate, slice_get, slice_index_or, nat_eq, ◌==◌, ◌&&◌}
-use Rattle.std.specs.List.{list_all, flat_map, range_with_len, count_by}
+use Rattle.std.specs.Prelude.{◌≡◌, ◌≤◌, ℕ, ◌+◌, ◌*◌, ℤ, pos, negsuc, ◌+ℤ◌, ◌-ℤ◌, Bool, true, false, List, [], ◌∷◌, length, map, Option, None, unwrap_or, replicate, slice_get, slice_index_or, ◌==◌, ◌&&◌}
+use Rattle.std.specs.List.{list_all, flat_map, range_with_len}
 use Rattle.lls_rule.specs.Rule.{background}
 
 -- generations, each of rows from the top, each of cells from the left, live or dead

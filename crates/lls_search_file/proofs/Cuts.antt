@@ -1,6 +1,6 @@
 -- Cutting off the first line of a text.
-use Rattle.std.proofs.Common.{◌≡◌, ◌<◌, ℕ, suc, ◌+◌, eqb, Bool, true, false, cond, not, List, [], ◌∷◌, length, take, drop, refl, sym, ap, arith}
-use Rattle.std.specs.List.{prefix_len, position_or_len, onto_first}
+use Rattle.std.proofs.Common.{◌≡◌, ◌<◌, ℕ, suc, ◌+◌, eqb, true, false, cond, not, List, [], ◌∷◌, length, take, drop, refl, ap, arith}
+use Rattle.std.specs.List.{position_or_len, onto_first}
 use Rattle.lls_search_file.specs.Lines.{cut_lines}
 
 -- how many bytes stand before the first LF

@@ -1,11 +1,10 @@
 -- How the reading of a text ends.
-use Rattle.std.proofs.Common.{◌≡◌, ◌≢◌, ℕ, ◌+◌, eqb, Bool, true, false, cond, List, [], ◌∷◌, length, map, Result, Ok, Err, refl, sym, ap, ◌∙◌, arith}
+use Rattle.std.proofs.Common.{◌≡◌, ◌≢◌, ℕ, ◌+◌, eqb, true, cond, List, [], ◌∷◌, length, Result, Ok, Err, sym, ap, ◌∙◌, arith}
 use Rattle.std.proofs.lemmas.Bool.{ne_eqb, eqb-true}
 use Rattle.lls_search_file.specs.declared.cell.Cell.{Cell}
 use Rattle.lls_search_file.specs.declared.shape.Shape.{Shape}
 use Rattle.lls_search_file.specs.declared.error.PosedError.{PosedError}
 use Rattle.lls_search_file.specs.declared.error.PosedError.TheVariants.{Empty, BadCell, Ragged, Sizes, TooWide, TooHigh, TooMany, TooManyCells, NotAscii, Memory}
-use Rattle.lls_search_file.specs.Posed.{PosedFile}
 use Rattle.lls_search_file.specs.Lines.{lines_of}
 use Rattle.lls_search_file.specs.Words.{and_then}
 use Rattle.lls_search_file.specs.Reading.{Fails, Rows, no_rows, with_end, line_taken, lines_taken, at_end, file_of, names_of, posed_of}

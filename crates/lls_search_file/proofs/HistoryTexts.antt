@@ -1,5 +1,5 @@
 -- The text of a history is that of a posed file, and is read as the history.
-use Rattle.std.proofs.Common.{◌≡◌, ℕ, ◌+◌, ◌*◌, nat_lt, Bool, true, false, cond, not, List, [], ◌∷◌, length, map, Option, None, Some, Result, Ok, Err, refl, sym, ap, ◌∙◌, arith}
+use Rattle.std.proofs.Common.{◌≡◌, ◌*◌, Bool, true, false, cond, not, List, [], ◌∷◌, length, map, None, Some, Ok, refl, sym, ap, ◌∙◌, arith}
 use Rattle.std.specs.List.{position, position_or_len}
 use Rattle.std.proofs.lemmas.List.{length-map}
 use Rattle.std.proofs.lemmas.Bool.{le-ltb}
@@ -12,7 +12,7 @@ use Rattle.lls_grid.proofs.Whole.{chunked-cells_of, folded-cells_of}
 use Rattle.lls_search_file.specs.declared.cell.Cell.{Cell}
 use Rattle.lls_search_file.specs.declared.cell.Kind.TheVariants.{Dead, Live}
 use Rattle.lls_search_file.specs.Posed.{PosedFile, IsPosed, are_numbered}
-use Rattle.lls_search_file.specs.Plain.{is_live, is_plain, history_or, plain_file, plain_read, plain_of}
+use Rattle.lls_search_file.specs.Plain.{is_live, is_plain, history_or, plain_read, plain_of}
 use Rattle.lls_search_file.specs.Printing.{word_text, posed_text}
 use Rattle.lls_search_file.specs.Law.{IsHistory}
 use Rattle.lls_search_file.proofs.RoundTrip.{posed_of-posed_text}

@@ -1,12 +1,12 @@
 -- Cells whose names are numbered by first appearance.
-use Rattle.std.proofs.Common.{◌≡◌, ◌<◌, ◌≤◌, ℕ, zero, suc, ◌+◌, eqb, ltb, Bool, true, false, cond, not, ◌&&◌, ◌||◌, List, [], ◌∷◌, ◌++◌, length, get_or, take, drop, map, filter, Option, None, Some, refl, sym, ap, ◌∙◌, arith, ◌⊎◌, inl, inr, length-append, append_assoc, add-one, subst}
-use Rattle.std.specs.List.{list_any, list_all, position_or_len, filter_map}
-use Rattle.std.proofs.lemmas.Bool.{and_parts, eqb-true, ltb-true, lt-ltb, ltb-false, le-ltb, cases_lt}
+use Rattle.std.proofs.Common.{◌≡◌, ◌<◌, ◌≤◌, ℕ, zero, suc, ◌+◌, eqb, Bool, true, false, List, [], ◌∷◌, ◌++◌, length, get_or, take, map, Option, None, Some, refl, ap, ◌∙◌, arith, ◌⊎◌, inl, inr, length-append, append_assoc, subst}
+use Rattle.std.specs.List.{list_any, list_all, position_or_len}
+use Rattle.std.proofs.lemmas.Bool.{and_parts, eqb-true, lt-ltb, le-ltb, cases_lt}
 use Rattle.std.proofs.lemmas.Bool.Decides.{nat_tests, eqb_tells}
 use Rattle.std.proofs.lemmas.List.{map-append, take_more}
 use Rattle.lls_search_file.specs.declared.word.Word as read
 use Rattle.lls_search_file.specs.Seen.{seen_word}
-use Rattle.std.proofs.lemmas.List.Folds.{list_all-append, list_any-append}
+use Rattle.std.proofs.lemmas.List.Folds.{list_all-append}
 use Rattle.std.proofs.Math.ListN.{get_or-append}
 use Rattle.std.proofs.Math.Seq.{get_or-append_seam}
 use Rattle.lls_search_file.specs.declared.cell.Cell.{Cell}
@@ -14,9 +14,9 @@ use Rattle.lls_search_file.specs.declared.cell.Kind.{Kind}
 use Rattle.lls_search_file.specs.declared.cell.Kind.TheVariants.{Dead, Live, Free, Named, Negated}
 use Rattle.lls_search_file.specs.Posed.{name_of, names_after, are_numbered, are_distinct, is_name, same_text}
 use Rattle.lls_search_file.specs.Words.{Said, dead, live, free, named, negated, Word}
-use Rattle.lls_search_file.specs.Reading.{name_said, kind_said, cell_said, first_seen, names_of}
+use Rattle.lls_search_file.specs.Reading.{name_said, kind_said, cell_said}
 use Rattle.lls_search_file.specs.Kept.{IsNumbered, said_in, word_in, words_in, with_name, is_spelled, is_said_spelled}
-use Rattle.lls_search_file.proofs.Texts.{place_past, place_found, distinct_more, place_own, apart, by_cases}
+use Rattle.lls_search_file.proofs.Texts.{place_past, place_found, distinct_more, by_cases}
 
 -- what follows where a cell may bring the next name
 pub numbered_next : (count next n : ℕ) (cells : List Cell) → are_numbered cells count (names_after (Some n) next) ≡ true

@@ -1,5 +1,5 @@
 -- Numbering the names of words gives back cells whose names are numbered by first appearance.
-use Rattle.std.proofs.Common.{◌≡◌, ◌<◌, ◌≤◌, ℕ, zero, suc, ◌+◌, Bool, true, false, cond, not, ◌&&◌, ◌||◌, List, [], ◌∷◌, ◌++◌, length, get_or, take, drop, map, filter, Option, None, Some, refl, sym, ap, ◌∙◌, arith, ◌⊎◌, inl, inr, add-one, drop-cons, subst, length-take}
+use Rattle.std.proofs.Common.{◌≡◌, ◌<◌, ◌≤◌, ℕ, zero, suc, ◌+◌, Bool, true, false, cond, not, ◌&&◌, ◌||◌, List, [], ◌∷◌, length, get_or, take, drop, map, filter, Option, None, Some, refl, sym, ap, ◌∙◌, arith, inl, inr, add-one, drop-cons, length-take}
 use Rattle.std.specs.List.{list_any, filter_map}
 use Rattle.std.proofs.lemmas.List.{take_more, get_or-take}
 use Rattle.std.proofs.Math.ListN.{drop_of_length-le}
@@ -10,10 +10,9 @@ use Rattle.lls_search_file.specs.declared.cell.Cell.{Cell}
 use Rattle.lls_search_file.specs.declared.cell.Kind.{Kind}
 use Rattle.lls_search_file.specs.declared.cell.Kind.TheVariants.{Dead, Live, Free, Named, Negated}
 use Rattle.lls_search_file.specs.Posed.{name_of, names_after, are_numbered, are_distinct, same_text}
-use Rattle.lls_search_file.specs.Words.{Said, dead, live, free, named, negated, Word}
 use Rattle.lls_search_file.specs.Reading.{name_said, kind_said, cell_said, first_seen, names_of}
-use Rattle.lls_search_file.specs.Kept.{IsNumbered, said_in, word_in, words_in}
-use Rattle.lls_search_file.proofs.Texts.{place_own, apart, by_cases, same_refl, same_true, or_parts}
+use Rattle.lls_search_file.specs.Kept.{IsNumbered, said_in, words_in}
+use Rattle.lls_search_file.proofs.Texts.{place_own, apart, by_cases, same_refl, same_true}
 use Rattle.lls_search_file.proofs.Numbering.{numbered_next, numbered-le, numbers_lt}
 
 -- the names that cells cite, in order

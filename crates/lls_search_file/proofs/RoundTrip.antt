@@ -1,5 +1,5 @@
 -- The text of a posed file is read as the file.
-use Rattle.std.proofs.Common.{◌≡◌, ◌<◌, ◌≤◌, ℕ, zero, suc, ◌+◌, ◌*◌, eqb, ltb, Bool, true, false, cond, not, ◌&&◌, List, [], ◌∷◌, ◌++◌, length, take, drop, get_or, map, flat_map, Option, None, Some, Result, Ok, Err, refl, sym, ap, ◌∙◌, arith, append_assoc, append-nil, take_all, length-take, length-drop}
+use Rattle.std.proofs.Common.{◌≡◌, ◌<◌, ◌≤◌, ℕ, zero, suc, ◌+◌, ◌*◌, eqb, Bool, true, false, cond, not, ◌&&◌, List, [], ◌∷◌, ◌++◌, length, take, drop, get_or, map, flat_map, Option, None, Some, Ok, Err, refl, sym, ap, ◌∙◌, arith, append_assoc, append-nil, take_all, length-take, length-drop}
 use Rattle.std.specs.List.{list_all}
 use Rattle.std.proofs.lemmas.Bool.{and_parts, and_from, le-ltb, ne_eqb, eqb-true, eq-eqb}
 use Rattle.std.proofs.lemmas.List.{map-append, length-map, take-append-drop}
@@ -13,12 +13,11 @@ use Rattle.lls_search_file.specs.declared.cell.Cell.{Cell}
 use Rattle.lls_search_file.specs.declared.cell.Kind.{Kind}
 use Rattle.lls_search_file.specs.declared.cell.Kind.TheVariants.{Dead, Live, Free, Named, Negated}
 use Rattle.lls_search_file.specs.declared.shape.Shape.{Shape}
-use Rattle.lls_search_file.specs.declared.error.PosedError.{PosedError}
 use Rattle.lls_search_file.specs.declared.error.PosedError.TheVariants.{Empty}
 use Rattle.lls_search_file.specs.Posed.{PosedFile, IsPosed, name_of, names_after, are_numbered, is_name}
 use Rattle.lls_search_file.specs.Lines.{lines_of}
 use Rattle.lls_search_file.specs.Words.{Word, and_then}
-use Rattle.lls_search_file.specs.Reading.{Rows, no_rows, with_row, with_end, with_words, line_taken, lines_taken, at_end, file_of, names_of, cell_said, posed_of}
+use Rattle.lls_search_file.specs.Reading.{Rows, no_rows, with_row, with_end, line_taken, lines_taken, at_end, file_of, posed_of}
 use Rattle.lls_search_file.specs.Kept.{IsNumbered, said_in, word_in, words_in, is_spelled, is_said_spelled}
 use Rattle.lls_search_file.specs.Printing.{word_text, posed_text}
 use Rattle.lls_search_file.proofs.Numbering.{numbers_lt}

@@ -1,14 +1,13 @@
 -- The rows of a printed file, and what they read as.
-use Rattle.std.proofs.Common.{◌≡◌, ◌<◌, ◌≤◌, ℕ, zero, suc, ◌+◌, ◌-◌, leb, ltb, eqb, Bool, true, false, cond, not, ◌&&◌, ◌||◌, List, [], ◌∷◌, ◌++◌, length, take, get_or, map, flat_map, Option, None, Some, Result, Ok, Err, refl, sym, ap, ◌∙◌, arith, append_assoc, append-nil}
+use Rattle.std.proofs.Common.{◌≡◌, ◌<◌, ◌≤◌, ℕ, zero, suc, ◌+◌, ◌-◌, leb, ltb, eqb, Bool, true, false, not, ◌&&◌, List, [], ◌∷◌, ◌++◌, length, get_or, map, None, Some, Ok, refl, sym, ap, ◌∙◌, arith, append_assoc, append-nil}
 use Rattle.std.specs.List.{list_all, prefix_len, position, join_with_byte, onto_first}
 use Rattle.std.specs.Str.Lines.{strip_carriage_return}
-use Rattle.std.proofs.lemmas.Bool.{and_parts, and_from, leb-true, le-leb, le-ltb, ne_eqb, eqb-true}
+use Rattle.std.proofs.lemmas.Bool.{and_parts, and_from, leb-true, le-leb, le-ltb, ne_eqb}
 use Rattle.std.proofs.lemmas.List.Folds.{list_all-append}
-use Rattle.lls_grid.specs.Text.{row_text, rows_text}
+use Rattle.lls_grid.specs.Text.{rows_text}
 use Rattle.lls_search_file.specs.declared.cell.Cell.{Cell}
-use Rattle.lls_search_file.specs.declared.error.PosedError.{PosedError}
 use Rattle.lls_search_file.specs.Lines.{cut_lines, lines_of, is_blank, is_comment, is_separator}
-use Rattle.lls_search_file.specs.Words.{Word, word_of, is_comma, is_solid, begins_solid, pieces_of, cells_read, cell_before, row_of, ascii_or, and_then}
+use Rattle.lls_search_file.specs.Words.{is_solid, pieces_of, cells_read, cell_before, row_of, ascii_or, and_then}
 use Rattle.lls_search_file.specs.Reading.{Rows, line_taken, with_words}
 use Rattle.lls_search_file.specs.Kept.{word_in, words_in, is_spelled}
 use Rattle.lls_search_file.specs.Printing.{word_text}

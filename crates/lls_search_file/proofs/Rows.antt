@@ -1,12 +1,12 @@
 -- What every row has: a cell at least, and names spelled as names.
-use Rattle.std.proofs.Common.{◌≡◌, ◌≤◌, ℕ, zero, suc, ◌+◌, ◌-◌, leb, ltb, eqb, Bool, true, false, cond, not, ◌&&◌, ◌||◌, List, [], ◌∷◌, ◌++◌, length, take, Option, None, Some, Result, Ok, Err, refl, sym, ap, ◌∙◌, arith}
+use Rattle.std.proofs.Common.{◌≡◌, ◌≤◌, ℕ, ◌+◌, ◌-◌, leb, ltb, eqb, Bool, true, false, cond, ◌&&◌, List, [], ◌∷◌, length, take, Option, None, Some, Result, Ok, Err, refl, sym, ap, ◌∙◌, arith}
 use Rattle.std.specs.Option.{option_map}
 use Rattle.std.specs.List.{list_all, position}
 use Rattle.std.proofs.lemmas.Bool.{and_parts, leb-true, le-leb}
 use Rattle.lls_search_file.specs.declared.error.PosedError.{PosedError}
 use Rattle.lls_search_file.specs.Posed.{is_name, same_text}
 use Rattle.lls_search_file.specs.Lines.{is_blank, is_separator}
-use Rattle.lls_search_file.specs.Words.{Said, dead, live, free, named, negated, Word, Piece, word, comma, said_of, name_said_of, negated_name, word_of, has_mark, marked, pieces_of, before_pieces, before_word, begins_solid, is_comma, cells_read, cell_before, row_of, ascii_or}
+use Rattle.lls_search_file.specs.Words.{Said, dead, live, free, named, negated, Word, Piece, word, comma, said_of, name_said_of, negated_name, word_of, has_mark, marked, pieces_of, before_word, begins_solid, is_comma, cells_read, cell_before, row_of, ascii_or}
 use Rattle.lls_search_file.specs.Kept.{is_spelled, is_said_spelled}
 
 spelled_said : Option Said → Bool

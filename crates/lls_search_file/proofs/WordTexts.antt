@@ -1,6 +1,5 @@
 -- The words of cells as they are printed, and what they read as.
-use Rattle.std.proofs.Common.{◌≡◌, ◌<◌, ◌≤◌, ℕ, zero, suc, ◌+◌, ◌-◌, leb, ltb, eqb, Bool, true, false, cond, not, ◌&&◌, ◌||◌, List, [], ◌∷◌, ◌++◌, length, take, get_or, Option, None, Some, refl, sym, ap, ◌∙◌, arith, length-append, lit<}
-use Rattle.std.specs.Option.{option_map}
+use Rattle.std.proofs.Common.{◌≡◌, ◌<◌, ◌≤◌, ℕ, zero, suc, ◌-◌, leb, eqb, Bool, true, false, cond, not, ◌&&◌, ◌||◌, List, [], ◌∷◌, ◌++◌, length, take, get_or, Some, refl, ◌∙◌, arith, length-append, lit<}
 use Rattle.std.specs.List.{list_all}
 use Rattle.std.proofs.lemmas.Bool.{and_parts, and_from, leb-true, le-leb, ne_eqb}
 use Rattle.std.proofs.lemmas.List.Folds.{list_all-append}
@@ -8,8 +7,8 @@ use Rattle.std.proofs.Math.Seq.{get_or-append_seam, take-append_seam}
 use Rattle.lls_search_file.specs.declared.cell.Cell.{Cell}
 use Rattle.lls_search_file.specs.declared.cell.Kind.{Kind}
 use Rattle.lls_search_file.specs.declared.cell.Kind.TheVariants.{Dead, Live, Free, Named, Negated}
-use Rattle.lls_search_file.specs.Posed.{is_name, is_letter, is_letter_or_digit, same_text}
-use Rattle.lls_search_file.specs.Words.{Said, dead, live, free, named, negated, Word, said_of, word_of, has_mark, marked}
+use Rattle.lls_search_file.specs.Posed.{is_name, is_letter, is_letter_or_digit}
+use Rattle.lls_search_file.specs.Words.{named, said_of, word_of}
 use Rattle.lls_search_file.specs.Kept.{said_in, word_in, is_spelled, is_said_spelled}
 use Rattle.lls_search_file.specs.Printing.{word_text, body_text}
 

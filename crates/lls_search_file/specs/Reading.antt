@@ -1,5 +1,5 @@
 -- The reading of a search file: its value, or its first fault.
-use Rattle.std.specs.Prelude.{◌≡◌, ℕ, ◌+◌, ◌==◌, ◌&&◌, nat_lt, Bool, not, if◌then◌else◌, List, [], ◌∷◌, ◌++◌, length, map, filter, Option, None, Some, Result, Ok, Err}
+use Rattle.std.specs.Prelude.{◌≡◌, ℕ, ◌+◌, ◌==◌, ◌&&◌, nat_lt, not, if◌then◌else◌, List, [], ◌∷◌, ◌++◌, length, map, filter, Option, None, Some, Result, Ok, Err}
 use Rattle.std.specs.List.{filter_map, position_or_len}
 use Rattle.lls_search_file.specs.declared.cell.Cell.{Cell}
 use Rattle.lls_search_file.specs.declared.cell.Kind.{Kind}

@@ -1,8 +1,6 @@
-use Rattle.std.proofs.Common.{◌≡◌, ◌<◌, ◌≤◌, ◌∙◌, ◌+◌, ◌++◌, ◌⊎◌, inl, inr, ℕ, List, [], ◌∷◌, Bool, length, map, take, get_or, ap, sym, arith, length-take}
+use Rattle.std.proofs.Common.{◌≡◌, ◌<◌, ◌∙◌, ◌+◌, ◌++◌, inl, inr, ℕ, List, [], ◌∷◌, Bool, length, map, take, get_or, ap, arith, length-take}
 use Rattle.std.proofs.lemmas.List.{take_more, map-append, length-map}
-use Rattle.std.specs.List.{join_with_byte}
-use Rattle.lls_grid.specs.Chunks.{chunked}
-use Rattle.lls_grid.specs.Text.{digit_word, rows_text, history_text}
+use Rattle.lls_grid.specs.Text.{digit_word, rows_text}
 use Rattle.lls_grid.proofs.Joins.{separated}
 use Rattle.lls_grid.proofs.text.print_history.Goals as goal
 use Rattle.lls_grid.proofs.text.print_history.Goals.{then-t-gt0+in_ok-push, else-t-gt0}

@@ -1,4 +1,4 @@
-use Rattle.std.proofs.Common.{◌≡◌, map, take}
+use Rattle.std.proofs.Common.{◌≡◌, take}
 use Rattle.lls_grid.specs.Text.{history_text}
 use Rattle.lls_grid.proofs.text.print_history.Given as goal
 

@@ -1,5 +1,4 @@
-use Rattle.std.proofs.Common.{◌≡◌, ◌<◌, ◌≤◌, ◌∙◌, ◌+◌, ◌-◌, ◌*◌, ◌++◌, ℕ, suc, List, [], ◌∷◌, Bool, length, map, take, drop, ap, sym, refl, arith, length-drop, append_assoc, append-nil}
-use Rattle.std.proofs.Math.Nat.{mul-le-mul_left}
+use Rattle.std.proofs.Common.{◌≡◌, ◌≤◌, ◌∙◌, ◌+◌, ◌-◌, ◌*◌, ◌++◌, ℕ, suc, List, Bool, length, map, take, drop, ap, sym, arith, length-drop, append_assoc, append-nil}
 use Rattle.lls_grid.specs.Chunks.{chunked}
 use Rattle.lls_grid.specs.Text.{digit_word, row_text, rows_text}
 use Rattle.lls_grid.proofs.text.push_rows.Goals as goal

@@ -1,8 +1,7 @@
-use Rattle.std.proofs.Common.{◌≡◌, ◌∷◌, ℕ, ◌+◌, List, [], drop, take, length, refl, sym, ap, ◌∙◌, map, arith}
+use Rattle.std.proofs.Common.{◌≡◌, ◌+◌, drop, refl, sym, ap, ◌∙◌, map, arith}
 use Rattle.std.specs.Str.Lines.{strip_carriage_return}
 use Rattle.std.proofs.Math.ListN.{drop_of_length-le}
 use Rattle.std.proofs.lemmas.List.{take_rest}
-use Rattle.lls_search_file.specs.Lines.{cut_lines, lines_of}
 use Rattle.lls_search_file.proofs.Cuts.{cut_first, line_end}
 use Rattle.lls_search_file.proofs.lines.first_line.Goals as goal
 use Rattle.lls_search_file.proofs.lines.first_line.Goals.{then-end-bytes, else-end-bytes}

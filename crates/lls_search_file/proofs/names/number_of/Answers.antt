@@ -1,7 +1,5 @@
-use Rattle.std.proofs.Common.{◌≡◌, ◌∙◌, ℕ, List, [], ◌∷◌, ◌++◌, cond, ap, refl, sym}
-use Rattle.std.specs.List.{list_any, position_or_len}
-use Rattle.lls_search_file.specs.Kept.{texts, with_name}
-use Rattle.lls_search_file.specs.Posed.{same_text}
+use Rattle.std.proofs.Common.{◌∙◌, ap}
+use Rattle.lls_search_file.specs.Kept.{texts}
 use Rattle.lls_search_file.proofs.Texts.{place_of-texts, insert-texts}
 use Rattle.lls_search_file.proofs.names.number_of.Goals as goal
 

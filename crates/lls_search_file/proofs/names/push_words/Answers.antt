@@ -1,6 +1,5 @@
-use Rattle.std.proofs.Common.{◌≡◌, ◌≤◌, ◌∙◌, ◌+◌, ◌++◌, [], ◌∷◌, length, map, ap, arith, length-append}
+use Rattle.std.proofs.Common.{◌≤◌, ◌+◌, [], ◌∷◌, length, arith, length-append}
 use Rattle.std.proofs.lemmas.List.{length-map}
-use Rattle.lls_search_file.specs.Seen.{seen_word}
 use Rattle.lls_search_file.specs.Kept.{texts, words_in}
 use Rattle.lls_search_file.proofs.Numbering.{pushed_step, count-le}
 use Rattle.lls_search_file.proofs.names.push_words.Goals as goal

@@ -1,4 +1,4 @@
-use Rattle.std.proofs.Common.{◌≡◌, ◌<◌, ◌≤◌, ◌∙◌, ◌+◌, ◌*◌, ◌++◌, inl, inr, ℕ, List, [], ◌∷◌, length, map, take, drop, get_or, ap, sym, arith, refl, length-drop, take_all, Ok}
+use Rattle.std.proofs.Common.{◌≡◌, ◌<◌, ◌≤◌, ◌∙◌, ◌+◌, ◌*◌, ◌++◌, inl, inr, ℕ, List, [], length, map, take, drop, get_or, ap, sym, arith, length-drop, take_all, Ok}
 use Rattle.std.proofs.lemmas.List.{drop-drop, drop-map}
 use Rattle.lls_grid.specs.Chunks.{chunked}
 use Rattle.lls_grid.specs.Text.{text_of, rows_text}

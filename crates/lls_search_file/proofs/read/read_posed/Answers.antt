@@ -1,4 +1,4 @@
-use Rattle.std.proofs.Common.{◌≡◌, ◌∙◌, ◌+◌, sym, ap}
+use Rattle.std.proofs.Common.{◌∙◌, ◌+◌, sym}
 use Rattle.std.proofs.lemmas.Result.{err_from_is_err_and}
 use Rattle.lls_search_file.specs.Reading.{posed_of, line_taken}
 use Rattle.lls_search_file.specs.Reader.{rows_of}

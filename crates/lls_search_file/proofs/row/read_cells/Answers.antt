@@ -1,4 +1,4 @@
-use Rattle.std.proofs.Common.{◌≡◌, ◌+◌, ◌-◌, ◌≤◌, ◌∙◌, ℕ, Bool, true, false, Option, None, Some, List, [], ◌∷◌, ◌++◌, length, take, drop, get_or, map, refl, sym, ap, arith}
+use Rattle.std.proofs.Common.{◌≡◌, ◌+◌, ◌-◌, ◌∙◌, ℕ, true, None, Some, List, [], ◌∷◌, ◌++◌, length, take, drop, map, sym, ap, arith}
 use Rattle.std.specs.List.{prefix_len, take_while}
 use Rattle.std.specs.Option.{option_map}
 use Rattle.std.proofs.lemmas.List.{take_rest, map-append, length-drop}
@@ -7,7 +7,7 @@ use Rattle.std.proofs.lemmas.List.Folds.{length-prefix_len}
 use Rattle.std.proofs.lemmas.Bool.{ne_eqb}
 use Rattle.lls_search_file.specs.Words.{is_solid, word_of, begins_solid}
 use Rattle.lls_search_file.specs.Seen.{seen_word}
-use Rattle.lls_search_file.proofs.Pieces.{solid_at, bad_word, good_word, after_front, read_from}
+use Rattle.lls_search_file.proofs.Pieces.{solid_at, bad_word, good_word}
 use Rattle.lls_search_file.proofs.row.read_cells.Goals as goal
 
 -- the length of the word that stands at a place

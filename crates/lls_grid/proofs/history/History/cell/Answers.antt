@@ -1,8 +1,7 @@
 -- The row and the column that were found are those of the place.
-use Rattle.std.proofs.Common.{◌≡◌, ◌<◌, get_or, false, None, Some, sym, ap, ◌∙◌, arith, w32, to_z-of_z, length}
+use Rattle.std.proofs.Common.{◌≡◌, ◌<◌, get_or, false, None, Some, sym, ap, ◌∙◌, arith, to_z-of_z, length}
 use Rattle.std.proofs.lemmas.List.{get_or_default}
 use Rattle.lls_grid.specs.Place.{inside}
-use Rattle.lls_grid.specs.History.{place_cell, folded}
 use Rattle.lls_grid.proofs.Folded.{length-folded, place_cell-folded, place_cell-folded_above, place_cell-folded_beside}
 use Rattle.lls_grid.proofs.history.History.cell.Goals as goal
 

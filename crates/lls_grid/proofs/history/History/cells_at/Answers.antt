@@ -1,7 +1,5 @@
-use Rattle.std.proofs.Common.{◌≡◌, ◌<◌, ◌≤◌, ◌+◌, ◌*◌, ◌∙◌, length, take, drop, sym, ap, arith, length-take, length-drop}
+use Rattle.std.proofs.Common.{◌<◌, ◌*◌, ◌∙◌, length, drop, sym, ap, arith, length-take, length-drop}
 use Rattle.std.proofs.Math.Nat.{mul_assoc}
-use Rattle.lls_grid.specs.Chunks.{chunked}
-use Rattle.lls_grid.specs.History.{folded, cells_of_rows, rows_at, width_of, height_of}
 use Rattle.lls_grid.proofs.Folded.{length-folded, width_of-folded, height_of-folded}
 use Rattle.lls_grid.proofs.Chunks.{generation-le, cells_of_rows-folded, rows_at-folded_chunked, chunked-take}
 use Rattle.lls_grid.proofs.history.History.cells_at.Goals as goal

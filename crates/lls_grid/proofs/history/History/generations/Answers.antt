@@ -1,4 +1,4 @@
-use Rattle.std.proofs.Common.{◌≡◌, ◌<◌, sym, arith, length}
+use Rattle.std.proofs.Common.{◌<◌, sym, arith}
 use Rattle.lls_grid.proofs.Folded.{length-folded, height_of-folded, width_of-folded, HasSizes-folded}
 use Rattle.lls_grid.proofs.history.History.generations.Goals as goal
 

@@ -1,4 +1,4 @@
-use Rattle.std.proofs.Common.{◌≡◌, ◌<◌, ◌∙◌, ℕ, length, set, sym, ap, arith}
+use Rattle.std.proofs.Common.{◌<◌, ◌∙◌, length, set, ap, arith}
 use Rattle.lls_grid.specs.History.{height_of, width_of, folded}
 use Rattle.lls_grid.specs.Changes.{with_cell}
 use Rattle.lls_grid.proofs.Folded.{length-folded, height_of-folded, width_of-folded}

@@ -1,9 +1,9 @@
-use Rattle.std.proofs.Common.{◌≡◌, ◌<◌, ◌≤◌, ◌∙◌, ◌+◌, ℕ, List, [], length, set, ap, sym, subst, arith}
+use Rattle.std.proofs.Common.{◌≡◌, ◌<◌, ◌≤◌, ◌∙◌, ◌+◌, length, set, ap, sym, subst, arith}
 use Rattle.std.proofs.lemmas.List.FromFn.{length-map-range_with_len}
 use Rattle.lls_grid.specs.History.{History, HasSizes, rows_at, height_of, width_of}
 use Rattle.lls_grid.specs.Changes.{successor_row, successors}
 use Rattle.lls_grid.proofs.Folded.{height_of-folded, HasSizes-folded}
-use Rattle.lls_grid.proofs.Steps.{mixed, mixed_all, row_more, rows_count, height_of-set}
+use Rattle.lls_grid.proofs.Steps.{mixed_all, row_more, rows_count, height_of-set}
 use Rattle.lls_grid.proofs.history.History.step.Goals as goal
 
 pub step_row-requires-clause-row : goal.step_row-requires-clause-row

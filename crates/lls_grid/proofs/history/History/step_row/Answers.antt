@@ -1,11 +1,11 @@
-use Rattle.std.proofs.Common.{◌≡◌, ◌<◌, ◌≤◌, ◌∙◌, ◌+◌, ◌^◌, ℕ, ℤ, pos, negsuc, ◌≤ℤ◌, List, [], Bool, length, get_or, ap, sym, subst, arith, rules, w32, FitsSigned}
+use Rattle.std.proofs.Common.{◌≡◌, ◌<◌, ◌≤◌, ◌∙◌, ◌+◌, ◌^◌, pos, [], length, get_or, ap, sym, subst, arith, w32}
 use Rattle.std.proofs.lemmas.Int.{ints, to_z_pos}
 use Rattle.std.proofs.lemmas.List.FromFn.{length-map-range_with_len}
 use Rattle.lls_rule.specs.Rule.{answer, number_of, successor}
-use Rattle.lls_grid.specs.History.{History, HasSizes, folded, rows_at, height_of, width_of, nine}
+use Rattle.lls_grid.specs.History.{History, HasSizes, rows_at, height_of, width_of, nine}
 use Rattle.lls_grid.specs.Changes.{with_row, successor_row}
 use Rattle.lls_grid.proofs.Folded.{length-folded, height_of-folded, width_of-folded, HasSizes-folded}
-use Rattle.lls_grid.proofs.Steps.{mixed, mixed_all, cell_more, cells_count, width_of-set}
+use Rattle.lls_grid.proofs.Steps.{mixed_all, cell_more, cells_count, width_of-set}
 use Rattle.lls_grid.proofs.history.History.step_row.Goals as goal
 
 pub overflow_cast-y : goal.overflow_cast-y

@@ -1,5 +1,4 @@
 use Rattle.std.proofs.Common.{◌≡◌, arith, w32, to_z-of_z, pos, ◌+ℤ◌, ◌-ℤ◌, rules, FitsSigned}
-use Rattle.std.proofs.lemmas.Bool.Decides.{nat_tests}
 use Rattle.lls_grid.specs.History.{at}
 use Rattle.lls_grid.proofs.history.History.three.Goals as goal
 

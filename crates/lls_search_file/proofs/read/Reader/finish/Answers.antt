@@ -1,4 +1,4 @@
-use Rattle.std.proofs.Common.{◌∙◌, sym, ap, Ok}
+use Rattle.std.proofs.Common.{sym}
 use Rattle.lls_search_file.specs.Kept.{texts}
 use Rattle.lls_search_file.proofs.Endings.{at_end-is}
 use Rattle.lls_search_file.proofs.read.Reader.finish.Goals as goal

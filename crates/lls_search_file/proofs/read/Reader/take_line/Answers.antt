@@ -1,4 +1,4 @@
-use Rattle.std.proofs.Common.{◌≡◌, ◌≤◌, ◌∙◌, sym, map, length, arith}
+use Rattle.std.proofs.Common.{◌≤◌, ◌∙◌, sym, map, length, arith}
 use Rattle.std.proofs.lemmas.List.{length-map}
 use Rattle.lls_search_file.specs.Seen.{seen_word}
 use Rattle.lls_search_file.proofs.Rows.{row-spelled, row-some}

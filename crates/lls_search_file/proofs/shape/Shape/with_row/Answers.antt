@@ -1,4 +1,4 @@
-use Rattle.std.proofs.Common.{◌≡◌, ◌⊎◌, inl, inr, arith}
+use Rattle.std.proofs.Common.{inl, inr, arith}
 use Rattle.lls_search_file.proofs.Counts.{count_more}
 use Rattle.lls_search_file.proofs.shape.Shape.with_row.Goals as goal
 
