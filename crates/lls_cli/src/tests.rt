@@ -320,7 +320,7 @@ fn patterns_are_judged_and_rules_printed(rt: HostRuntime) -> Result<(), Fail> {
 
 #[test]
 fn faults_are_named(rt: HostRuntime) -> Result<(), Fail> {
-    let rows: [Row; 25] = [
+    let rows: [Row; 26] = [
         ("rule B1k/S", "", "", Status::Words, "words: BadLetter 2 3"),
         (
             "rule B33/S",
@@ -424,6 +424,13 @@ fn faults_are_named(rt: HostRuntime) -> Result<(), Fail> {
             "1 *\n",
             Status::Content,
             "content: NotPlain 0 0 1",
+        ),
+        (
+            "judge f p",
+            "*\n",
+            "a\n",
+            Status::Content,
+            "content: NotPlain 0 0 0",
         ),
         ("judge f p", "* *\n", "", Status::Content, "content: Empty"),
         (
