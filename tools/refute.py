@@ -1,0 +1,169 @@
+#!/usr/bin/env python3
+"""Makes the formula of a small search file and an LRAT proof of its absence, by plain splitting.
+
+    refute.py SEARCH BIRTHS SURVIVALS closed|open
+
+BIRTHS and SURVIVALS are digits, or `-` for none. The proof goes to the standard output, the sizes of the formula to the
+standard error. Where generations exist that fit the file, there is no proof and the exit status is 1.
+
+It is written from docs/definitions.md alone and shares nothing with the crates, so that what both agree on is worth
+something. It is slow: for files of up to about twenty free cells.
+"""
+import re
+import sys
+
+
+def read_search_file(text):
+    """Returns the generations, each a list of rows of words."""
+    generations, rows = [], []
+    for line in text.split("\n") + [""]:
+        line = line.strip(" \t\r")
+        if line.startswith("#"):
+            continue
+        if line:
+            rows.append([word for word in re.split(r"[ \t,]+", line) if word])
+        elif rows:
+            generations.append(rows)
+            rows = []
+    return generations
+
+
+class Formula:
+    """The clauses of a search file, in the order of docs/definitions.md."""
+
+    def __init__(self, generations, successor, closed):
+        self.generations = generations
+        self.height, self.width = len(generations[0]), len(generations[0][0])
+        self.count = len(generations) * self.height * self.width
+        self.successor, self.closed = successor, closed
+        self.background = [False]
+        for _ in generations[1:]:
+            self.background.append(successor([self.background[-1]] * 9))
+        self.clauses = []
+        self.push_fixed()
+        self.push_names()
+        self.push_transitions()
+
+    def variable(self, t, y, x):
+        return 1 + x + self.width * (y + self.height * t)
+
+    def cells(self):
+        for t, rows in enumerate(self.generations):
+            for y, row in enumerate(rows):
+                for x, word in enumerate(row):
+                    yield self.variable(t, y, x), word.rstrip("'")
+
+    def push_fixed(self):
+        for variable, word in self.cells():
+            if word in ("0", "1"):
+                self.clauses.append([variable if word == "1" else -variable])
+
+    def push_names(self):
+        firsts = {}
+        for variable, word in self.cells():
+            if word in ("0", "1", "*"):
+                continue
+            literal = -variable if word.startswith("-") else variable
+            first = firsts.setdefault(word.lstrip("-"), literal)
+            if first != literal:
+                self.clauses += [[-first, literal], [first, -literal]]
+
+    def place(self, t, y, x):
+        """A variable, or the constant of a place outside the grid."""
+        if 0 <= y < self.height and 0 <= x < self.width:
+            return self.variable(t, y, x)
+        return self.background[t]
+
+    def is_marked(self, t, y, x):
+        inside = 0 <= y < self.height and 0 <= x < self.width
+        return inside and self.generations[t][y][x].endswith("'")
+
+    def push_transitions(self):
+        ring = 1 if self.closed else 0
+        for t in range(1, len(self.generations)):
+            for y in range(-ring, self.height + ring):
+                for x in range(-ring, self.width + ring):
+                    if not self.is_marked(t, y, x):
+                        self.push_transition(t, y, x)
+
+    def push_transition(self, t, y, x):
+        steps = (-1, 0, 1)
+        inputs = [self.place(t - 1, y + dy, x + dx) for dy in steps for dx in steps]
+        inputs.append(self.place(t, y, x))
+        for row in range(1024):
+            bits = [bool(row >> (9 - i) & 1) for i in range(10)]
+            if self.successor(bits[:9]) == bits[9]:
+                continue
+            pairs = list(zip(inputs, bits))
+            if all(value == bit for value, bit in pairs if isinstance(value, bool)):
+                self.clauses.append([-v if bit else v for v, bit in pairs if not isinstance(v, bool)])
+
+
+class Refutation:
+    """A proof by splitting on the first open variable; each conflict adds the negation of its choices."""
+
+    def __init__(self, formula):
+        self.count = formula.count
+        self.clauses = list(formula.clauses)
+        self.lines = []
+
+    def propagate(self, choices):
+        """Returns the values, the clause that is false or None, and the order and reasons of what follows."""
+        values = {abs(literal): literal > 0 for literal in choices}
+        reasons, order, grows = {}, [], True
+        while grows:
+            grows = False
+            for index, clause in enumerate(self.clauses):
+                if any(values.get(abs(literal)) == (literal > 0) for literal in clause):
+                    continue
+                free = {literal for literal in clause if abs(literal) not in values}
+                if not free:
+                    return values, index, order, reasons
+                if len(free) == 1:
+                    literal = free.pop()
+                    values[abs(literal)] = literal > 0
+                    reasons[abs(literal)] = index
+                    order.append(abs(literal))
+                    grows = True
+        return values, None, order, reasons
+
+    def push(self, choices, conflict, order, reasons):
+        needed, used = {abs(literal) for literal in self.clauses[conflict]}, []
+        for variable in reversed(order):
+            if variable in needed:
+                used.append(reasons[variable] + 1)
+                needed |= {abs(literal) for literal in self.clauses[reasons[variable]]}
+        clause = [-literal for literal in choices]
+        self.clauses.append(clause)
+        words = [len(self.clauses)] + clause + [0] + used[::-1] + [conflict + 1, 0]
+        self.lines.append(" ".join(map(str, words)))
+
+    def refute(self, choices=()):
+        values, conflict, order, reasons = self.propagate(choices)
+        if conflict is None:
+            split = next((v for v in range(1, self.count + 1) if v not in values), None)
+            if split is None or not all(self.refute((*choices, way)) for way in (split, -split)):
+                return False
+            _, conflict, order, reasons = self.propagate(choices)
+        self.push(choices, conflict, order, reasons)
+        return True
+
+
+def main():
+    path, births, survivals, edge = sys.argv[1:]
+
+    def successor(nine):
+        neighbours = sum(nine) - nine[4]
+        return str(neighbours) in (survivals if nine[4] else births)
+
+    with open(path, encoding="ascii") as file:
+        formula = Formula(read_search_file(file.read()), successor, edge == "closed")
+    print(f"{formula.count} variables, {len(formula.clauses)} clauses", file=sys.stderr)
+    refutation = Refutation(formula)
+    if not refutation.refute():
+        sys.exit("there are generations that fit the file")
+    print("\n".join(refutation.lines))
+
+
+if __name__ == "__main__":
+    main()
