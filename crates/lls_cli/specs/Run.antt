@@ -10,7 +10,7 @@ use Rattle.lls_cli.specs.declared.job.Job.{Job}
 use Rattle.lls_cli.specs.declared.status.Status.{Status}
 use Rattle.lls_cli.specs.declared.status.Status.TheVariants as statuses
 use Rattle.lls_cli.specs.declared.words_error.WordsError.{WordsError}
-use Rattle.lls_cli.specs.Decided.{Outcome, IsOutcome, JobIsAbsent}
+use Rattle.lls_cli.specs.Decided.{Outcome, IsOutcome, JobIsAbsent, Stands}
 use Rattle.lls_cli.specs.Status.{status_of}
 use Rattle.lls_cli.specs.Texts.{fault_line}
 
@@ -33,6 +33,23 @@ GaveText decided status before after = (outcome : Outcome) × (decided ≡ Ok ou
 pub record GrewBy (text : List ℕ) (before after : Option (List ℕ)) (faults_before faults_after : ℕ) : Type 0 where
   pub taken : (n : ℕ) × (after ≡ append_known before (take n text)) × ((length text ≤ n) ⊎ Rose faults_before faults_after)
 
+-- the standard error grew by a fault's line, or by that of want of memory, and the status is that fault's
+abbrev pub Said : Fault → Status → Option (List ℕ) → Option (List ℕ) → ℕ → ℕ → Type 0
+Said fault status before after faults_before faults_after =
+    ((status ≡ status_of fault) × GrewBy (fault_line fault) before after faults_before faults_after)
+    ⊎ ((status ≡ statuses.Memory) × GrewBy (fault_line faults.Memory) before after faults_before faults_after)
+
+-- the fault that is said may stand in the place of what is decided
+abbrev pub SaidFor : Result Outcome Fault → Status → Option (List ℕ) → Option (List ℕ) → ℕ → ℕ → Type 0
+SaidFor decided status before after faults_before faults_after =
+    (fault : Fault) × Stands fault decided × Said fault status before after faults_before faults_after
+
+-- a sink is as before, or grew by first bytes of the text of what is decided
+abbrev pub GavePart : Result Outcome Fault → Option (List ℕ) → Option (List ℕ) → Type 0
+GavePart decided before after = (after ≡ before)
+    ⊎ ((outcome : Outcome) × (decided ≡ Ok outcome) × (status : Status) × (text : List ℕ) × IsOutcome outcome status text
+    × (n : ℕ) × (after ≡ append_known before (take n text)))
+
 -- the file of an input isn't there
 abbrev pub IsNoFile : Result Outcome Fault → Type 0
 IsNoFile decided = decided ≡ Err (faults.Outside outside.NoFile)
@@ -50,6 +67,15 @@ IsYesOrNo status = (status ≡ statuses.Done) ⊎ (status ≡ statuses.Refused)
 abbrev pub IsBehindWords : Fault → Type 0
 IsBehindWords (faults.Words error) = ⊥
 IsBehindWords fault = Unit {0}
+
+-- a status that a fault has
+abbrev pub IsFault : Status → Type 0
+IsFault statuses.Words = Unit {0}
+IsFault statuses.Content = Unit {0}
+IsFault statuses.Outside = Unit {0}
+IsFault statuses.Memory = Unit {0}
+IsFault statuses.Limit = Unit {0}
+IsFault status = ⊥
 
 -- nothing was given to the standard output
 abbrev pub IsSilent : Status → Type 0

@@ -8,7 +8,7 @@ ghost use Rattle.lls_cli.specs.Decided.{decided, HasRisen, Settles};
 ghost use Rattle.lls_cli.specs.Job.{job_of};
 ghost use Rattle.lls_cli.specs.Status.{status_of};
 ghost use Rattle.lls_cli.specs.Texts.{fault_line};
-ghost use Rattle.lls_cli.specs.Run.{IsStatus, GrewBy, GaveText, IsNoFile, IsYesOrNo, IsSilent, WordsAreAbsent};
+ghost use Rattle.lls_cli.specs.Run.{IsStatus, GrewBy, GaveText, IsNoFile, IsYesOrNo, IsSilent, IsFault, Said, SaidFor, GavePart, WordsAreAbsent};
 
 use crate::answer::{Answer, answer_job};
 use crate::fault::{Fault, OutsideFault};
@@ -29,9 +29,8 @@ fn write_line<E: Sink>(err: &mut E, line: &[u8])
 
 /// Writes a fault to the standard error. Where there is no memory for its line, it is want of memory.
 fn refuse<E: Sink>(alloc: Global, fault: Fault, err: &mut E) -> Status
+    ensures said { Said fault result (E.written err.old) (E.written err.new) (E.faults err.old) (E.faults err.new) }
     ensures status { (result ≡ status_of fault) ⊎ (result ≡ Status.Memory) }
-    ensures line { GrewBy (fault_line fault) (E.written err.old) (E.written err.new) (E.faults err.old) (E.faults err.new)
-        ⊎ ((result ≡ Status.Memory) × GrewBy (fault_line Fault.Memory) (E.written err.old) (E.written err.new) (E.faults err.old) (E.faults err.new)) }
     ensures counts { Counts (E.faults err.old) (E.faults err.new) }
 {
     match fault_line(alloc, fault) {
@@ -53,6 +52,7 @@ fn give<O: Sink, E: Sink>(answer: &Answer, out: &mut O, err: &mut E) -> Status
     ensures status { (result ≡ answer.now.status) ⊎ ((result ≡ Status.Outside) × Rose (O.faults out.old) (O.faults out.new)) }
     ensures out { GrewBy answer.now.text.items (O.written out.old) (O.written out.new) (O.faults out.old) (O.faults out.new) }
     ensures err { result ≡ answer.now.status → E.written err.new ≡ E.written err.old }
+    ensures said { IsFault result → Said (Fault.Outside OutsideFault.OutFailed) result (E.written err.old) (E.written err.new) (E.faults err.old) (E.faults err.new) }
     ensures out_counts { Counts (O.faults out.old) (O.faults out.new) }
     ensures err_counts { Counts (E.faults err.old) (E.faults err.new) }
 {
@@ -91,6 +91,12 @@ pub fn run<S: Shelf, O: Sink, E: Sink>(
     // A failure of the outside comes only where a count of faults rose, or where an input isn't there.
     ensures outside { result ≡ Status.Outside → Rose (S.faults shelf.old) (S.faults shelf.new) ⊎ Rose (O.faults out.old) (O.faults out.new)
         ⊎ IfSome (known_files (S.told shelf.old)) (λ files. IsNoFile (decided (map string_bytes words.now) files)) }
+
+    // A fault is a line on the standard error, whole but where that one fails. The standard output holds first bytes
+    // of the answer, or nothing new.
+    ensures said { IsFault result → IfSome (known_files (S.told shelf.old))
+        (λ files. SaidFor (decided (map string_bytes words.now) files) result (E.written err.old) (E.written err.new) (E.faults err.old) (E.faults err.new)) }
+    ensures part { IfSome (known_files (S.told shelf.old)) (λ files. GavePart (decided (map string_bytes words.now) files) (O.written out.old) (O.written out.new)) }
 
     // What stands after it.
     ensures silent { IsSilent result → O.written out.new ≡ O.written out.old }
