@@ -84,8 +84,9 @@ fn faults(rt: &impl Abort, alloc: Global, row: Row, fails: u64) -> Result<(), Fa
     Ok(())
 }
 
+// Any call may answer want of memory, and no clause excludes it. With ample memory none does.
 #[test]
-fn proofs_are_checked(rt: HostRuntime) -> Result<(), Fail> {
+fn answers_with_ample_memory(rt: HostRuntime) -> Result<(), Fail> {
     let rows: [Row; 18] = [
         (
             "check f p",
