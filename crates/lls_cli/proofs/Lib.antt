@@ -1,3 +1,3 @@
-pub mod Runs
+pub mod Lists
 pub mod Scans
 pub mod Sinks

@@ -2,7 +2,7 @@
 use Rattle.std.specs.Prelude.{Result, Ok, Err}
 use Rattle.lls_cli.specs.declared.answer.Answer.{Answer}
 use Rattle.lls_cli.specs.declared.fault.Fault.{Fault}
-use Rattle.lls_cli.specs.Decided.{Decision, Outcome, Answers, Stands, IsOutcome}
+use Rattle.lls_cli.specs.Decided.{Decision, Outcome, Answers, Stands}
 
 abbrev pub answer_seen : Answer → Decision
 answer_seen answer = record { status = answer.status; text = answer.text.items }

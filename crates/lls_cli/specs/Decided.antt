@@ -1,5 +1,5 @@
 -- What a command line is answered by the files that stand on the shelf, where memory and the outside don't fail.
-use Rattle.std.specs.Prelude.{◌≡◌, ◌⊎◌, ℕ, ◌++◌, nat_lt, Bool, List, [], ◌∷◌, length, Option, None, Some, Result, Ok, Err, if◌then◌else◌}
+use Rattle.std.specs.Prelude.{◌≡◌, ℕ, ◌++◌, nat_lt, Bool, List, [], ◌∷◌, length, Option, None, Some, Result, Ok, Err, if◌then◌else◌}
 use Rattle.std.specs.FinMap as map
 use Rattle.lls_base.specs.Shelf.{Files}
 use Rattle.lls_base.specs.Faults.{Rose}
@@ -21,7 +21,6 @@ use Rattle.lls_lrat.specs.declared.error.CheckError.{CheckError}
 use Rattle.lls_lrat.specs.Verdict.{verdict}
 use Rattle.lls_cli.specs.declared.fault.Fault.{Fault}
 use Rattle.lls_cli.specs.declared.fault.Fault.TheVariants as faults
-use Rattle.lls_cli.specs.declared.fault.OutsideFault.{OutsideFault}
 use Rattle.lls_cli.specs.declared.fault.OutsideFault.TheVariants as outside
 use Rattle.lls_cli.specs.declared.job.Job.{Job}
 use Rattle.lls_cli.specs.declared.job.Job.TheVariants as jobs
@@ -118,13 +117,21 @@ abbrev pub Settles : {X Y : Type 0} → (X → Y) → Result X Fault → Result 
 Settles view (Ok x) decided = decided ≡ Ok (view x)
 Settles view (Err fault) decided = Stands fault decided
 
--- a failure of the outside comes only where a count of faults rose
+-- a failed input comes only where the shelf's count of faults rose; a fault of the inputs is none of the output
 abbrev pub HasRisen : Fault → ℕ → ℕ → Type 0
 HasRisen (faults.Outside outside.NoFile) before after = Unit {0}
 HasRisen (faults.Outside outside.OpenFailed) before after = Rose before after
 HasRisen (faults.Outside outside.ReadFailed) before after = Rose before after
-HasRisen (faults.Outside outside.OutFailed) before after = Rose before after
+HasRisen (faults.Outside outside.OutFailed) before after = ⊥
 HasRisen fault before after = Unit {0}
+
+-- a failure of the outside comes only where the count of faults of its own object rose: the shelf's or the output's
+abbrev pub HasCause : Fault → ℕ → ℕ → ℕ → ℕ → Type 0
+HasCause (faults.Outside outside.NoFile) shelf_before shelf_after out_before out_after = Unit {0}
+HasCause (faults.Outside outside.OpenFailed) shelf_before shelf_after out_before out_after = Rose shelf_before shelf_after
+HasCause (faults.Outside outside.ReadFailed) shelf_before shelf_after out_before out_after = Rose shelf_before shelf_after
+HasCause (faults.Outside outside.OutFailed) shelf_before shelf_after out_before out_after = Rose out_before out_after
+HasCause fault shelf_before shelf_after out_before out_after = Unit {0}
 
 -- a fault that isn't of the outside
 abbrev pub IsInside : Fault → Type 0

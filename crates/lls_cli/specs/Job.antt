@@ -1,5 +1,5 @@
 -- The job of a command line, or its first fault.
-use Rattle.std.specs.Prelude.{◌≡◌, ℕ, ◌+◌, ◌-◌, ◌==◌, Bool, true, false, List, [], ◌∷◌, length, drop, codes, Option, None, Some, Result, Ok, Err, if◌then◌else◌, slice_index_or, unwrap_or}
+use Rattle.std.specs.Prelude.{ℕ, Bool, false, List, [], ◌∷◌, length, codes, Option, None, Some, Result, Ok, Err, if◌then◌else◌}
 use Rattle.std.specs.Str.{bytes_eq}
 use Rattle.lls_rule.specs.Rule.{table_of, by_counts}
 use Rattle.lls_hensel.specs.declared.read.RuleError.{RuleError}
@@ -11,19 +11,13 @@ use Rattle.lls_cli.specs.declared.command.Command.{Command}
 use Rattle.lls_cli.specs.declared.command.Command.TheVariants as commands
 use Rattle.lls_cli.specs.declared.command.Setting.{Setting}
 use Rattle.lls_cli.specs.declared.command.Setting.TheVariants as settings
-use Rattle.lls_cli.specs.declared.scan.Given.{Given}
 use Rattle.lls_cli.specs.declared.settings.Settings.{Settings}
 use Rattle.lls_cli.specs.declared.job.Job.{Job}
 use Rattle.lls_cli.specs.declared.job.Job.TheVariants as jobs
 use Rattle.lls_cli.specs.declared.words_error.WordsError.{WordsError}
 use Rattle.lls_cli.specs.declared.words_error.WordsError.TheVariants.{NoCommand, UnknownCommand, BadValue, BadRule, Operands}
 use Rattle.lls_cli.specs.Command.{command_of, operand_count}
-use Rattle.lls_cli.specs.Scan.{and_then, option_text, option_value, word, Scanned, scan_from, no_words}
-
--- the value of an option that was given
-abbrev pub value_of : List (List ℕ) → Given → List ℕ
-value_of words given =
-    if given.inline then unwrap_or (option_value (unwrap_or (option_text (word words given.value)) [])) [] else word words given.value
+use Rattle.lls_cli.specs.Scan.{and_then, Operand, Given, nothing_scanned, scan}
 
 -- a rule text at a place
 abbrev pub rule_or : ℕ → Result (List Bool) RuleError → Result (List Bool) WordsError
@@ -42,42 +36,38 @@ edge_at place text =
     if bytes_eq text (codes "closed") then Ok Framed else
     if bytes_eq text (codes "open") then Ok Bare else Err (BadValue place)
 
--- the settings with the value of one option
-abbrev pub with_value : Settings → ℕ → Setting → List ℕ → Result Settings WordsError
-with_value s place settings.Rule text = and_then (rule_at place text) (λ rule. Ok (record s { rule = rule }))
-with_value s place settings.Edge text = and_then (edge_at place text) (λ edge. Ok (record s { edge = edge }))
+abbrev pub setting_value : Settings → ℕ → List ℕ → Setting → Result Settings WordsError
+setting_value s place text settings.Rule = and_then (rule_at place text) (λ rule. Ok (record s { rule = rule }))
+setting_value s place text settings.Edge = and_then (edge_at place text) (λ edge. Ok (record s { demands = record s.demands { edge = edge } }))
 
--- the settings of the options in their order; places count from 1
-abbrev pub settled : List (List ℕ) → List Given → Settings → Result Settings WordsError
-settled words [] s = Ok s
-settled words (given ∷ givens) s = and_then (with_value s given.place given.setting (value_of words given)) (settled words givens)
+-- the settings with the value of one option
+abbrev pub with_value : Settings → Given → Result Settings WordsError
+with_value s given = setting_value s given.place given.value given.setting
+
+-- the settings of the options in their order
+abbrev pub settled : Settings → List Given → Result Settings WordsError
+settled s [] = Ok s
+settled s (given ∷ givens) = and_then (with_value s given) (λ more. settled more givens)
 
 -- Life, `B3/S23`, under a closed edge
 abbrev pub defaults : Settings
-defaults = record { rule = table_of (by_counts 8 12); edge = Framed }
+defaults = record { rule = table_of (by_counts 8 12); demands = record { edge = Framed } }
 
--- the place of the nth operand, from 0
-abbrev pub operand : Scanned → ℕ → ℕ
-operand s n = slice_index_or s.operands n 0
-
-abbrev pub job_with : Command → List (List ℕ) → Scanned → Result Job WordsError
-job_with commands.Check words s =
-    and_then (settled words s.givens defaults)
-    (λ settings. Ok (jobs.Check (word words (operand s 0)) (word words (operand s 1)) settings.rule (record { edge = settings.edge })))
-job_with commands.Judge words s =
-    and_then (settled words s.givens defaults)
-    (λ settings. Ok (jobs.Judge (word words (operand s 0)) (word words (operand s 1)) settings.rule (record { edge = settings.edge })))
-job_with commands.Rule words s = and_then (rule_at (operand s 0) (word words (operand s 0))) (λ rule. Ok (jobs.Rule rule))
-
-abbrev pub job_counted : Command → List (List ℕ) → Scanned → Result Job WordsError
-job_counted command words s =
-    if length s.operands == operand_count command then job_with command words s else Err (Operands (operand_count command) (length s.operands))
+-- the job of a command by its operands, whose number is the first test, and its options
+abbrev pub job_with : Command → List Operand → List Given → Result Job WordsError
+job_with commands.Check (search_file ∷ proof ∷ []) givens =
+    and_then (settled defaults givens) (λ s. Ok (jobs.Check search_file.word proof.word s.rule s.demands))
+job_with commands.Judge (search_file ∷ pattern ∷ []) givens =
+    and_then (settled defaults givens) (λ s. Ok (jobs.Judge search_file.word pattern.word s.rule s.demands))
+job_with commands.Rule (text ∷ []) givens = and_then (rule_at text.place text.word) (λ rule. Ok (jobs.Rule rule))
+job_with command operands givens = Err (Operands (operand_count command) (length operands))
 
 abbrev pub job_of_command : Option Command → List (List ℕ) → Result Job WordsError
 job_of_command None words = Err UnknownCommand
-job_of_command (Some command) words = and_then (scan_from command words 2 (length words - 1) no_words) (job_counted command words)
+job_of_command (Some command) words =
+    and_then (scan command 2 false nothing_scanned words) (λ s. job_with command s.operands s.givens)
 
 -- the job of all the words of a command line, without the program's name
 abbrev pub job_of : List (List ℕ) → Result Job WordsError
 job_of [] = Err NoCommand
-job_of (name ∷ words) = job_of_command (command_of name) (name ∷ words)
+job_of (name ∷ words) = job_of_command (command_of name) words

@@ -1,5 +1,7 @@
 pub mod Command
+pub mod Token
 pub mod Scan
+pub mod Seen
 pub mod Job
 pub mod Status
 pub mod Texts

@@ -1,5 +1,5 @@
 -- What a run leaves on the standard output and the standard error.
-use Rattle.std.specs.Prelude.{◌≡◌, ◌⊎◌, ◌≤◌, ℕ, List, [], ◌∷◌, ◌++◌, length, take, codes, Option, Result, Ok, Err}
+use Rattle.std.specs.Prelude.{◌≡◌, ◌⊎◌, ◌≤◌, ℕ, List, length, take, Option, Result, Ok, Err}
 use Rattle.std.specs.Io.KnownBytes.{append_known}
 use Rattle.lls_base.specs.Faults.{Rose}
 use Rattle.lls_base.specs.Shelf.{Files}
@@ -10,7 +10,7 @@ use Rattle.lls_cli.specs.declared.job.Job.{Job}
 use Rattle.lls_cli.specs.declared.status.Status.{Status}
 use Rattle.lls_cli.specs.declared.status.Status.TheVariants as statuses
 use Rattle.lls_cli.specs.declared.words_error.WordsError.{WordsError}
-use Rattle.lls_cli.specs.Decided.{Outcome, IsOutcome, JobIsAbsent, Stands}
+use Rattle.lls_cli.specs.Decided.{Outcome, IsOutcome, JobIsAbsent}
 use Rattle.lls_cli.specs.Status.{status_of}
 use Rattle.lls_cli.specs.Texts.{fault_line}
 
@@ -38,11 +38,6 @@ abbrev pub Said : Fault → Status → Option (List ℕ) → Option (List ℕ) �
 Said fault status before after faults_before faults_after =
     ((status ≡ status_of fault) × GrewBy (fault_line fault) before after faults_before faults_after)
     ⊎ ((status ≡ statuses.Memory) × GrewBy (fault_line faults.Memory) before after faults_before faults_after)
-
--- the fault that is said may stand in the place of what is decided
-abbrev pub SaidFor : Result Outcome Fault → Status → Option (List ℕ) → Option (List ℕ) → ℕ → ℕ → Type 0
-SaidFor decided status before after faults_before faults_after =
-    (fault : Fault) × Stands fault decided × Said fault status before after faults_before faults_after
 
 -- a sink is as before, or grew by first bytes of the text of what is decided
 abbrev pub GavePart : Result Outcome Fault → Option (List ℕ) → Option (List ℕ) → Type 0

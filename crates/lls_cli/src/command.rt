@@ -34,7 +34,7 @@ impl Command {
     }
 
     /// How many operands the command has.
-    pub fn operand_count(self) -> usize
+    pub fn operand_count(self) -> u64
         ensures { result ≡ operand_count self }
     {
         match self {

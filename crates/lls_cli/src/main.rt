@@ -13,6 +13,7 @@ mod status;
 #[cfg(test)]
 mod tests;
 mod text;
+mod token;
 mod words;
 mod words_error;
 

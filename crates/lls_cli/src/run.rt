@@ -4,11 +4,12 @@ ghost use Rattle.std.specs.Io.KnownBytes.{append_known};
 ghost use Rattle.lls_base.specs.Faults.{Counts, Rose};
 ghost use Rattle.lls_base.specs.Shelf.{known_files};
 ghost use Rattle.lls_cli.specs.Answer.{answer_seen};
-ghost use Rattle.lls_cli.specs.Decided.{decided, HasRisen, Settles};
+ghost use Rattle.lls_cli.specs.Decided.{decided, HasCause, HasRisen, Settles, Stands};
+ghost use Rattle.lls_cli.specs.declared.fault.Fault.{Fault};
 ghost use Rattle.lls_cli.specs.Job.{job_of};
 ghost use Rattle.lls_cli.specs.Status.{status_of};
 ghost use Rattle.lls_cli.specs.Texts.{fault_line};
-ghost use Rattle.lls_cli.specs.Run.{IsStatus, GrewBy, GaveText, IsNoFile, IsYesOrNo, IsSilent, IsFault, Said, SaidFor, GavePart, WordsAreAbsent};
+ghost use Rattle.lls_cli.specs.Run.{IsStatus, GrewBy, GaveText, IsNoFile, IsYesOrNo, IsSilent, IsFault, Said, GavePart, WordsAreAbsent};
 
 use crate::answer::{Answer, answer_job};
 use crate::fault::{Fault, OutsideFault};
@@ -92,10 +93,14 @@ pub fn run<S: Shelf, O: Sink, E: Sink>(
     ensures outside { result ≡ Status.Outside → Rose (S.faults shelf.old) (S.faults shelf.new) ⊎ Rose (O.faults out.old) (O.faults out.new)
         ⊎ IfSome (known_files (S.told shelf.old)) (λ files. IsNoFile (decided (map string_bytes words.now) files)) }
 
-    // A fault is a line on the standard error, whole but where that one fails. The standard output holds first bytes
-    // of the answer, or nothing new.
-    ensures said { IsFault result → IfSome (known_files (S.told shelf.old))
-        (λ files. SaidFor (decided (map string_bytes words.now) files) result (E.written err.old) (E.written err.new) (E.faults err.old) (E.faults err.new)) }
+    // A fault is a line on the standard error, whole but where that one fails. It is what the words and the files decide,
+    // or want of memory, or a failure of the outside, for which a count of faults rose: the shelf's or the output's.
+    ensures said { IsFault result → (fault : Fault)
+        × IfSome (known_files (S.told shelf.old)) (λ files. Stands fault (decided (map string_bytes words.now) files))
+        × HasCause fault (S.faults shelf.old) (S.faults shelf.new) (O.faults out.old) (O.faults out.new)
+        × Said fault result (E.written err.old) (E.written err.new) (E.faults err.old) (E.faults err.new) }
+
+    // The standard output holds first bytes of the answer, or nothing new.
     ensures part { IfSome (known_files (S.told shelf.old)) (λ files. GavePart (decided (map string_bytes words.now) files) (O.written out.old) (O.written out.new)) }
 
     // What stands after it.

@@ -1,51 +1,47 @@
 // The values of a command's options.
-ghost use Rattle.std.specs.Prelude.{◌≡◌, ◌<◌, ◌+◌, List, map, length, string_bytes, true, Option};
-ghost use Rattle.lls_cli.specs.Scan.{option_value};
-ghost use Rattle.lls_cli.specs.Job.{value_of, rule_at, edge_at, with_value, settled, defaults};
+ghost use Rattle.std.specs.Prelude.{◌≡◌, map};
+ghost use Rattle.lls_cli.specs.Job.{rule_at, edge_at, with_value, settled, defaults};
+ghost use Rattle.lls_cli.specs.Seen.{seen_given};
 
 use crate::command::Setting;
-use crate::scan::{Given, equals_sign, option_text, value_behind, word_at};
+use crate::scan::Given;
 use crate::words_error::WordsError;
 use lls_hensel::read_rule;
-use lls_problem::Edge;
+use lls_problem::{Demands, Edge};
 use lls_rule::Rule;
 
 /// The values of all options.
 #[derive(Clone, Copy)]
 pub struct Settings {
     pub rule: Rule,
-    pub edge: Edge,
+    pub demands: Demands,
 }
 
 impl Settings {
     /// Life, `B3/S23`, under a closed edge.
-    pub fn default_values() -> Settings
+    fn default_values() -> Settings
         ensures { result ≡ defaults }
     {
         Settings {
             rule: Rule::from_counts(8, 12),
-            edge: Edge::Framed,
+            demands: Demands { edge: Edge::Framed },
         }
     }
 
-    /// The settings with the value of one option; the place is the option's, from 1.
-    fn with_value(self, place: u64, setting: Setting, text: &[u8]) -> Result<Settings, WordsError>
-        ensures { result ≡ with_value self place setting text.now }
+    /// The settings with the value of one option.
+    fn with_value(self, given: &Given) -> Result<Settings, WordsError>
+        ensures { result ≡ with_value self (seen_given given.now) }
     {
-        match setting {
-            Setting::Rule => Ok(Settings {
-                rule: rule_at(place, text)?,
-                edge: self.edge,
-            }),
-            Setting::Edge => Ok(Settings {
-                rule: self.rule,
-                edge: edge_at(place, text)?,
-            }),
+        let mut settings = self;
+        match given.setting {
+            Setting::Rule => settings.rule = rule_at(given.place, given.value)?,
+            Setting::Edge => settings.demands.edge = edge_at(given.place, given.value)?,
         }
+        Ok(settings)
     }
 }
 
-/// The rule of a text at a place.
+/// The rule of a text; the place is its option's, or its own where it is an operand.
 pub fn rule_at(place: u64, text: &[u8]) -> Result<Rule, WordsError>
     ensures { result ≡ rule_at place text.now }
 {
@@ -55,7 +51,7 @@ pub fn rule_at(place: u64, text: &[u8]) -> Result<Rule, WordsError>
     }
 }
 
-/// The edge of a text at a place.
+/// The edge of a text; the place is its option's.
 fn edge_at(place: u64, text: &[u8]) -> Result<Edge, WordsError>
     ensures { result ≡ edge_at place text.now }
 {
@@ -68,30 +64,13 @@ fn edge_at(place: u64, text: &[u8]) -> Result<Edge, WordsError>
     }
 }
 
-/// The value of an option that was given.
-fn value_text(words: &[String], given: Given) -> &[u8]
-    ensures { result.now ≡ value_of (map string_bytes words.now) given }
-{
-    if !given.inline {
-        return word_at(words, given.value);
-    }
-    let Some(text) = option_text(word_at(words, given.value)) else {
-        return &[];
-    };
-    match value_behind(text, equals_sign(text)) {
-        Some(value) => value,
-        None => &[],
-    }
-}
-
 /// The settings of a command's options, in their order.
-pub fn settle(words: &[String], givens: &[Given]) -> Result<Settings, WordsError>
-    ensures { result ≡ settled (map string_bytes words.now) givens.now defaults }
+pub fn settle(givens: &[Given]) -> Result<Settings, WordsError>
+    ensures { result ≡ settled defaults (map seen_given givens.now) }
 {
     let mut settings = Settings::default_values();
     for given in givens {
-        let place = given.place as u64;
-        settings = settings.with_value(place, given.setting, value_text(words, *given))?;
+        settings = settings.with_value(given)?;
     }
     Ok(settings)
 }

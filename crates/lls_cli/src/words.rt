@@ -1,95 +1,65 @@
 // The job of a command line.
-ghost use Rattle.std.specs.Prelude.{◌≡◌, ◌<◌, map, string_bytes, IfOk, length};
-ghost use Rattle.lls_cli.specs.Scan.{word, Gives};
-ghost use Rattle.lls_cli.specs.Job.{operand, job_with, job_counted, job_of};
+ghost use Rattle.std.specs.Prelude.{◌≡◌, map, string_bytes, IfOk};
+ghost use Rattle.lls_cli.specs.Scan.{Gives};
+ghost use Rattle.lls_cli.specs.Job.{job_with, job_of};
+ghost use Rattle.lls_cli.specs.Seen.{seen_scan};
 
 use crate::command::Command;
 use crate::job::Job;
-use crate::scan::{Scan, scan_words, word_at};
-use crate::settings::{rule_at, settle};
+use crate::scan::{Operand, Scan, scan_words};
+use crate::settings::{Settings, rule_at, settle};
 use crate::words_error::WordsError;
 use lls_base::Name;
-use lls_problem::Demands;
 use std::alloc::{AllocError, Global};
 
-/// The word of a place as a name; an empty one past the end.
-fn name_at(alloc: Global, words: &[String], place: usize) -> Result<Name, AllocError>
-    ensures { IfOk result (λ name. name ≡ word (map string_bytes words.now) place) }
+/// The name of the file that an operand says.
+fn name_of(alloc: Global, operand: &Operand) -> Result<Name, AllocError>
+    ensures { IfOk result (λ name. name ≡ operand.now.word.now) }
 {
-    if place == 0 || place > words.len() {
-        return Ok(Name::new(String::new(alloc)));
-    }
-    let text = words[place - 1].clone()?;
-    Ok(Name::new(text))
+    Ok(Name::new(String::from_str(alloc, operand.word)?))
 }
 
-/// The place of the nth operand, from 0; 0 where there is none.
-fn operand_place(scan: &Scan, n: usize) -> usize
-    ensures { result ≡ operand scan.now n }
+/// The job of a command by its operands and options.
+fn job_with(alloc: Global, command: Command, scan: &Scan) -> Result<Job, WordsError>
+    ensures { Gives (λ job. job) result (job_with command (seen_scan scan.now).operands (seen_scan scan.now).givens) }
 {
-    let operands = scan.operands();
-    if n < operands.len() { operands[n] } else { 0 }
-}
-
-/// The job of a command with as many operands as it has.
-fn job_with(
-    alloc: Global,
-    command: Command,
-    words: &[String],
-    scan: &Scan,
-) -> Result<Job, WordsError>
-    ensures { Gives result (job_with command (map string_bytes words.now) scan.now) }
-{
-    let first = operand_place(scan, 0);
-    match command {
-        Command::Check => {
-            let settings = settle(words, scan.givens())?;
-            let search = name_at(alloc, words, first)?;
-            let proof = name_at(alloc, words, operand_place(scan, 1))?;
+    match (command, scan.operands.as_slice()) {
+        (Command::Check, [search, proof]) => {
+            let Settings { rule, demands } = settle(&scan.givens)?;
             Ok(Job::Check {
-                search,
-                proof,
-                rule: settings.rule,
-                demands: Demands {
-                    edge: settings.edge,
-                },
+                search: name_of(alloc, search)?,
+                proof: name_of(alloc, proof)?,
+                rule,
+                demands,
             })
         }
-        Command::Judge => {
-            let settings = settle(words, scan.givens())?;
-            let search = name_at(alloc, words, first)?;
-            let pattern = name_at(alloc, words, operand_place(scan, 1))?;
+        (Command::Judge, [search, pattern]) => {
+            let Settings { rule, demands } = settle(&scan.givens)?;
             Ok(Job::Judge {
-                search,
-                pattern,
-                rule: settings.rule,
-                demands: Demands {
-                    edge: settings.edge,
-                },
+                search: name_of(alloc, search)?,
+                pattern: name_of(alloc, pattern)?,
+                rule,
+                demands,
             })
         }
-        Command::Rule => Ok(Job::Rule {
-            rule: rule_at(first as u64, word_at(words, first))?,
+        (Command::Rule, [text]) => Ok(Job::Rule {
+            rule: rule_at(text.place, text.word.as_bytes())?,
         }),
+        (_, operands) => Err(WordsError::Operands(command.operand_count(), operands.len() as u64)),
     }
 }
 
 /// The job of the words behind the program's name, or the first fault: of the command, of the words from the left, of
 /// the number of operands, of the values from the left.
 pub fn read_job(alloc: Global, words: &[String]) -> Result<Job, WordsError>
-    ensures { Gives result (job_of (map string_bytes words.now)) }
+    ensures { Gives (λ job. job) result (job_of (map string_bytes words.now)) }
 {
-    if words.is_empty() {
+    let Some((name, behind)) = words.split_first() else {
         return Err(WordsError::NoCommand);
-    }
-    let Some(command) = Command::from_name(words[0].as_bytes()) else {
+    };
+    let Some(command) = Command::from_name(name.as_bytes()) else {
         return Err(WordsError::UnknownCommand);
     };
-    let scan = scan_words(alloc, command, words)?;
-    let expected = command.operand_count();
-    let found = scan.operands().len();
-    if found != expected {
-        return Err(WordsError::Operands(expected as u64, found as u64));
-    }
-    job_with(alloc, command, words, &scan)
+    let scan = scan_words(alloc, command, behind)?;
+    job_with(alloc, command, &scan)
 }

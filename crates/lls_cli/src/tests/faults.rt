@@ -1,0 +1,271 @@
+// Command lines that have no answer.
+use super::{NOTHING, Row, is_fault, run_over, words_of};
+use crate::status::Status;
+use std::alloc::{AllocError, Global};
+use std::process::Abort;
+use std::test::Fail;
+
+/// Runs a row whose fault goes to the standard error, behind `lls: ` and before an LF.
+fn faults(rt: &impl Abort, alloc: Global, row: Row) -> Result<(), Fail> {
+    let (words, f, p, status, text) = row;
+    let words = words_of(alloc, words)?;
+    let ended = run_over(alloc, &words, f.as_bytes(), p.as_bytes(), NOTHING)?;
+    is_fault(rt, alloc, &ended, status, text)?;
+    assert!(rt; ended.out.bytes().is_empty());
+    Ok(())
+}
+
+#[test]
+fn faults_are_named(rt: HostRuntime) -> Result<(), Fail> {
+    let rows: [Row; 40] = [
+        ("rule B1k/S", "", "", Status::Words, "words: BadLetter 2 3"),
+        (
+            "rule B33/S",
+            "",
+            "",
+            Status::Words,
+            "words: RepeatedDigit 2 3",
+        ),
+        (
+            "rule B2aa/S",
+            "",
+            "",
+            Status::Words,
+            "words: RepeatedLetter 2 4",
+        ),
+        ("rule B2-/S", "", "", Status::Words, "words: NoLetters 2 3"),
+        ("rule B9/S", "", "", Status::Words, "words: Stray 2 2"),
+        ("rule B3", "", "", Status::Words, "words: Stray 2 3"),
+        (
+            "check f p --rule B9/S",
+            "1\n\n1\n",
+            "",
+            Status::Words,
+            "words: Stray 4 2",
+        ),
+        ("check f", "1\n", "", Status::Words, "words: Operands 2 1"),
+        (
+            "judge f p f",
+            "1\n",
+            "",
+            Status::Words,
+            "words: Operands 2 3",
+        ),
+        (
+            "guess f p",
+            "1\n",
+            "",
+            Status::Words,
+            "words: UnknownCommand",
+        ),
+        (
+            "check f p --best",
+            "1\n",
+            "",
+            Status::Words,
+            "words: UnknownOption 4",
+        ),
+        (
+            "check f p --edge open --edge open",
+            "1\n",
+            "",
+            Status::Words,
+            "words: RepeatedOption 6",
+        ),
+        (
+            "check f p --edge",
+            "1\n",
+            "",
+            Status::Words,
+            "words: MissingValue 4",
+        ),
+        (
+            "check f p --edge shut",
+            "1\n",
+            "",
+            Status::Words,
+            "words: BadValue 4",
+        ),
+        ("check f p", "", "", Status::Content, "content: Empty"),
+        (
+            "check f p",
+            "1 0\n1\n",
+            "",
+            Status::Content,
+            "content: Ragged 2 2 1",
+        ),
+        (
+            "check f p",
+            "1\n\n1\n1\n",
+            "",
+            Status::Content,
+            "content: Sizes 1 1 2",
+        ),
+        (
+            "check f p",
+            "1 2\n",
+            "",
+            Status::Content,
+            "content: BadCell 1 3",
+        ),
+        (
+            "check f p",
+            "1 é\n",
+            "",
+            Status::Content,
+            "content: NotAscii 1 3",
+        ),
+        (
+            "judge f p",
+            "* *\n",
+            "1 *\n",
+            Status::Content,
+            "content: NotPlain 0 0 1",
+        ),
+        (
+            "judge f p",
+            "*\n",
+            "a\n",
+            Status::Content,
+            "content: NotPlain 0 0 0",
+        ),
+        ("judge f p", "* *\n", "", Status::Content, "content: Empty"),
+        (
+            "judge f p",
+            "0 0 0 0 0 0 0 0 0 0 0 0 0 0 0 0 0 0 0 0 0 0 0 0 0 0 0 0 0 0 0 0 0 0 0 0 0 0 0 0 0 0 0 0 0 0 0 0 0 0 0 0 0 0 0 0 0 0 0 0 0 0 0 0 0\n",
+            "",
+            Status::Limit,
+            "limit: TooWide 65",
+        ),
+        (
+            "check f p",
+            "0\n0\n0\n0\n0\n0\n0\n0\n0\n0\n0\n0\n0\n0\n0\n0\n0\n0\n0\n0\n0\n0\n0\n0\n0\n0\n0\n0\n0\n0\n0\n0\n0\n0\n0\n0\n0\n0\n0\n0\n0\n0\n0\n0\n0\n0\n0\n0\n0\n0\n0\n0\n0\n0\n0\n0\n0\n0\n0\n0\n0\n0\n0\n0\n0\n",
+            "",
+            Status::Limit,
+            "limit: TooHigh 65",
+        ),
+        (
+            "check f q",
+            "1\n\n1\n",
+            "",
+            Status::Outside,
+            "outside: NoFile",
+        ),
+        (
+            "judge q p",
+            "1\n\n1\n",
+            "",
+            Status::Outside,
+            "outside: NoFile",
+        ),
+        ("check -f p", "1\n", "", Status::Words, "words: BadWord 2"),
+        ("check f -- p", "1\n", "", Status::Words, "words: BadWord 3"),
+        ("check f  p", "1\n", "", Status::Words, "words: BadWord 3"),
+        (
+            "check f p --edge=",
+            "1\n",
+            "",
+            Status::Words,
+            "words: MissingValue 4",
+        ),
+        (
+            "judge f p --edge --rule B3/S23",
+            "1\n",
+            "",
+            Status::Words,
+            "words: MissingValue 4",
+        ),
+        (
+            "judge f --rule=B9/S p --best",
+            "1\n",
+            "",
+            Status::Words,
+            "words: UnknownOption 5",
+        ),
+        (
+            "check f p --edge shut --rule B9/S",
+            "1\n",
+            "",
+            Status::Words,
+            "words: BadValue 4",
+        ),
+        (
+            "check --rule B9/S f p --edge shut",
+            "1\n",
+            "",
+            Status::Words,
+            "words: Stray 2 2",
+        ),
+        (
+            "check f --rule B9/S",
+            "1\n",
+            "",
+            Status::Words,
+            "words: Operands 2 1",
+        ),
+        ("rule", "", "", Status::Words, "words: Operands 1 0"),
+        (
+            "rule B3/S23 --edge open",
+            "",
+            "",
+            Status::Words,
+            "words: UnknownOption 3",
+        ),
+        ("", "", "", Status::Words, "words: UnknownCommand"),
+        ("--help", "", "", Status::Words, "words: UnknownCommand"),
+        (
+            "check f p",
+            "0,,1\n",
+            "",
+            Status::Content,
+            "content: BadCell 1 3",
+        ),
+    ];
+    for row in rows {
+        faults(&rt, rt.alloc(), row)?;
+    }
+    let ended = run_over(rt.alloc(), &[], b"", b"", NOTHING)?;
+    is_fault(&rt, rt.alloc(), &ended, Status::Words, "words: NoCommand")
+}
+
+/// A piece that many times.
+fn repeated(alloc: Global, piece: &[u8], times: u32) -> Result<Vec<u8>, AllocError> {
+    let mut text = Vec::new(alloc);
+    for _ in 0..times {
+        text.extend_from_slice(piece)?;
+    }
+    Ok(text)
+}
+
+#[test]
+fn limits_are_named(rt: HostRuntime) -> Result<(), Fail> {
+    let alloc = rt.alloc();
+    let words = words_of(alloc, "check f p")?;
+    for (piece, times, text) in [
+        ("0\n\n", 65, "limit: TooMany 65"),
+        ("0\n", 65, "limit: TooHigh 65"),
+        ("0 ", 65, "limit: TooWide 65"),
+        ("#23456789abcdef\n", 65537, "limit: TooLong 1048576"),
+    ] {
+        let file = repeated(alloc, piece.as_bytes(), times)?;
+        let ended = run_over(alloc, &words, &file, b"", NOTHING)?;
+        is_fault(&rt, alloc, &ended, Status::Limit, text)?;
+        assert!(rt; ended.out.bytes().is_empty());
+    }
+    let row = repeated(alloc, b"0 ", 63)?;
+    let mut generation = Vec::new(alloc);
+    for _ in 0..64 {
+        generation.extend_from_slice(&row)?;
+        generation.extend_from_slice(b"0\n")?;
+    }
+    generation.push(b'\n')?;
+    let file = repeated(alloc, &generation, 3)?;
+    let ended = run_over(alloc, &words, &file, b"", NOTHING)?;
+    is_fault(
+        &rt,
+        alloc,
+        &ended,
+        Status::Limit,
+        "limit: TooManyCells 8256",
+    )
+}

@@ -1,0 +1,54 @@
+// Runs in which a call of the outside fails.
+use super::{Failing, NOTHING, is_fault, run_over, words_of};
+use crate::status::Status;
+use std::test::Fail;
+
+const ONE_CELL: &[u8] = b"1\n\n1\n";
+
+const PROOF: &[u8] = b"5 0 1 2 4 0\n";
+
+#[test]
+fn failures_of_the_outside(rt: HostRuntime) -> Result<(), Fail> {
+    let alloc = rt.alloc();
+    let words = words_of(alloc, "check f p")?;
+    // An input takes two reads: all of it, and its end. A write to the output takes three bytes.
+    for (open, read, out, text, given) in [
+        (1, 0, 0, "outside: OpenFailed", ""),
+        (2, 0, 0, "outside: OpenFailed", ""),
+        (0, 1, 0, "outside: ReadFailed", ""),
+        (0, 2, 0, "outside: ReadFailed", ""),
+        (0, 3, 0, "outside: ReadFailed", ""),
+        (0, 4, 0, "outside: ReadFailed", ""),
+        (0, 0, 1, "outside: OutFailed", ""),
+        (0, 0, 3, "outside: OutFailed", "accept"),
+    ] {
+        let failing = Failing {
+            open,
+            read,
+            out,
+            err: 0,
+        };
+        let ended = run_over(alloc, &words, ONE_CELL, PROOF, failing)?;
+        is_fault(&rt, alloc, &ended, Status::Outside, text)?;
+        assert_eq!(rt; ended.out.bytes(), given.as_bytes());
+    }
+    Ok(())
+}
+
+#[test]
+fn a_failing_error_stream_changes_no_status(rt: HostRuntime) -> Result<(), Fail> {
+    let alloc = rt.alloc();
+    let failing = Failing { err: 1, ..NOTHING };
+    for (words, status) in [
+        ("check f", Status::Words),
+        ("check p p", Status::Content),
+        ("check f q", Status::Outside),
+    ] {
+        let words = words_of(alloc, words)?;
+        let ended = run_over(alloc, &words, ONE_CELL, PROOF, failing)?;
+        assert_eq!(rt; ended.status, status);
+        assert!(rt; ended.err.bytes().is_empty());
+        assert!(rt; ended.out.bytes().is_empty());
+    }
+    Ok(())
+}
