@@ -7,7 +7,8 @@ use Rattle.lls_hensel.specs.Class.{classes_of, same_letter}
 use Rattle.lls_hensel.specs.Neighbours.{eight_of}
 use Rattle.lls_hensel.specs.Numbers.{class_by_number, letter_by_number, representative_by_number, representatives_of, representatives_of_fewer, images_by_number, fewer_of, turned, mirrored}
 
-same_class : Class → Class → Bool
+-- whether two classes have one count and one letter
+unfoldable pub same_class : Class → Class → Bool
 same_class a b = nat_eq a.count b.count && same_letter a.letter b.letter
 
 -- whether a list has this class alone
@@ -19,13 +20,13 @@ each_has_one : agree_below (λ n. is_only (class_by_number n) (classes_of (eight
 unfolding is_only same_class classes_of class_by_number letter_by_number representative_by_number representatives_of representatives_of_fewer images_by_number fewer_of turned mirrored ones
 each_has_one = refl
 
-letter_same : (a b : Option ℕ) → same_letter a b ≡ true → a ≡ b
+pub letter_same : (a b : Option ℕ) → same_letter a b ≡ true → a ≡ b
 letter_same None None h = refl
 letter_same None (Some b) h = cc
 letter_same (Some a) None h = cc
 letter_same (Some a) (Some b) h = ap Some (eqb-true a b h)
 
-class_same : (a b : Class) → same_class a b ≡ true → a ≡ b
+pub class_same : (a b : Class) → same_class a b ≡ true → a ≡ b
 unfolding same_class
 class_same a b h =
     let parts = and_parts (nat_eq a.count b.count) (same_letter a.letter b.letter) h in

@@ -14,3 +14,5 @@ pub mod Back
 pub mod SidesBack
 pub mod RoundTrip
 pub mod Isotropy
+pub mod Images
+pub mod EntriesIsotropy

@@ -1,11 +1,11 @@
 -- What a group says of a neighbourhood, by the class of the eight round its centre.
-use Rattle.std.proofs.Common.{◌≡◌, ℕ, bit_and, ◌<◌, ◌≤◌, ◌∙◌, sym, ap, inl, inr, nat_eq, nat_le, nat_lt, Bool, true, false, cond, not, ◌&&◌, ◌||◌, List, [], ◌∷◌, map, filter, Option, Some, None, refl, arith, subst}
+use Rattle.std.proofs.Common.{◌≡◌, ℕ, bit_and, ◌<◌, ◌≤◌, ◌∙◌, sym, ap, inl, inr, nat_eq, nat_le, nat_lt, Bool, true, false, cond, not, ◌&&◌, ◌||◌, List, [], ◌∷◌, map, filter, Option, refl, arith, subst}
 use Rattle.std.specs.Int.Count.{ones}
 use Rattle.std.specs.List.{list_any}
 use Rattle.std.specs.Cmp.Lexicographic.{pointwise}
 use Rattle.std.specs.Cmp.{booleans_Decides}
 use Rattle.std.proofs.Math.Bool.{beq}
-use Rattle.std.proofs.lemmas.Bool.{agree_below, agree_below_at, eqb-true, and_parts}
+use Rattle.std.proofs.lemmas.Bool.{agree_below, agree_below_at, and_parts}
 use Rattle.std.proofs.Math.Bool.{or-false, and-true}
 use Rattle.std.proofs.lemmas.Bool.{leb-true, ltb-true, lt-leb, ne_eqb, and_left}
 use Rattle.std.proofs.lemmas.Bool.Decides.{leb_tells, eqb_tells}
@@ -14,7 +14,7 @@ use Rattle.std.proofs.lemmas.Slice.Eq.{slice_eq-Decides}
 use Rattle.lls_rule.specs.Rule.{has_bit}
 use Rattle.lls_hensel.specs.declared.class.Class.{Class}
 use Rattle.lls_rule.proofs.Counts.{centre_test}
-use Rattle.lls_hensel.proofs.Classes.{classes_of-class_by_number}
+use Rattle.lls_hensel.proofs.Classes.{letter_same, classes_of-class_by_number}
 use Rattle.lls_hensel.specs.Class.{classes_of, pictures, same_letter, is_of_class}
 use Rattle.lls_hensel.specs.Neighbours.{eight_of, around, are_images}
 use Rattle.lls_hensel.specs.Numbers.{class_by_number, letter_by_number, representative_by_number, representatives_of, representatives_of_fewer, images_by_number, fewer_of, turned, mirrored}
@@ -40,12 +40,6 @@ letters_are_counts = refl
 around_as_number : agree_below (λ n. nat_lt (around_number n) 256 && pointwise beq (around n) (eight_of (around_number n))) (λ _. true) 512 ≡ true
 unfolding around_number
 around_as_number = refl
-
-letter_same : (a b : Option ℕ) → same_letter a b ≡ true → a ≡ b
-letter_same None None h = refl
-letter_same None (Some b) h = cc
-letter_same (Some a) None h = cc
-letter_same (Some a) (Some b) h = ap Some (eqb-true a b h)
 
 letters_same : (xs ys : List (Option ℕ)) → pointwise same_letter xs ys ≡ true → xs ≡ ys
 letters_same [] [] h = refl

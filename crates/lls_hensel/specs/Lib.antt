@@ -1,4 +1,5 @@
 pub mod Neighbours
+pub mod Isotropy
 pub mod Class
 pub mod Numbers
 pub mod Entries

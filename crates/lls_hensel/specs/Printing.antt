@@ -1,5 +1,5 @@
 -- The canonical text of a rule, and where a rule is not isotropic.
-use Rattle.std.specs.Prelude.{◌≡◌, ◌<◌, ℕ, ◌+◌, ◌-◌, ◌==◌, nat_le, Bool, true, false, cond, not, List, [], ◌∷◌, ◌++◌, map, filter, find, flat_map, length, Option, Some, None}
+use Rattle.std.specs.Prelude.{ℕ, ◌+◌, ◌-◌, ◌==◌, nat_le, Bool, true, false, cond, not, List, [], ◌∷◌, ◌++◌, map, filter, find, flat_map, length, Option, Some, None}
 use Rattle.std.specs.List.{range_with_len}
 use Rattle.std.proofs.Math.Bool.{beq}
 use Rattle.lls_rule.specs.Rule.{number_of, has_bit, answer}
@@ -65,8 +65,3 @@ side_text table survival = flat_map (group_text table survival) (range_with_len 
 -- the canonical text: `B`, the birth side, `/S`, the survival side
 unfoldable pub rule_text : List Bool → List ℕ
 rule_text table = 66 ∷ side_text table false ++ 47 ∷ 83 ∷ side_text table true
-
--- neighbourhoods with equal centres and one class have equal answers
-abbrev pub IsIsotropic : List Bool → Type 0
-IsIsotropic table =
-    (m n : ℕ) → m < 512 → n < 512 → has_bit m 4 ≡ has_bit n 4 → are_images (around m) (around n) ≡ true → answer table m ≡ answer table n

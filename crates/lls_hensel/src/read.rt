@@ -1,8 +1,9 @@
 // The reading of rule texts.
-ghost use Rattle.std.specs.Prelude.{◌≡◌, ◌==◌, ◌||◌, ℕ, ◌+◌, ◌^◌, ◌<◌, ◌≤◌, [], Ok, IsTrue, length, not, take, drop, slice_index};
+ghost use Rattle.std.specs.Prelude.{◌≡◌, ◌==◌, ◌||◌, ℕ, ◌+◌, ◌^◌, ◌<◌, ◌≤◌, [], Ok, IfOk, IsTrue, length, not, take, drop, slice_index};
 ghost use Rattle.std.specs.List.{take_while};
 ghost use Rattle.lls_rule.specs.Rule.{table_of};
 ghost use Rattle.lls_hensel.specs.Entries.{next_of, with_entries};
+ghost use Rattle.lls_hensel.specs.Isotropy.{IsIsotropic};
 ghost use Rattle.lls_hensel.specs.Reading.{entries_of, birth_first, survival_first, is_slash, is_survival_mark, survival_after, after_mark, birth_after, side_before, side_entries, misplaced, before_digit, group_read, tail_read, listed, letters_read, is_count, and_then};
 ghost use Rattle.lls_hensel.specs.Seen.{seen_side, seen_result};
 ghost use Rattle.lls_hensel.specs.Sides.{groups_at, table_read};
@@ -36,7 +37,8 @@ struct Side<'t> {
 
 /// The rule of a text in Hensel notation, as `B3/S23`, `b2-a/s12` or `23/3`.
 pub fn read_rule(text: &[u8]) -> Result<Rule, RuleError>
-    ensures { result ≡ and_then (entries_of text.now) (λ entries. Ok (table_of (next_of entries))) }
+    ensures exact { result ≡ and_then (entries_of text.now) (λ entries. Ok (table_of (next_of entries))) }
+    ensures isotropic { IfOk result IsIsotropic }
 {
     match text {
         [] => Err(RuleError::Empty),
