@@ -3,6 +3,7 @@ use Rattle.std.specs.Prelude.{ℕ, Bool, false, List, [], ◌∷◌, length, cod
 use Rattle.std.specs.Str.{bytes_eq}
 use Rattle.lls_rule.specs.Rule.{table_of, by_counts}
 use Rattle.lls_hensel.specs.declared.read.RuleError.{RuleError}
+use Rattle.lls_hensel.specs.Isotropy.{IsIsotropic}
 use Rattle.lls_hensel.specs.Reading.{entries_of}
 use Rattle.lls_hensel.specs.Entries.{next_of}
 use Rattle.lls_problem.specs.declared.demands.Edge.{Edge}
@@ -71,3 +72,9 @@ job_of_command (Some command) words =
 abbrev pub job_of : List (List ℕ) → Result Job WordsError
 job_of [] = Err NoCommand
 job_of (name ∷ words) = job_of_command (command_of name) words
+
+-- a rule that is to be printed is isotropic
+abbrev pub IsPrintable : Job → Type 0
+IsPrintable (jobs.Check search_file proof rule demands) = Unit {0}
+IsPrintable (jobs.Judge search_file pattern rule demands) = Unit {0}
+IsPrintable (jobs.Rule rule) = IsIsotropic rule

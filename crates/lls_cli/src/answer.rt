@@ -4,9 +4,11 @@ ghost use Rattle.lls_base.specs.Faults.{Counts};
 ghost use Rattle.lls_base.specs.Shelf.{known_files};
 ghost use Rattle.lls_problem.specs.Solution.{IsAbsent};
 ghost use Rattle.lls_encode.specs.Formula.{formula_of};
+ghost use Rattle.lls_hensel.specs.Isotropy.{IsIsotropic};
 ghost use Rattle.lls_hensel.specs.Printing.{rule_text};
 ghost use Rattle.lls_lrat.specs.Verdict.{verdict};
 ghost use Rattle.lls_cli.specs.Decided.{problem_of, check_decision, check_decided, judge_decided, job_decided, Outcome, Judged, ProblemIsAbsent, JobIsAbsent, HasRisen, IsInside, Settles};
+ghost use Rattle.lls_cli.specs.Job.{IsPrintable};
 ghost use Rattle.lls_cli.specs.Answer.{answer_seen, SettlesOutcome};
 ghost use Rattle.lls_cli.specs.Run.{IsYesOrNo, IsBehindWords};
 
@@ -18,7 +20,7 @@ use crate::text::{check_text, judgement_text};
 use lls_base::{Name, Shelf};
 use lls_encode::encode;
 use lls_grid::History;
-use lls_hensel::print_rule;
+use lls_hensel::{PrintRuleError, print_rule};
 use lls_lrat::{CheckError, check_bytes};
 use lls_problem::{Demands, Judgement, Problem, judge};
 use lls_rule::Rule;
@@ -61,25 +63,29 @@ fn check_proof(alloc: Global, problem: &Problem, proof: &[u8]) -> Result<Answer,
 
 /// The canonical text of a rule.
 fn print(alloc: Global, rule: &Rule) -> Result<Answer, Fault>
+    requires { IsIsotropic rule.now }
     ensures answer { Settles answer_seen result (Ok (record { status = Status.Done; text = rule_text rule.now ++ 10 ∷ [] })) }
     ensures yes_or_no { IfOk result (λ answer. IsYesOrNo answer.status) }
     ensures inside { IfErr result IsInside }
     ensures behind_words { IfErr result IsBehindWords }
 {
-    match print_rule(alloc, rule) {
-        Ok(mut text) => match text.push(b'\n') {
-            Ok(()) => Ok(Answer {
-                status: Status::Done,
-                text,
-            }),
-            Err(_) => Err(Fault::Memory),
-        },
+    let mut text = match print_rule(alloc, rule) {
+        Ok(text) => text,
+        Err(PrintRuleError::NotIsotropic(_)) => unreachable!(),
+        Err(PrintRuleError::Memory) => return Err(Fault::Memory),
+    };
+    match text.push(b'\n') {
+        Ok(()) => Ok(Answer {
+            status: Status::Done,
+            text,
+        }),
         Err(_) => Err(Fault::Memory),
     }
 }
 
 /// The answer of a job, read from the shelf.
 pub fn answer_job<S: Shelf>(alloc: Global, shelf: &mut S, job: Job) -> Result<Answer, Fault>
+    requires { IsPrintable job }
     ensures decided { IfSome (known_files (S.told shelf.old)) (λ files. SettlesOutcome result (job_decided job files)) }
     ensures yes_or_no { IfOk result (λ answer. IsYesOrNo answer.status) }
     ensures behind_words { IfErr result IsBehindWords }

@@ -1,5 +1,6 @@
 // The values of a command's options.
-ghost use Rattle.std.specs.Prelude.{◌≡◌, map};
+ghost use Rattle.std.specs.Prelude.{◌≡◌, map, IfOk};
+ghost use Rattle.lls_hensel.specs.Isotropy.{IsIsotropic};
 ghost use Rattle.lls_cli.specs.Job.{rule_at, edge_at, with_value, settled, defaults};
 ghost use Rattle.lls_cli.specs.Seen.{seen_given};
 
@@ -43,7 +44,8 @@ impl Settings {
 
 /// The rule of a text; the place is its option's, or its own where it is an operand.
 pub fn rule_at(place: u64, text: &[u8]) -> Result<Rule, WordsError>
-    ensures { result ≡ rule_at place text.now }
+    ensures exact { result ≡ rule_at place text.now }
+    ensures isotropic { IfOk result IsIsotropic }
 {
     match read_rule(text) {
         Ok(rule) => Ok(rule),

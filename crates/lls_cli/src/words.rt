@@ -1,7 +1,7 @@
 // The job of a command line.
 ghost use Rattle.std.specs.Prelude.{◌≡◌, map, string_bytes, IfOk};
 ghost use Rattle.lls_cli.specs.Scan.{Gives};
-ghost use Rattle.lls_cli.specs.Job.{job_with, job_of};
+ghost use Rattle.lls_cli.specs.Job.{job_with, job_of, IsPrintable};
 ghost use Rattle.lls_cli.specs.Seen.{seen_scan};
 
 use crate::command::Command;
@@ -21,7 +21,8 @@ fn name_of(alloc: Global, operand: &Operand) -> Result<Name, AllocError>
 
 /// The job of a command by its operands and options.
 fn job_with(alloc: Global, command: Command, scan: &Scan) -> Result<Job, WordsError>
-    ensures { Gives (λ job. job) result (job_with command (seen_scan scan.now).operands (seen_scan scan.now).givens) }
+    ensures job { Gives (λ job. job) result (job_with command (seen_scan scan.now).operands (seen_scan scan.now).givens) }
+    ensures printable { IfOk result IsPrintable }
 {
     match (command, scan.operands.as_slice()) {
         (Command::Check, [search, proof]) => {
@@ -52,7 +53,8 @@ fn job_with(alloc: Global, command: Command, scan: &Scan) -> Result<Job, WordsEr
 /// The job of the words behind the program's name, or the first fault: of the command, of the words from the left, of
 /// the number of operands, of the values from the left.
 pub fn read_job(alloc: Global, words: &[String]) -> Result<Job, WordsError>
-    ensures { Gives (λ job. job) result (job_of (map string_bytes words.now)) }
+    ensures job { Gives (λ job. job) result (job_of (map string_bytes words.now)) }
+    ensures printable { IfOk result IsPrintable }
 {
     let Some((name, behind)) = words.split_first() else {
         return Err(WordsError::NoCommand);
