@@ -1,5 +1,5 @@
 -- What a command line is answered by the files that stand on the shelf, where memory and the outside don't fail.
-use Rattle.std.specs.Prelude.{◌≡◌, ℕ, ◌++◌, nat_lt, Bool, List, [], ◌∷◌, length, Option, None, Some, Result, Ok, Err, if◌then◌else◌}
+use Rattle.std.specs.Prelude.{◌≡◌, ℕ, ◌++◌, nat_lt, Bool, List, [], ◌∷◌, length, Option, None, Some, Result, Ok, Err, IsErr, if◌then◌else◌}
 use Rattle.std.specs.FinMap as map
 use Rattle.lls_base.specs.Shelf.{Files}
 use Rattle.lls_base.specs.Faults.{Rose}
@@ -28,6 +28,7 @@ use Rattle.lls_cli.specs.declared.status.Status.{Status}
 use Rattle.lls_cli.specs.declared.status.Status.TheVariants as statuses
 use Rattle.lls_cli.specs.declared.words_error.WordsError.{WordsError}
 use Rattle.lls_cli.specs.Job.{job_of}
+use Rattle.lls_cli.specs.Status.{judgement_status}
 use Rattle.lls_cli.specs.Texts.{check_text, judgement_text}
 
 abbrev pub and_so : {A B : Type 0} → Result A Fault → (A → Result B Fault) → Result B Fault
@@ -143,17 +144,40 @@ abbrev pub ProblemIsAbsent : Result PosedProblem Fault → Type 0
 ProblemIsAbsent (Ok problem) = IsAbsent problem
 ProblemIsAbsent (Err fault) = ⊥
 
--- what the yes of a check says
-abbrev pub JobIsAbsent : Job → Files → Type 0
-JobIsAbsent (jobs.Check search proof rule demands) files = ProblemIsAbsent (problem_of files search rule demands)
-JobIsAbsent (jobs.Judge search pattern rule demands) files = Unit {0}
-JobIsAbsent (jobs.Rule rule) files = Unit {0}
+-- the proof's text isn't accepted against the formula of the problem
+abbrev pub ProofIsRefused : Result PosedProblem Fault → Result (List ℕ) Fault → Type 0
+ProofIsRefused (Ok problem) (Ok text) = IsErr (verdict (formula_of problem) text)
+ProofIsRefused (Ok problem) (Err fault) = ⊥
+ProofIsRefused (Err fault) text = ⊥
 
--- the judgement that is printed, and what the status says
-pub record IsJudged (problem : PosedProblem) (history : History) (status : Status) (text : List ℕ) : Type 0 where
-  pub judged : (judgement : Judgement) × IsJudgement problem history judgement × (judgement_text judgement ≡ text)
-  pub done : status ≡ statuses.Done → IsSolution problem history
-  pub refused : status ≡ statuses.Refused → IsSolution problem history → ⊥
+-- the history is a solution of the problem
+abbrev pub PatternIsSolution : Result PosedProblem Fault → Result History Fault → Type 0
+PatternIsSolution (Ok problem) (Ok history) = IsSolution problem history
+PatternIsSolution (Ok problem) (Err fault) = ⊥
+PatternIsSolution (Err fault) history = ⊥
+
+-- the history isn't one
+abbrev pub PatternIsBroken : Result PosedProblem Fault → Result History Fault → Type 0
+PatternIsBroken (Ok problem) (Ok history) = IsSolution problem history → ⊥
+PatternIsBroken (Ok problem) (Err fault) = ⊥
+PatternIsBroken (Err fault) history = ⊥
+
+-- what the yes of a job says: of a check that there is no solution, of a judging that the pattern is one
+abbrev pub YesHolds : Job → Files → Type 0
+YesHolds (jobs.Check search proof rule demands) files = ProblemIsAbsent (problem_of files search rule demands)
+YesHolds (jobs.Judge search pattern rule demands) files = PatternIsSolution (problem_of files search rule demands) (history_of files pattern)
+YesHolds (jobs.Rule rule) files = Unit {0}
+
+-- what its no says: of a check that the proof isn't accepted, of a judging that the pattern is no solution
+abbrev pub NoHolds : Job → Files → Type 0
+NoHolds (jobs.Check search proof rule demands) files = ProofIsRefused (problem_of files search rule demands) (input_of files proof 1073741824)
+NoHolds (jobs.Judge search pattern rule demands) files = PatternIsBroken (problem_of files search rule demands) (history_of files pattern)
+NoHolds (jobs.Rule rule) files = ⊥
+
+-- a judgement is printed, with its status
+abbrev pub IsJudged : PosedProblem → History → Status → List ℕ → Type 0
+IsJudged problem history status text =
+    (judgement : Judgement) × IsJudgement problem history judgement × (judgement_status judgement ≡ status) × (judgement_text judgement ≡ text)
 
 -- the outcome has this status and this text
 abbrev pub IsOutcome : Outcome → Status → List ℕ → Type 0

@@ -10,7 +10,7 @@ use Rattle.lls_cli.specs.declared.job.Job.{Job}
 use Rattle.lls_cli.specs.declared.status.Status.{Status}
 use Rattle.lls_cli.specs.declared.status.Status.TheVariants as statuses
 use Rattle.lls_cli.specs.declared.words_error.WordsError.{WordsError}
-use Rattle.lls_cli.specs.Decided.{Outcome, IsOutcome, JobIsAbsent}
+use Rattle.lls_cli.specs.Decided.{Outcome, IsOutcome, YesHolds, NoHolds}
 use Rattle.lls_cli.specs.Status.{status_of}
 use Rattle.lls_cli.specs.Texts.{fault_line}
 
@@ -49,10 +49,14 @@ GavePart decided before after = (after ≡ before)
 abbrev pub IsNoFile : Result Outcome Fault → Type 0
 IsNoFile decided = decided ≡ Err (faults.Outside outside.NoFile)
 
--- what status 0 says of a check
-abbrev pub WordsAreAbsent : Result Job WordsError → Files → Type 0
-WordsAreAbsent (Ok job) files = JobIsAbsent job files
-WordsAreAbsent (Err error) files = ⊥
+-- what a yes says of the words' job, and a no
+abbrev pub WordsHaveYes : Result Job WordsError → Files → Type 0
+WordsHaveYes (Ok job) files = YesHolds job files
+WordsHaveYes (Err error) files = ⊥
+
+abbrev pub WordsHaveNo : Result Job WordsError → Files → Type 0
+WordsHaveNo (Ok job) files = NoHolds job files
+WordsHaveNo (Err error) files = ⊥
 
 -- a yes or a no
 abbrev pub IsYesOrNo : Status → Type 0

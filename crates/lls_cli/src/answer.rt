@@ -1,13 +1,13 @@
 // What a job is answered.
-ghost use Rattle.std.specs.Prelude.{◌≡◌, ◌∷◌, ◌++◌, [], Ok, IfOk, IfErr, IfSome, List, ℕ};
+ghost use Rattle.std.specs.Prelude.{◌≡◌, ◌∷◌, ◌++◌, [], Ok, IfOk, IfErr, IfSome, IsErr, List, ℕ};
 ghost use Rattle.lls_base.specs.Faults.{Counts};
 ghost use Rattle.lls_base.specs.Shelf.{known_files};
-ghost use Rattle.lls_problem.specs.Solution.{IsAbsent};
+ghost use Rattle.lls_problem.specs.Solution.{IsAbsent, IsSolution};
 ghost use Rattle.lls_encode.specs.Formula.{formula_of};
 ghost use Rattle.lls_hensel.specs.Isotropy.{IsIsotropic};
 ghost use Rattle.lls_hensel.specs.Printing.{rule_text};
 ghost use Rattle.lls_lrat.specs.Verdict.{verdict};
-ghost use Rattle.lls_cli.specs.Decided.{problem_of, check_decision, check_decided, judge_decided, job_decided, Outcome, Judged, ProblemIsAbsent, JobIsAbsent, HasRisen, IsInside, Settles};
+ghost use Rattle.lls_cli.specs.Decided.{problem_of, check_decision, check_decided, judge_decided, job_decided, input_of, history_of, Outcome, Judged, ProblemIsAbsent, ProofIsRefused, PatternIsSolution, PatternIsBroken, YesHolds, NoHolds, HasRisen, IsInside, Settles};
 ghost use Rattle.lls_cli.specs.Job.{IsPrintable};
 ghost use Rattle.lls_cli.specs.Answer.{answer_seen, SettlesOutcome};
 ghost use Rattle.lls_cli.specs.Run.{IsYesOrNo, IsBehindWords};
@@ -45,6 +45,7 @@ fn check_proof(alloc: Global, problem: &Problem, proof: &[u8]) -> Result<Answer,
 
     // A proof is accepted only where there is no solution.
     ensures absent { IfOk result (λ answer. answer.status ≡ Status.Done → IsAbsent problem.now) }
+    ensures refused { IfOk result (λ answer. answer.status ≡ Status.Refused → IsErr (verdict (formula_of problem.now) proof.now)) }
 {
     let Ok(formula) = encode(alloc, problem) else {
         return Err(Fault::Memory);
@@ -90,7 +91,8 @@ pub fn answer_job<S: Shelf>(alloc: Global, shelf: &mut S, job: Job) -> Result<An
     ensures yes_or_no { IfOk result (λ answer. IsYesOrNo answer.status) }
     ensures behind_words { IfErr result IsBehindWords }
     ensures failed { IfErr result (λ fault. HasRisen fault (S.faults shelf.old) (S.faults shelf.new)) }
-    ensures absent { IfSome (known_files (S.told shelf.old)) (λ files. IfOk result (λ answer. answer.status ≡ Status.Done → JobIsAbsent job files)) }
+    ensures yes { IfSome (known_files (S.told shelf.old)) (λ files. IfOk result (λ answer. answer.status ≡ Status.Done → YesHolds job files)) }
+    ensures no { IfSome (known_files (S.told shelf.old)) (λ files. IfOk result (λ answer. answer.status ≡ Status.Refused → NoHolds job files)) }
     ensures counts { Counts (S.faults shelf.old) (S.faults shelf.new) }
     ensures files { known_files (S.told shelf.new) ≡ known_files (S.told shelf.old) }
 {
@@ -125,6 +127,8 @@ fn check<S: Shelf>(
     ensures behind_words { IfErr result IsBehindWords }
     ensures failed { IfErr result (λ fault. HasRisen fault (S.faults shelf.old) (S.faults shelf.new)) }
     ensures absent { IfSome (known_files (S.told shelf.old)) (λ files. IfOk result (λ answer. answer.status ≡ Status.Done → ProblemIsAbsent (problem_of files search.now rule demands))) }
+    ensures refused { IfSome (known_files (S.told shelf.old)) (λ files. IfOk result (λ answer. answer.status ≡ Status.Refused
+        → ProofIsRefused (problem_of files search.now rule demands) (input_of files proof.now 1073741824))) }
     ensures counts { Counts (S.faults shelf.old) (S.faults shelf.new) }
     ensures files { known_files (S.told shelf.new) ≡ known_files (S.told shelf.old) }
 {
@@ -141,6 +145,8 @@ fn check<S: Shelf>(
 /// The answer to a history that is judged.
 fn judge_history(alloc: Global, problem: &Problem, history: &History) -> Result<Answer, Fault>
     ensures answer { SettlesOutcome result (Ok (Judged problem.now history.now)) }
+    ensures solution { IfOk result (λ answer. answer.status ≡ Status.Done → IsSolution problem.now history.now) }
+    ensures broken { IfOk result (λ answer. answer.status ≡ Status.Refused → IsSolution problem.now history.now → ⊥) }
     ensures yes_or_no { IfOk result (λ answer. IsYesOrNo answer.status) }
     ensures inside { IfErr result IsInside }
     ensures behind_words { IfErr result IsBehindWords }
@@ -167,6 +173,10 @@ fn judge_job<S: Shelf>(
     demands: Demands,
 ) -> Result<Answer, Fault>
     ensures decided { IfSome (known_files (S.told shelf.old)) (λ files. SettlesOutcome result (judge_decided files search.now pattern.now rule demands)) }
+    ensures solution { IfSome (known_files (S.told shelf.old)) (λ files. IfOk result (λ answer. answer.status ≡ Status.Done
+        → PatternIsSolution (problem_of files search.now rule demands) (history_of files pattern.now))) }
+    ensures broken { IfSome (known_files (S.told shelf.old)) (λ files. IfOk result (λ answer. answer.status ≡ Status.Refused
+        → PatternIsBroken (problem_of files search.now rule demands) (history_of files pattern.now))) }
     ensures yes_or_no { IfOk result (λ answer. IsYesOrNo answer.status) }
     ensures behind_words { IfErr result IsBehindWords }
     ensures failed { IfErr result (λ fault. HasRisen fault (S.faults shelf.old) (S.faults shelf.new)) }

@@ -9,7 +9,7 @@ ghost use Rattle.lls_cli.specs.declared.fault.Fault.{Fault};
 ghost use Rattle.lls_cli.specs.Job.{job_of};
 ghost use Rattle.lls_cli.specs.Status.{status_of};
 ghost use Rattle.lls_cli.specs.Texts.{fault_line};
-ghost use Rattle.lls_cli.specs.Run.{IsStatus, GrewBy, GaveText, IsNoFile, IsYesOrNo, IsSilent, IsFault, Said, GavePart, WordsAreAbsent};
+ghost use Rattle.lls_cli.specs.Run.{IsStatus, GrewBy, GaveText, IsNoFile, IsYesOrNo, IsSilent, IsFault, Said, GavePart, WordsHaveYes, WordsHaveNo};
 
 use crate::answer::{Answer, answer_job};
 use crate::fault::{Fault, OutsideFault};
@@ -82,8 +82,10 @@ pub fn run<S: Shelf, O: Sink, E: Sink>(
         (λ files. GaveText (decided (map string_bytes words.now) files) result (O.written out.old) (O.written out.new)) }
     ensures quiet { IsYesOrNo result → E.written err.new ≡ E.written err.old }
 
-    // The yes of a check: no history is a solution.
-    ensures absent { result ≡ Status.Done → IfSome (known_files (S.told shelf.old)) (WordsAreAbsent (job_of (map string_bytes words.now))) }
+    // The yes of a check says that no history is a solution, and that of a judging that the pattern is one. The no of a
+    // check says that the proof isn't accepted, and that of a judging that the pattern is no solution.
+    ensures yes { result ≡ Status.Done → IfSome (known_files (S.told shelf.old)) (WordsHaveYes (job_of (map string_bytes words.now))) }
+    ensures no { result ≡ Status.Refused → IfSome (known_files (S.told shelf.old)) (WordsHaveNo (job_of (map string_bytes words.now))) }
 
     // Words are refused exactly where they are no command line, whatever the shelf tells, but for want of memory.
     ensures words { result ≡ Status.Words → IsErr (job_of (map string_bytes words.now)) }
