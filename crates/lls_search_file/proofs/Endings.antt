@@ -7,8 +7,10 @@ use Rattle.lls_search_file.specs.declared.error.PosedError.{PosedError}
 use Rattle.lls_search_file.specs.declared.error.PosedError.TheVariants.{Empty, BadCell, Ragged, Sizes, TooWide, TooHigh, TooMany, TooManyCells, NotAscii, Memory}
 use Rattle.lls_search_file.specs.Lines.{lines_of}
 use Rattle.lls_search_file.specs.Words.{and_then}
-use Rattle.lls_search_file.specs.Reading.{Fails, Rows, no_rows, with_end, line_taken, lines_taken, at_end, file_of, names_of, posed_of}
+use Rattle.lls_search_file.specs.Reading.{Fails, names_of, posed_of}
+use Rattle.lls_search_file.specs.Counted.{Counts, no_shape, with_end, line_taken, lines_taken, at_end, file_of}
 use Rattle.lls_search_file.specs.Kept.{IsNumbered, words_in}
+use Rattle.lls_search_file.proofs.Counting.{posed_of-counted}
 use Rattle.lls_search_file.proofs.Renumbering.{names_of-words_in, cells_said-words_in}
 
 -- a fault of a part is the fault of the whole
@@ -36,16 +38,14 @@ at_end-is shape end names cells ends some kept =
     ap (λ ns. Ok (record { generations = end.ended; height = end.height; width = end.width; cells = cells; names = ns })) (names_of-words_in names cells kept)))
 
 -- the lines left give what all lines give
-abbrev Leads : List ℕ → ℕ → List ℕ → Rows → Type 0
-Leads bytes number rest rows = lines_taken (number + 1) (lines_of rest) rows ≡ lines_taken 1 (lines_of bytes) (record { shape = no_rows; words = [] })
+abbrev Leads : List ℕ → ℕ → List ℕ → Counts → Type 0
+Leads bytes number rest counts = lines_taken (number + 1) (lines_of rest) counts ≡ lines_taken 1 (lines_of bytes) (record { shape = no_shape; words = [] })
 
-pub posed_of-fault : (bytes rest behind line : List ℕ) (number : ℕ) (rows : Rows) (fault : PosedError) → Leads bytes number rest rows → lines_of rest ≡ line ∷ lines_of behind
-    → line_taken (number + 1) line rows ≡ Err fault → posed_of bytes ≡ Err fault
-unfolding posed_of
-posed_of-fault bytes rest behind line number rows fault leads first bad =
-    ap (λ read. and_then read at_end) (sym leads ∙ (ap (λ lines. lines_taken (number + 1) lines rows) first ∙ ap (λ read. and_then read (lines_taken ((number + 1) + 1) (lines_of behind))) bad))
+pub posed_of-fault : (bytes rest behind line : List ℕ) (number : ℕ) (counts : Counts) (fault : PosedError) → Leads bytes number rest counts → lines_of rest ≡ line ∷ lines_of behind
+    → line_taken (number + 1) line counts ≡ Err fault → posed_of bytes ≡ Err fault
+posed_of-fault bytes rest behind line number counts fault leads first bad =
+    posed_of-counted bytes ∙ ap (λ read. and_then read at_end) (sym leads ∙ (ap (λ lines. lines_taken (number + 1) lines counts) first ∙ ap (λ read. and_then read (lines_taken ((number + 1) + 1) (lines_of behind))) bad))
 
-pub posed_of-end : (bytes rest : List ℕ) (number : ℕ) (rows : Rows) → Leads bytes number rest rows → eqb (length rest) 0 ≡ true → posed_of bytes ≡ at_end rows
-unfolding posed_of
-posed_of-end bytes [] number rows leads none = ap (λ read. and_then read at_end) (sym leads)
-posed_of-end bytes (b ∷ rest) number rows leads none = absurd (omega (arith, eqb-true (length (b ∷ rest)) 0 none))
+pub posed_of-end : (bytes rest : List ℕ) (number : ℕ) (counts : Counts) → Leads bytes number rest counts → eqb (length rest) 0 ≡ true → posed_of bytes ≡ at_end counts
+posed_of-end bytes [] number counts leads none = posed_of-counted bytes ∙ ap (λ read. and_then read at_end) (sym leads)
+posed_of-end bytes (b ∷ rest) number counts leads none = absurd (omega (arith, eqb-true (length (b ∷ rest)) 0 none))

@@ -1,4 +1,5 @@
 pub mod Counts
+pub mod Counting
 pub mod Numbering
 pub mod Endings
 pub mod NameBytes

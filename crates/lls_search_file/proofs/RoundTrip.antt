@@ -17,9 +17,11 @@ use Rattle.lls_search_file.specs.declared.error.PosedError.TheVariants.{Empty}
 use Rattle.lls_search_file.specs.Posed.{PosedFile, IsPosed, name_of, names_after, are_numbered, is_name}
 use Rattle.lls_search_file.specs.Lines.{lines_of}
 use Rattle.lls_search_file.specs.Words.{Word, and_then}
-use Rattle.lls_search_file.specs.Reading.{Rows, no_rows, with_row, with_end, line_taken, lines_taken, at_end, file_of, posed_of}
+use Rattle.lls_search_file.specs.Reading.{posed_of}
+use Rattle.lls_search_file.specs.Counted.{Counts, no_shape, with_row, with_end, line_taken, lines_taken, at_end, file_of}
 use Rattle.lls_search_file.specs.Kept.{IsNumbered, said_in, word_in, words_in, is_spelled, is_said_spelled}
 use Rattle.lls_search_file.specs.Printing.{word_text, posed_text}
+use Rattle.lls_search_file.proofs.Counting.{posed_of-counted}
 use Rattle.lls_search_file.proofs.Numbering.{numbers_lt}
 use Rattle.lls_search_file.proofs.Renumbering.{names_of-words_in, cells_said-words_in}
 use Rattle.lls_search_file.proofs.RowTexts.{line_of, are_spelled, rows_spelled, row_taken, lines_rows}
@@ -100,7 +102,7 @@ end_fits (suc rows) width (suc t) some =
 are_wide : ℕ → List (List Cell) → Bool
 are_wide width rows = list_all (λ row. eqb (length row) width) rows
 
-state : ℕ → ℕ → ℕ → ℕ → List Word → Rows
+state : ℕ → ℕ → ℕ → ℕ → List Word → Counts
 state height width t k words = record { shape = shape_at height width t k; words = words }
 
 one_row : (names : List (List ℕ)) (generations height width line t k : ℕ) (row : List Cell) (words : List Word) → Fits generations height width → t < generations → k < height
@@ -335,13 +337,13 @@ whole_file file posed =
       width_whole file.width file.generations posed.generations.0,
     ) refl
 
-at_start : (height width : ℕ) → shape_at height width 0 0 ≡ no_rows
+at_start : (height width : ℕ) → shape_at height width 0 0 ≡ no_shape
 unfolding shape_at width_after height_after
 at_start height width = let none : width * (height * 0 + 0) ≡ 0 = omega arith in rw none refl
 
 printed_read : (names : List (List ℕ)) (count height width : ℕ) (generations : List (List (List Cell))) → Fits count height width → length generations ≡ count → 1 ≤ count
     → are_whole height width generations ≡ true → generations_spelled names generations ≡ true
-    → and_then (lines_taken 1 (lines_of (printed names generations)) (record { shape = no_rows; words = [] })) at_end ≡ Ok (file_of (shape_at height width count 0) (words_of names generations))
+    → and_then (lines_taken 1 (lines_of (printed names generations)) (record { shape = no_shape; words = [] })) at_end ≡ Ok (file_of (shape_at height width count 0) (words_of names generations))
 unfolding state
 printed_read names count height width [] fits all some whole spelled = absurd (omega (arith, all, some))
 printed_read names count height width (first ∷ generations) fits all some whole spelled =
@@ -354,7 +356,6 @@ count_generations file = length-chunked file.height file.generations (chunked fi
 
 -- the text of a posed file is read as the file
 pub posed_of-posed_text : (file : PosedFile) → IsPosed file → posed_of (posed_text file) ≡ Ok file
-unfolding posed_of
 posed_of-posed_text file posed =
     let fits : Fits file.generations file.height file.width = record {
       generations_fit = posed.generations.1;
@@ -362,7 +363,8 @@ posed_of-posed_text file posed =
       width_fits = posed.width;
       most = omega (arith, posed.count, posed.most);
     } in
-    ap (λ text. and_then (lines_taken 1 (lines_of text) (record { shape = no_rows; words = [] })) at_end) (text_is_printed file) ∙
+    posed_of-counted (posed_text file) ∙
+    (ap (λ text. and_then (lines_taken 1 (lines_of text) (record { shape = no_shape; words = [] })) at_end) (text_is_printed file) ∙
     (printed_read file.names file.generations file.height file.width (generations_of file) fits (count_generations file) posed.generations.0 (whole_generations file posed) (spelled_generations file posed) ∙
     (ap (λ words. Ok (file_of (shape_at file.height file.width file.generations 0) words)) (words_of_generations file posed) ∙
-    ap Ok (whole_file file posed)))
+    ap Ok (whole_file file posed))))

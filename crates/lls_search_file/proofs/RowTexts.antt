@@ -8,7 +8,7 @@ use Rattle.lls_grid.specs.Text.{rows_text}
 use Rattle.lls_search_file.specs.declared.cell.Cell.{Cell}
 use Rattle.lls_search_file.specs.Lines.{cut_lines, lines_of, is_blank, is_comment, is_separator}
 use Rattle.lls_search_file.specs.Words.{is_solid, pieces_of, cells_read, cell_before, row_of, ascii_or, and_then}
-use Rattle.lls_search_file.specs.Reading.{Rows, line_taken, with_words}
+use Rattle.lls_search_file.specs.Counted.{Counts, line_taken, with_words}
 use Rattle.lls_search_file.specs.Kept.{word_in, words_in, is_spelled}
 use Rattle.lls_search_file.specs.Printing.{word_text}
 use Rattle.lls_search_file.proofs.Pieces.{word_then}
@@ -135,15 +135,15 @@ no_separator [] e = cc
 no_separator (b ∷ bytes) e = rw (not_blank b e) refl
 
 -- a printed row is taken with its words
-pub row_taken : (names : List (List ℕ)) (number : ℕ) (cells : List Cell) (rows : Rows) → 0 < length cells → are_spelled names cells ≡ true
-    → line_taken number (line_of names cells) rows ≡ with_words number rows (words_in names cells)
-row_taken names number [] rows some e = absurd (omega arith)
-row_taken names number (cell ∷ cells) rows some e =
+pub row_taken : (names : List (List ℕ)) (number : ℕ) (cells : List Cell) (counts : Counts) → 0 < length cells → are_spelled names cells ≡ true
+    → line_taken number (line_of names cells) counts ≡ with_words number counts (words_in names cells)
+row_taken names number [] counts some e = absurd (omega arith)
+row_taken names number (cell ∷ cells) counts some e =
     let line = line_of names (cell ∷ cells) in
     let begins = line_begins names cell cells (and_parts (is_spelled (word_in names cell)) (are_spelled names cells) e).0 in
     let read : row_of number line ≡ Ok (words_in names (cell ∷ cells)) =
     ap (λ place. ascii_or number place (cells_read number true (pieces_of 1 line))) (no_high line (line_bytes names (cell ∷ cells) e)) ∙ line_reads names number 1 true (cell ∷ cells) e in
-    rw (no_comment line begins, no_separator line begins) (ap (λ read. and_then read (with_words number rows)) read)
+    rw (no_comment line begins, no_separator line begins) (ap (λ read. and_then read (with_words number counts)) read)
 
 -- the lines of a text that begins with a printed row
 cut_row : (line rest : List ℕ) → list_all is_row_byte line ≡ true → cut_lines (line ++ 10 ∷ rest) ≡ line ∷ cut_lines rest

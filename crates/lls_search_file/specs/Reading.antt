@@ -1,12 +1,11 @@
 -- The reading of a search file: its value, or its first fault.
-use Rattle.std.specs.Prelude.{◌≡◌, ℕ, ◌+◌, ◌==◌, ◌&&◌, nat_lt, not, if◌then◌else◌, List, [], ◌∷◌, ◌++◌, length, map, filter, Option, None, Some, Result, Ok, Err}
+use Rattle.std.specs.Prelude.{◌≡◌, ℕ, ◌+◌, ◌==◌, nat_lt, Bool, not, if◌then◌else◌, List, [], ◌∷◌, ◌++◌, length, map, filter, flat_map, sum_by, slice_index_or, Option, None, Some, Result, Ok, Err}
 use Rattle.std.specs.List.{filter_map, position_or_len}
 use Rattle.lls_search_file.specs.declared.cell.Cell.{Cell}
 use Rattle.lls_search_file.specs.declared.cell.Kind.{Kind}
 use Rattle.lls_search_file.specs.declared.cell.Kind.TheVariants.{Dead, Live, Free, Named, Negated}
 use Rattle.lls_search_file.specs.declared.error.PosedError.{PosedError}
 use Rattle.lls_search_file.specs.declared.error.PosedError.TheVariants.{Empty, Ragged, Sizes, TooWide, TooHigh, TooMany, TooManyCells, Memory}
-use Rattle.lls_search_file.specs.declared.shape.Shape.{Shape}
 use Rattle.lls_search_file.specs.Posed.{PosedFile, same_text}
 use Rattle.lls_search_file.specs.Lines.{lines_of, is_comment, is_separator}
 use Rattle.lls_search_file.specs.Words.{Said, dead, live, free, named, negated, Word, and_then, row_of}
@@ -20,49 +19,91 @@ abbrev pub Gives : {X Y : Type 0} → (X → Y) → Result X PosedError → Resu
 Gives view (Ok x) read = read ≡ Ok (view x)
 Gives view (Err fault) read = Fails fault read
 
--- the sizes with one more row of that many cells, or why it doesn't fit
-abbrev pub with_row : ℕ → ℕ → Shape → Result Shape PosedError
-with_row line found s =
-    if nat_lt 64 found then Err (TooWide found) else
-    if s.rows == 0 && s.ended == 64 then Err (TooMany 65) else
-    if not (s.width == 0) && not (found == s.width) then Err (Ragged line s.width found) else
-    if s.ended == 0 && s.rows == 64 then Err (TooHigh 65) else
-    if not (s.ended == 0) && s.rows == s.height then Err (Sizes s.ended s.height (s.height + 1)) else
-    if nat_lt 8192 (s.cells + found) then Err (TooManyCells (s.cells + found)) else
-    Ok (record { width = found; height = s.height; ended = s.ended; rows = s.rows + 1; cells = s.cells + found })
+-- lists one behind another
+abbrev pub joined : {X : Type 0} → List (List X) → List X
+joined lists = flat_map (λ list. list) lists
 
--- the sizes where the open generation ends: each generation has as many rows as the first
-abbrev pub with_end : Shape → Result Shape PosedError
-with_end s =
-    if s.rows == 0 then Ok s else
-    if s.ended == 0 then Ok (record { width = s.width; height = s.rows; ended = 1; rows = 0; cells = s.cells }) else
-    if nat_lt s.rows s.height then Err (Sizes s.ended s.height s.rows) else
-    Ok (record { width = s.width; height = s.height; ended = s.ended + 1; rows = 0; cells = s.cells })
-
--- no row yet
-abbrev pub no_rows : Shape
-no_rows = record { width = 0; height = 0; ended = 0; rows = 0; cells = 0 }
-
--- what the lines so far have given: sizes, and the cells in order
+-- the rows so far, each the words of its cells: those of the generations that have ended, and those of the one that goes on
 pub record Rows : Type 0 where
-  pub shape : Shape
-  pub words : List Word
+  pub ended : List (List (List Word))
+  pub begun : List (List Word)
 
-abbrev pub with_words : ℕ → Rows → List Word → Result Rows PosedError
-with_words line rows words =
-    and_then (with_row line (length words) rows.shape) (λ shape. Ok (record { shape = shape; words = rows.words ++ words }))
+-- none yet
+abbrev pub no_rows : Rows
+no_rows = record { ended = []; begun = [] }
 
--- what one more line gives
-abbrev pub line_taken : ℕ → List ℕ → Rows → Result Rows PosedError
-line_taken number line rows =
+-- all rows in order
+abbrev pub all_rows : Rows → List (List Word)
+all_rows rows = joined rows.ended ++ rows.begun
+
+-- a fault where a test finds it
+abbrev pub fault_if : Bool → PosedError → Option PosedError
+fault_if bad fault = if bad then Some fault else None
+
+-- the first fault of a list, or the value where there is none
+abbrev pub unless_fault : {X : Type 0} → List (Option PosedError) → X → Result X PosedError
+unless_fault [] value = Ok value
+unless_fault (None ∷ faults) value = unless_fault faults value
+unless_fault (Some fault ∷ faults) value = Err fault
+
+-- a row of more than 64 words
+abbrev pub too_wide : List Word → Option PosedError
+too_wide row = fault_if (nat_lt 64 (length row)) (TooWide (length row))
+
+-- a row that begins a 65th generation
+abbrev pub too_many : List (List (List Word)) → List (List Word) → Option PosedError
+too_many ended [] = fault_if (length ended == 64) (TooMany 65)
+too_many ended (row ∷ rows) = None
+
+-- a row with another number of words than the first row of all
+abbrev pub ragged : ℕ → List (List Word) → List Word → Option PosedError
+ragged line [] row = None
+ragged line (first ∷ rows) row = fault_if (not (length row == length first)) (Ragged line (length first) (length row))
+
+-- one row too many for the generation that goes on: the 65th of the first, or one more than the first has
+abbrev pub too_high : List (List (List Word)) → List (List Word) → Option PosedError
+too_high [] begun = fault_if (length begun == 64) (TooHigh 65)
+too_high (first ∷ later) begun = fault_if (length begun == length first) (Sizes (length (first ∷ later)) (length first) (length first + 1))
+
+-- rows of more than 8,192 words together
+abbrev pub too_many_cells : List (List Word) → Option PosedError
+too_many_cells rows = fault_if (nat_lt 8192 (sum_by length rows)) (TooManyCells (sum_by length rows))
+
+-- what may be wrong with one more row, the first fault first
+abbrev pub row_faults : ℕ → Rows → List Word → List (Option PosedError)
+row_faults line rows row =
+    too_wide row ∷
+    too_many rows.ended rows.begun ∷
+    ragged line (all_rows rows) row ∷
+    too_high rows.ended rows.begun ∷
+    too_many_cells (all_rows rows ++ row ∷ []) ∷
+    []
+
+-- one more row, or its first fault
+abbrev pub row_added : ℕ → Rows → List Word → Result Rows PosedError
+row_added line rows row = unless_fault (row_faults line rows row) (record { ended = rows.ended; begun = rows.begun ++ row ∷ [] })
+
+-- a generation that ends with fewer rows than the first has
+abbrev pub too_low : List (List (List Word)) → List (List Word) → Option PosedError
+too_low [] rows = None
+too_low (first ∷ later) rows = fault_if (nat_lt (length rows) (length first)) (Sizes (length (first ∷ later)) (length first) (length rows))
+
+-- the generations, where the one that goes on ends, if any does
+abbrev pub generations_ended : List (List (List Word)) → List (List Word) → Result (List (List (List Word))) PosedError
+generations_ended ended [] = Ok ended
+generations_ended ended (row ∷ rows) = unless_fault (too_low ended (row ∷ rows) ∷ []) (ended ++ (row ∷ rows) ∷ [])
+
+-- one more line: a comment, a line that separates generations, or a row
+abbrev pub line_read : ℕ → List ℕ → Rows → Result Rows PosedError
+line_read number line rows =
     if is_comment line then Ok rows else
-    if is_separator line then and_then (with_end rows.shape) (λ shape. Ok (record { shape = shape; words = rows.words })) else
-    and_then (row_of number line) (with_words number rows)
+    if is_separator line then and_then (generations_ended rows.ended rows.begun) (λ ended. Ok (record { ended = ended; begun = [] })) else
+    and_then (row_of number line) (row_added number rows)
 
--- what the lines from a number on give
-abbrev pub lines_taken : ℕ → List (List ℕ) → Rows → Result Rows PosedError
-lines_taken number [] rows = Ok rows
-lines_taken number (line ∷ lines) rows = and_then (line_taken number line rows) (lines_taken (number + 1) lines)
+-- the rows after the lines from a number on
+abbrev pub lines_read : ℕ → List (List ℕ) → Rows → Result Rows PosedError
+lines_read number [] rows = Ok rows
+lines_read number (line ∷ lines) rows = and_then (line_read number line rows) (lines_read (number + 1) lines)
 
 -- the name that a word cites
 abbrev pub name_said : Said → Option (List ℕ)
@@ -91,20 +132,26 @@ kind_said names (negated name) = Negated (position_or_len (same_text name) names
 abbrev pub cell_said : List (List ℕ) → Word → Cell
 cell_said names word = record { mark = word.mark; kind = kind_said names word.says }
 
--- the file of these sizes and words
-abbrev pub file_of : Shape → List Word → PosedFile
-file_of shape words = record {
-  generations = shape.ended;
-  height = shape.height;
-  width = shape.width;
+-- the file of words in order, of these sizes
+abbrev pub file_sized : ℕ → ℕ → ℕ → List Word → PosedFile
+file_sized generations height width words = record {
+  generations = generations;
+  height = height;
+  width = width;
   cells = map (cell_said (names_of words)) words;
   names = names_of words;
 }
 
--- the end of the text ends the open generation
-abbrev pub at_end : Rows → Result PosedFile PosedError
-at_end rows = and_then (with_end rows.shape) (λ shape. if shape.ended == 0 then Err Empty else Ok (file_of shape rows.words))
+-- the file of generations: its height is that of the first one, its width that of the first row
+abbrev pub file_read : List (List (List Word)) → Result PosedFile PosedError
+file_read [] = Err Empty
+file_read (first ∷ later) =
+    Ok (file_sized (length (first ∷ later)) (length first) (length (slice_index_or first 0 [])) (joined (joined (first ∷ later))))
+
+-- the end of the text ends the generation that goes on
+abbrev pub end_read : Rows → Result PosedFile PosedError
+end_read rows = and_then (generations_ended rows.ended rows.begun) file_read
 
 -- the value of a search file, or its first fault
 unfoldable pub posed_of : List ℕ → Result PosedFile PosedError
-posed_of bytes = and_then (lines_taken 1 (lines_of bytes) (record { shape = no_rows; words = [] })) at_end
+posed_of bytes = and_then (lines_read 1 (lines_of bytes) no_rows) end_read

@@ -2,10 +2,11 @@
 ghost use Rattle.std.specs.Prelude.{◌≡◌, ◌<◌, ◌≤◌, true, false, length, map, OnOk};
 ghost use Rattle.std.specs.List.{list_all};
 ghost use Rattle.lls_search_file.specs.Lines.{is_separator};
-ghost use Rattle.lls_search_file.specs.Reading.{Gives, posed_of, line_taken, with_words, at_end};
+ghost use Rattle.lls_search_file.specs.Reading.{Gives, posed_of};
+ghost use Rattle.lls_search_file.specs.Counted.{line_taken, with_words, at_end};
 ghost use Rattle.lls_search_file.specs.Seen.{seen_word};
 ghost use Rattle.lls_search_file.specs.Kept.{is_spelled};
-ghost use Rattle.lls_search_file.specs.Reader.{rows_of, IsReader};
+ghost use Rattle.lls_search_file.specs.Reader.{counts_of, IsReader};
 
 use crate::lines::{first_line, is_comment, is_separator};
 use crate::names::{owned_names, push_words};
@@ -48,7 +49,7 @@ impl<'t> Reader<'t> {
     /// Reads one more line.
     fn take_line(&mut self, alloc: Global, number: u64, line: &'t [u8]) -> Result<(), PosedError>
         requires kept { IsReader self.old }
-        ensures rows { Gives (λ _. rows_of self.new) result (line_taken number line.entry.now (rows_of self.old)) }
+        ensures counts { Gives (λ _. counts_of self.new) result (line_taken number line.entry.now (counts_of self.old)) }
         ensures kept { OnOk result (IsReader self.new) }
     {
         if is_comment(line) {
@@ -67,7 +68,7 @@ impl<'t> Reader<'t> {
         requires kept { IsReader self.old }
         requires some { 1 ≤ length words.now }
         requires spelled { list_all is_spelled (map seen_word words.now) ≡ true }
-        ensures rows { Gives (λ _. rows_of self.new) result (with_words number (rows_of self.old) (map seen_word words.now)) }
+        ensures counts { Gives (λ _. counts_of self.new) result (with_words number (counts_of self.old) (map seen_word words.now)) }
         ensures kept { OnOk result (IsReader self.new) }
     {
         let shape = self.shape.with_row(number, words.len() as u64)?;
@@ -79,7 +80,7 @@ impl<'t> Reader<'t> {
     /// The file, where the text ends here.
     fn finish(self, alloc: Global) -> Result<Posed, PosedError>
         requires kept { IsReader self }
-        ensures { Gives (λ posed. posed) result (at_end (rows_of self.entry)) }
+        ensures { Gives (λ posed. posed) result (at_end (counts_of self.entry)) }
     {
         let Reader {
             shape,

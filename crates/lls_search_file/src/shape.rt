@@ -1,6 +1,6 @@
 // The sizes of the rows read so far.
 ghost use Rattle.std.specs.Prelude.{◌≡◌, ◌<◌, ◌≤◌, ◌^◌, ◌+◌, IfOk};
-ghost use Rattle.lls_search_file.specs.Reading.{with_row, with_end, no_rows};
+ghost use Rattle.lls_search_file.specs.Counted.{with_row, with_end};
 ghost use Rattle.lls_search_file.specs.Kept.{IsShape};
 
 use crate::PosedError;
