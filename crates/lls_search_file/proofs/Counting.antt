@@ -41,13 +41,14 @@ counts_in rows = record {
 abbrev counted : Result Rows PosedError → Result Counts PosedError
 counted read = and_then read (λ rows. Ok (counts_in rows))
 
--- the first of faults is the first of tests
-first_test : {X Y Z : Type 0} (fault_is : Option PosedError) (bad : Bool) (fault : PosedError) (faults : List (Option PosedError)) (value : X) (view : X → Result Z PosedError)
-    → (more : Result Y PosedError) (after : Y → Result Z PosedError) → fault_is ≡ fault_if bad fault → (bad ≡ false → and_then (unless_fault faults value) view ≡ and_then more after)
-    → and_then (unless_fault (fault_is ∷ faults) value) view ≡ and_then (cond bad (Err fault) more) after
-first_test fault_is true fault faults value view more after e rest = ap (λ o. and_then (unless_fault (o ∷ faults) value) view) e
-first_test fault_is false fault faults value view more after e rest = ap (λ o. and_then (unless_fault (o ∷ faults) value) view) e ∙ rest refl
+-- the first of faults is that of the first test that finds one
+first_test : {X Y Z : Type 0} (first : Option PosedError) (bad : Bool) (fault : PosedError) (faults : List (Option PosedError)) (value : X) (view : X → Result Z PosedError)
+    → (more : Result Y PosedError) (after : Y → Result Z PosedError) → first ≡ fault_if bad fault → (bad ≡ false → and_then (unless_fault faults value) view ≡ and_then more after)
+    → and_then (unless_fault (first ∷ faults) value) view ≡ and_then (cond bad (Err fault) more) after
+first_test first true fault faults value view more after e rest = ap (λ o. and_then (unless_fault (o ∷ faults) value) view) e
+first_test first false fault faults value view more after e rest = ap (λ o. and_then (unless_fault (o ∷ faults) value) view) e ∙ rest refl
 
+-- the faults of one more row by the tests of counters
 too_many-is : (ended : List (List (List Word))) (begun : List (List Word)) → too_many ended begun ≡ fault_if (eqb (length begun) 0 && eqb (length ended) 64) (TooMany 65)
 too_many-is ended [] = refl
 too_many-is ended (row ∷ rows) = let open_rows = ne_eqb (length (row ∷ rows)) 0 (λ same. absurd (omega (arith, same))) in rw open_rows refl
@@ -57,7 +58,15 @@ ragged-is : (line : ℕ) (rows : List (List Word)) (row : List Word) → IsFille
 ragged-is line [] row filled = refl
 ragged-is line (first ∷ rows) row filled = let some = ne_eqb (length first) 0 (λ same. absurd (omega (arith, same, filled))) in rw some refl
 
--- one more of lists, the first of which has that many elements
+too_high-is : (ended : List (List (List Word))) (begun : List (List Word)) (faults : List (Option PosedError)) (value : Rows)
+    → unless_fault (too_high ended begun ∷ faults) value
+    ≡ unless_fault (fault_if (eqb (length ended) 0 && eqb (length begun) 64) (TooHigh 65)
+    ∷ fault_if (not (eqb (length ended) 0) && eqb (length begun) (first_length ended)) (Sizes (length ended) (first_length ended) (first_length ended + 1)) ∷ faults) value
+too_high-is [] begun faults value =
+    elim (eqb (length begun) 64) as (λ v. unless_fault (fault_if v (TooHigh 65) ∷ faults) value ≡ unless_fault (fault_if v (TooHigh 65) ∷ None ∷ faults) value) [ true ↦ refl | false ↦ refl ]
+too_high-is (first ∷ later) begun faults value = let some = ne_eqb (length (first ∷ later)) 0 (λ same. absurd (omega (arith, same))) in rw some refl
+
+-- one more row, of the width of the first
 first_length-push : (rows : List (List Word)) (row : List Word) → IsFilled rows → (not (eqb (first_length rows) 0) && not (eqb (length row) (first_length rows))) ≡ false
     → first_length (rows ++ row ∷ []) ≡ length row
 first_length-push [] row filled fits = refl
@@ -85,37 +94,34 @@ counts_in-push ended begun row all all_is width =
     let more : length (begun ++ row ∷ []) ≡ length begun + 1 = length-append begun (row ∷ []) in
     rw (behind, width, more, sum_by_push length all row, joined-push all row) refl
 
--- a row too many, told by two tests
-too_high-is : (ended : List (List (List Word))) (begun : List (List Word)) (faults : List (Option PosedError)) (value : Rows)
-    → unless_fault (too_high ended begun ∷ faults) value
-    ≡ unless_fault (fault_if (eqb (length ended) 0 && eqb (length begun) 64) (TooHigh 65)
-    ∷ fault_if (not (eqb (length ended) 0) && eqb (length begun) (first_length ended)) (Sizes (length ended) (first_length ended) (first_length ended + 1)) ∷ faults) value
-too_high-is [] begun faults value =
-    elim (eqb (length begun) 64) as (λ v. unless_fault (fault_if v (TooHigh 65) ∷ faults) value ≡ unless_fault (fault_if v (TooHigh 65) ∷ None ∷ faults) value) [ true ↦ refl | false ↦ refl ]
-too_high-is (first ∷ later) begun faults value = let some = ne_eqb (length (first ∷ later)) 0 (λ same. absurd (omega (arith, same))) in rw some refl
-
 -- one more row is counted
 row_added-counted : (line : ℕ) (rows : Rows) (row : List Word) → IsFilled (all_rows rows) → counted (row_added line rows row) ≡ with_words line (counts_in rows) row
 row_added-counted line rows row filled =
     let ended = rows.ended in
     let begun = rows.begun in
     let all = all_rows rows in
+    let width = first_length all in
+    let height = first_length ended in
     let found = length row in
-    let cells = sum_by length all in
+    let total = sum_by length all + found in
+    let new = eqb (length begun) 0 && eqb (length ended) 64 in
+    let other = not (eqb width 0) && not (eqb found width) in
+    let high = eqb (length ended) 0 && eqb (length begun) 64 in
+    let higher = not (eqb (length ended) 0) && eqb (length begun) height in
+    let sizes : PosedError = Sizes (length ended) height (height + 1) in
+    let cells = too_many_cells (all ++ row ∷ []) in
+    let cells_is : cells ≡ fault_if (ltb 8192 total) (TooManyCells total) = ap (λ n. fault_if (ltb 8192 n) (TooManyCells n)) (sum_by_push length all row) in
     let value : Rows = record { ended = ended; begun = begun ++ row ∷ [] } in
     let view : Rows → Result Counts PosedError = λ rows. Ok (counts_in rows) in
-    let high = too_high ended begun in
-    let many = too_many_cells (all ++ row ∷ []) in
-    let many_is : many ≡ fault_if (ltb 8192 (cells + found)) (TooManyCells (cells + found)) = ap (λ n. fault_if (ltb 8192 n) (TooManyCells n)) (sum_by_push length all row) in
-    first_test (too_wide row) (ltb 64 found) (TooWide found) (too_many ended begun ∷ ragged line all row ∷ high ∷ many ∷ []) value view _ _ refl (λ _.
-    first_test (too_many ended begun) (eqb (length begun) 0 && eqb (length ended) 64) (TooMany 65) (ragged line all row ∷ high ∷ many ∷ []) value view _ _ (too_many-is ended begun) (λ _.
-    first_test (ragged line all row) (not (eqb (first_length all) 0) && not (eqb found (first_length all))) (Ragged line (first_length all) found) (high ∷ many ∷ []) value view _ _ (ragged-is line all row filled) (λ fits.
-    ap (λ read. and_then read view) (too_high-is ended begun (many ∷ []) value) ∙
-    first_test (fault_if (eqb (length ended) 0 && eqb (length begun) 64) (TooHigh 65)) (eqb (length ended) 0 && eqb (length begun) 64) (TooHigh 65)
-    (fault_if (not (eqb (length ended) 0) && eqb (length begun) (first_length ended)) (Sizes (length ended) (first_length ended) (first_length ended + 1)) ∷ many ∷ []) value view _ _ refl (λ _.
-    first_test (fault_if (not (eqb (length ended) 0) && eqb (length begun) (first_length ended)) (Sizes (length ended) (first_length ended) (first_length ended + 1)))
-    (not (eqb (length ended) 0) && eqb (length begun) (first_length ended)) (Sizes (length ended) (first_length ended) (first_length ended + 1)) (many ∷ []) value view _ _ refl (λ _.
-    first_test many (ltb 8192 (cells + found)) (TooManyCells (cells + found)) [] value view _ _ many_is (λ _. ap Ok (counts_in-push ended begun row all refl (first_length-push all row filled fits))))))))
+    let behind = too_high ended begun ∷ cells ∷ [] in
+    first_test (too_wide row) (ltb 64 found) (TooWide found) (too_many ended begun ∷ ragged line all row ∷ behind) value view _ _ refl (λ _.
+    first_test (too_many ended begun) new (TooMany 65) (ragged line all row ∷ behind) value view _ _ (too_many-is ended begun) (λ _.
+    first_test (ragged line all row) other (Ragged line width found) behind value view _ _ (ragged-is line all row filled) (λ fits.
+    ap (λ read. and_then read view) (too_high-is ended begun (cells ∷ []) value) ∙
+    first_test (fault_if high (TooHigh 65)) high (TooHigh 65) (fault_if higher sizes ∷ cells ∷ []) value view _ _ refl (λ _.
+    first_test (fault_if higher sizes) higher sizes (cells ∷ []) value view _ _ refl (λ _.
+    first_test cells (ltb 8192 total) (TooManyCells total) [] value view _ _ cells_is (λ _.
+    ap Ok (counts_in-push ended begun row all refl (first_length-push all row filled fits))))))))
 
 -- what is counted with one more generation, which has ended
 counts_in-ended : (ended : List (List (List Word))) (begun : List (List Word))
