@@ -70,26 +70,6 @@ pub fn first_misfit(problem: &Problem, history: &History) -> Option<GridPlace>
     None
 }
 
-/// The number of a cell's name, where it has one.
-fn name_number(kind: Kind) -> Option<u32>
-    ensures { result ≡ name_of kind }
-{
-    match kind {
-        Kind::Named(name) | Kind::Negated(name) => Some(name),
-        Kind::Dead | Kind::Live | Kind::Free => None,
-    }
-}
-
-/// Whether a cell has that name.
-fn has_name(kind: Kind, name: u32) -> bool
-    ensures { IsTrue result ↔ (name_of kind ≡ Some name) }
-{
-    match kind {
-        Kind::Named(own) | Kind::Negated(own) => own == name,
-        Kind::Dead | Kind::Live | Kind::Free => false,
-    }
-}
-
 /// The first cell that has the name of the kth.
 fn first_of_name(cells: &[Cell], name: u32, k: usize) -> usize
     requires cell { k < length cells.now }
@@ -97,7 +77,7 @@ fn first_of_name(cells: &[Cell], name: u32, k: usize) -> usize
     ensures { IsFirstOfName cells.now name result }
 {
     for j in 0..k {
-        if has_name(cells[j].kind, name) {
+        if cells[j].kind.name() == Some(name) {
             return j;
         }
     }
@@ -122,7 +102,7 @@ fn agrees(problem: &Problem, history: &History, k: usize) -> bool
 {
     let cells = problem.posed().cells.items();
     let kind = cells[k].kind;
-    let Some(name) = name_number(kind) else {
+    let Some(name) = kind.name() else {
         return true;
     };
     let first = first_of_name(cells, name, k);

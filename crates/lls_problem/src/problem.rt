@@ -1,8 +1,10 @@
 // A problem.
-ghost use Rattle.std.specs.Prelude.{◌≡◌, Ok, Err};
+ghost use Rattle.std.specs.Prelude.{◌≡◌, ◌<◌, length, Ok, Err};
 ghost use Rattle.lls_search_file.specs.Posed.{IsPosed};
+ghost use Rattle.lls_problem.specs.Solution.{is_marked, place_of};
 
 use crate::{DemandError, Demands};
+use lls_grid::index_within;
 use lls_rule::Rule;
 use lls_search_file::Posed;
 use std::marker::Model;
@@ -42,6 +44,30 @@ impl Problem {
         let posed = &self.posed;
         let _ = &posed.generations;
         posed
+    }
+
+    /// Where the cell of generation t, row y and column x stands in the order generation, row, column.
+    pub fn cell_index(&self, t: u32, y: u32, x: u32) -> usize
+        requires generation { t < self.now.posed.generations }
+        requires row { y < self.now.posed.height }
+        requires column { x < self.now.posed.width }
+        ensures place { result ≡ place_of self.now.posed t y x }
+        ensures within { result < length self.now.posed.cells }
+    {
+        let posed = self.posed();
+        (x + posed.width * (y + posed.height * t)) as usize
+    }
+
+    /// Whether a place is a marked cell of generation t. Rows and columns count from those of the grid.
+    pub fn is_marked(&self, t: u32, y: i32, x: i32) -> bool
+        requires { t < self.now.posed.generations }
+        ensures { result ≡ is_marked self.now.posed t y x }
+    {
+        let posed = self.posed();
+        match (index_within(y, posed.height), index_within(x, posed.width)) {
+            (Some(row), Some(column)) => posed.cells.items()[self.cell_index(t, row, column)].mark,
+            _ => false,
+        }
     }
 
     pub fn rule(&self) -> &Rule

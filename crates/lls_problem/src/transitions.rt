@@ -1,12 +1,11 @@
 // The first transition of a history that doesn't obey the rule.
 ghost use Rattle.std.specs.Prelude.{◌≡◌, ◌<◌, ◌≤◌, ◌+◌, ℕ, ℤ, pos, negsuc, ◌-ℤ◌, ◌≤ℤ◌, length, false, true, IsTrue, ◌↔◌, MatchOption, MatchBool};
-ghost use Rattle.lls_problem.specs.Solution.{IsFramed, is_marked, place_of, Obeys};
+ghost use Rattle.lls_problem.specs.Solution.{IsFramed, Obeys};
 ghost use Rattle.lls_problem.specs.Judgement.{HasItsSizes, IsFirstTransition};
 ghost use Rattle.lls_problem.specs.Transitions.{side, KeepsRule, BreaksRule, KeepsLine, BreaksLine, KeepsGeneration, BreaksGeneration};
 
 use crate::{Edge, Problem};
-use lls_grid::{History, index_within};
-use lls_search_file::Posed;
+use lls_grid::History;
 
 /// A place of a generation: a line and a column of the grid or of the ring round it, counted from those before the grid.
 #[derive(Clone, Copy)]
@@ -37,30 +36,6 @@ fn is_framed(edge: Edge, height: u32, width: u32, line: u32, column: u32) -> boo
     }
 }
 
-/// The number of a cell in the order generation, row, column.
-fn cell_number(posed: &Posed, t: u32, y: u32, x: u32) -> usize
-    requires generation { t < posed.now.generations }
-    requires row { y < posed.now.height }
-    requires column { x < posed.now.width }
-    ensures number { result ≡ place_of posed.now t y x }
-    ensures within { result < length posed.now.cells }
-{
-    (x + posed.width * (y + posed.height * t)) as usize
-}
-
-/// Whether a place is a marked cell of generation t.
-fn is_marked(posed: &Posed, t: u32, y: i32, x: i32) -> bool
-    requires { t < posed.now.generations }
-    ensures { result ≡ is_marked posed.now t y x }
-{
-    match (index_within(y, posed.height), index_within(x, posed.width)) {
-        (Some(row), Some(column)) => {
-            posed.cells.items()[cell_number(posed, t, row, column)].mark
-        }
-        _ => false,
-    }
-}
-
 /// Whether the transition into a place of generation t obeys the rule, where it has to.
 fn keeps_rule(problem: &Problem, history: &History, t: u32, line: u32, column: u32) -> bool
     requires sizes { HasItsSizes problem.now history.now }
@@ -82,7 +57,7 @@ fn keeps_rule(problem: &Problem, history: &History, t: u32, line: u32, column: u
     }
     let y = line as i32 - 1;
     let x = column as i32 - 1;
-    if is_marked(posed, t, y, x) {
+    if problem.is_marked(t, y, x) {
         return true;
     }
     let rule = problem.rule();

@@ -18,6 +18,20 @@ pub enum Kind {
     Negated(u32),
 }
 
+impl Kind {
+    ghost use Rattle.lls_search_file.specs.Posed.{name_of};
+
+    /// The number of the cell's name, where it has one.
+    pub fn name(self) -> Option<u32>
+        ensures { result ≡ name_of self }
+    {
+        match self {
+            Kind::Named(name) | Kind::Negated(name) => Some(name),
+            Kind::Dead | Kind::Live | Kind::Free => None,
+        }
+    }
+}
+
 /// A cell of a search file.
 #[derive(Clone, Copy, Debug, PartialEq, Eq)]
 pub struct Cell {
