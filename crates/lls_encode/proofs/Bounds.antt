@@ -1,8 +1,7 @@
 -- How many clauses each part has at most.
-use Rattle.std.proofs.Common.{◌≡◌, ◌<◌, ◌≤◌, ℕ, ◌+◌, ◌*◌, ◌/◌, ℤ, pos, ◌-ℤ◌, Bool, true, false, List, [], ◌∷◌, map, length, refl, sym, ap, ◌∙◌, arith, cond, Option, None, Some, eqb}
+use Rattle.std.proofs.Common.{◌≡◌, ◌≤◌, ℕ, ◌+◌, ◌*◌, ℤ, pos, ◌-ℤ◌, Bool, true, false, List, [], length, refl, arith, cond, Option, None, Some}
 use Rattle.std.specs.Option.{option_to_list}
-use Rattle.std.specs.List.{flat_map, range_with_len}
-use Rattle.std.specs.Int.{bit_at}
+use Rattle.std.specs.List.{flat_map}
 use Rattle.lls_lit.specs.Formula.{Clause}
 use Rattle.lls_search_file.specs.declared.cell.Kind.{Kind}
 use Rattle.lls_search_file.specs.declared.cell.Kind.TheVariants.{Dead, Live, Free, Named, Negated}

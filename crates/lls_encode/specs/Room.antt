@@ -1,5 +1,5 @@
 -- What the maker of the formula does to it, step by step, and how much room it needs.
-use Rattle.std.specs.Prelude.{◌≡◌, ℕ, ◌+◌, ◌≤◌, List, ◌++◌, length}
+use Rattle.std.specs.Prelude.{ℕ, ◌+◌, ◌≤◌, List, ◌++◌, length}
 use Rattle.lls_lit.specs.Formula.{Clause, Cnf}
 
 -- the formula with these clauses at its end

@@ -1,4 +1,4 @@
-use Rattle.std.proofs.Common.{◌≡◌, ◌+◌, ◌∙◌, ap, arith, sym, length, subst, IfSome, ◌<◌, ℕ}
+use Rattle.std.proofs.Common.{◌≡◌, ◌+◌, ◌∙◌, ap, arith, sym, length, subst, IfSome, ◌<◌}
 use Rattle.std.proofs.lemmas.List.FromFn.{length-map-range_with_len}
 use Rattle.lls_search_file.specs.Posed.{name_of}
 use Rattle.lls_problem.specs.Solution.{cell_number}

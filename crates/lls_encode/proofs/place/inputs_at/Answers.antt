@@ -1,5 +1,5 @@
 -- The ten calls are at the places of the definition.
-use Rattle.std.proofs.Common.{◌≡◌, ◌∷◌, arith, w32, to_z-of_z, pos, ◌+ℤ◌, ◌-ℤ◌, rules, FitsSigned, ap}
+use Rattle.std.proofs.Common.{w32, to_z-of_z, pos, ◌+ℤ◌, ◌-ℤ◌, rules, FitsSigned}
 use Rattle.lls_encode.proofs.place.inputs_at.Goals as goal
 
 pub returns-clause-inputs : goal.returns-clause-inputs

@@ -1,4 +1,3 @@
-use Rattle.std.proofs.Common.{◌≡◌, sym, ap, ◌∙◌, arith}
 use Rattle.lls_encode.proofs.Rows.{differs-stops, differs-passes, differs-adds}
 use Rattle.lls_encode.proofs.transition.differs.Goals as goal
 use Rattle.lls_encode.proofs.transition.differs.Goals.{in-Known+else-value-bit, in-Of+in_ok-push-in-Of}

@@ -1,4 +1,4 @@
-use Rattle.std.proofs.Common.{ℕ, List, ◌≡◌, ◌≤◌, ◌<◌, ◌+◌, ◌∙◌, arith, pos, ◌-ℤ◌, ap, sym}
+use Rattle.std.proofs.Common.{ℕ, List, ◌≡◌, ◌+◌, ◌∙◌, arith, pos, ◌-ℤ◌, ap, sym}
 use Rattle.std.specs.List.{flat_map, range_with_len}
 use Rattle.lls_encode.specs.Formula.{place_clauses, framed_count, first_framed}
 use Rattle.lls_encode.specs.Room.{with_clauses}

@@ -1,6 +1,5 @@
-use Rattle.std.proofs.Common.{◌≡◌, Some, sym, ap, ◌∙◌, arith, cond, None, Option}
+use Rattle.std.proofs.Common.{Some, sym, ap, ◌∙◌, cond, None, Option}
 use Rattle.lls_lit.specs.Formula.{Clause}
-use Rattle.lls_encode.specs.Place.{differs}
 use Rattle.lls_encode.specs.Formula.{row_bits}
 use Rattle.lls_encode.proofs.Rows.{is_within-differs}
 use Rattle.lls_encode.proofs.transition.push_row.Goals as goal

@@ -1,6 +1,6 @@
-use Rattle.std.proofs.Common.{◌≡◌, ◌∙◌, ◌<◌, arith, refl, true, ap}
+use Rattle.std.proofs.Common.{◌≡◌, ◌∙◌, arith, ap}
 use Rattle.std.specs.List.{flat_map, range_with_len}
-use Rattle.lls_encode.specs.Formula.{row_clauses, transition_clauses, row_count}
+use Rattle.lls_encode.specs.Formula.{row_clauses, row_count}
 use Rattle.lls_encode.specs.Room.{with_clauses}
 use Rattle.lls_encode.proofs.Steps.{pushed_more, HasRoom-after}
 use Rattle.lls_encode.proofs.Bounds.{length-row_clauses, row_count-is}
