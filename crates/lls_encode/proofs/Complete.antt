@@ -1,22 +1,18 @@
 -- The cells of every solution satisfy the formula.
-use Rattle.std.proofs.Common.{◌≡◌, ◌<◌, ◌≤◌, ℕ, zero, suc, ◌+◌, ◌-◌, ◌*◌, ℤ, pos, negsuc, ◌+ℤ◌, ◌-ℤ◌, ◌≤ℤ◌, ◌<ℤ◌, Bool, true, false, not, ◌&&◌, ◌||◌, cond, List, [], ◌∷◌, ◌++◌, map, length, refl, sym, ap, ◌∙◌, subst, arith, Option, None, Some, get_or, ◌==◌, eqb, add-one, length-append}
+use Rattle.std.proofs.Common.{◌≡◌, ◌<◌, ◌≤◌, ℕ, suc, ◌+◌, ◌-◌, ◌*◌, ℤ, pos, ◌-ℤ◌, Bool, true, false, not, ◌&&◌, ◌||◌, cond, List, [], ◌∷◌, ◌++◌, length, refl, sym, ap, ◌∙◌, subst, arith, Option, None, Some, get_or, ◌==◌, add-one, length-append}
 use Rattle.std.specs.Option.{option_map_or}
-use Rattle.std.specs.List.{list_all, list_any, flat_map, range_with_len, position_from}
-use Rattle.std.proofs.lemmas.Bool.{and_parts, and_from, eqb-true}
-use Rattle.std.proofs.lemmas.Int.{ints}
+use Rattle.std.specs.List.{flat_map, position_from}
+use Rattle.std.proofs.lemmas.Bool.{and_from, eqb-true}
 use Rattle.std.proofs.lemmas.List.Folds.{list_all-append}
-use Rattle.lls_lit.specs.Literal.{negation}
-use Rattle.lls_lit.specs.Formula.{Clause, is_true, value_at, satisfies_clause, satisfies, IsUnsatisfiable, Cnf}
-use Rattle.lls_rule.specs.Rule.{successor}
-use Rattle.lls_grid.specs.History.{History, HasSizes, at, nine, cells_of}
+use Rattle.lls_lit.specs.Formula.{Clause, is_true, satisfies_clause, satisfies, IsUnsatisfiable, Cnf}
+use Rattle.lls_grid.specs.History.{History, cells_of}
 use Rattle.lls_search_file.specs.declared.cell.Cell.{Cell}
 use Rattle.lls_search_file.specs.declared.cell.Kind.{Kind}
 use Rattle.lls_search_file.specs.declared.cell.Kind.TheVariants.{Dead, Live, Free, Named, Negated}
 use Rattle.lls_search_file.specs.Posed.{name_of, IsPosed}
 use Rattle.lls_problem.specs.declared.demands.Edge.{Edge}
-use Rattle.lls_problem.specs.declared.demands.Edge.TheVariants.{Framed, Bare}
 use Rattle.lls_problem.specs.Problem.{PosedProblem}
-use Rattle.lls_problem.specs.Solution.{cell_number, HasItsBit, AreTied, MeetsCells, IsFramed, is_marked, Obeys, IsSolution, IsAbsent}
+use Rattle.lls_problem.specs.Solution.{cell_number, HasItsBit, AreTied, MeetsCells, IsFramed, is_marked, IsSolution, IsAbsent}
 use Rattle.lls_encode.specs.Place.{inputs_at}
 use Rattle.lls_encode.specs.Formula.{fixed_clauses, same, name_literal, has_name, tied_to, name_clauses, transition_clauses, first_framed, framed_count, framed, place_clauses, line_clauses, generation_clauses, fixed_part, name_part, transition_part, formula_of}
 use Rattle.lls_grid.proofs.InOrder.{length-cells_of}
@@ -24,13 +20,10 @@ use Rattle.lls_encode.specs.Room.{with_clauses, HasRoom}
 use Rattle.lls_encode.proofs.Steps.{flat_map-map, length-flat_map_most}
 use Rattle.lls_encode.proofs.Bounds.{length-fixed_clauses}
 use Rattle.lls_encode.proofs.Firsts.{length-name_clauses}
-use Rattle.lls_encode.proofs.Satisfied.{satisfies-range, is_true-negation, is_literal, or_left, or_right}
+use Rattle.lls_encode.proofs.Framed.{IsFramedLine, framed_place, framed_both}
+use Rattle.lls_encode.proofs.Values.{is_true-cell}
+use Rattle.lls_encode.proofs.Satisfied.{satisfies-range, is_true-negation, is_literal, or_left}
 use Rattle.lls_encode.proofs.Forbidden.{satisfies-transition_clauses}
-
--- the line of a framed place
-abbrev IsFramedLine : Edge → ℕ → ℤ → Type 0
-IsFramedLine Framed size y = (negsuc 0 ≤ℤ y) × (y ≤ℤ pos size)
-IsFramedLine Bare size y = (pos 0 ≤ℤ y) × (y <ℤ pos size)
 
 not_not : (b : Bool) → not (not b) ≡ b
 not_not true = refl
@@ -45,12 +38,9 @@ named None n e = cc
 named (Some m) n e = ap Some (eqb-true m n e)
 
 -- a fixed cell's clause
-is_true-var : (values : List Bool) (k : ℕ) → is_true values (pos (k + 1)) ≡ get_or values k false
-is_true-var values k = rw add-one refl
-
 satisfies-fixed_clauses : (values : List Bool) (k : ℕ) (kind : Kind) → HasItsBit kind (get_or values k false) → satisfies values (fixed_clauses k kind) ≡ true
 satisfies-fixed_clauses values k Dead bit = and_from _ _ (or_left _ _ (ap not bit)) refl
-satisfies-fixed_clauses values k Live bit = and_from _ _ (or_left _ _ (is_true-var values k ∙ bit)) refl
+satisfies-fixed_clauses values k Live bit = and_from _ _ (or_left _ _ (is_true-cell values k ∙ bit)) refl
 satisfies-fixed_clauses values k Free bit = refl
 satisfies-fixed_clauses values k (Named n) bit = refl
 satisfies-fixed_clauses values k (Negated n) bit = refl
@@ -66,7 +56,7 @@ satisfies-same : (values : List Bool) (a b : ℤ) → is_literal a ≡ true → 
 satisfies-same values a b a_lit b_lit e =
     rw (is_true-negation values a a_lit, is_true-negation values b b_lit) (agree (is_true values a) (is_true values b) e)
 
-name_literal_is : (k : ℕ) (kind : Kind) → is_literal (name_literal k kind) ≡ true
+pub name_literal_is : (k : ℕ) (kind : Kind) → is_literal (name_literal k kind) ≡ true
 name_literal_is k Dead = rw add-one refl
 name_literal_is k Live = rw add-one refl
 name_literal_is k Free = rw add-one refl
@@ -85,9 +75,9 @@ names_agree values j k n (Named m) Free e e' tied = cc
 names_agree values j k n (Negated m) Dead e e' tied = cc
 names_agree values j k n (Negated m) Live e e' tied = cc
 names_agree values j k n (Negated m) Free e e' tied = cc
-names_agree values j k n (Named m) (Named m') e e' tied = let one : m ≡ m' = cc in is_true-var values j ∙ tied one ∙ sym (is_true-var values k)
-names_agree values j k n (Named m) (Negated m') e e' tied = let one : m ≡ m' = cc in is_true-var values j ∙ tied one
-names_agree values j k n (Negated m) (Named m') e e' tied = let one : m ≡ m' = cc in ap not (tied one) ∙ not_not (get_or values k false) ∙ sym (is_true-var values k)
+names_agree values j k n (Named m) (Named m') e e' tied = let one : m ≡ m' = cc in is_true-cell values j ∙ tied one ∙ sym (is_true-cell values k)
+names_agree values j k n (Named m) (Negated m') e e' tied = let one : m ≡ m' = cc in is_true-cell values j ∙ tied one
+names_agree values j k n (Negated m) (Named m') e e' tied = let one : m ≡ m' = cc in ap not (tied one) ∙ not_not (get_or values k false) ∙ sym (is_true-cell values k)
 names_agree values j k n (Negated m) (Negated m') e e' tied = let one : m ≡ m' = cc in ap not (tied one)
 
 -- what the first place of a name is
@@ -119,15 +109,6 @@ satisfies-name_clauses : (values : List Bool) (cells : List Cell) → MeetsCells
     → satisfies values (option_map_or (λ n. tied_to cells k (position_from (has_name n) 0 cells)) o []) ≡ true
 satisfies-name_clauses values cells meets k k_in None named = refl
 satisfies-name_clauses values cells meets k k_in (Some n) named = satisfies-tied_to values cells meets k n k_in named (position_from (has_name n) 0 cells) refl
-
--- a line of the range of framed places is framed
-framed_place : (edge : Edge) (size k : ℕ) → first_framed edge ≤ k → k < first_framed edge + framed_count edge size → IsFramedLine edge size (pos k -ℤ pos 1)
-framed_place Framed size k low high = (omega (arith, ints), omega (arith, ints))
-framed_place Bare size k low high = (omega (arith, ints), omega (arith, ints))
-
-framed_both : (edge : Edge) (height width : ℕ) (y x : ℤ) → IsFramedLine edge height y → IsFramedLine edge width x → IsFramed edge height width y x
-framed_both Framed height width y x line column = (line.0, line.1, column.0, column.1)
-framed_both Bare height width y x line column = (line.0, line.1, column.0, column.1)
 
 satisfies-place_clauses : (p : PosedProblem) (h : History) → IsSolution p h → (t : ℕ) (y x : ℤ) → t + 1 < p.posed.generations
     → IsFramed p.demands.edge p.posed.height p.posed.width y x → (b : Bool) → is_marked p.posed (t + 1) y x ≡ b → satisfies (cells_of h) (cond b [] (transition_clauses p.rule (inputs_at p t y x))) ≡ true

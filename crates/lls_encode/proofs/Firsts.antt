@@ -1,5 +1,5 @@
 -- The first cells of the names, one cell more.
-use Rattle.std.proofs.Common.{◌≡◌, ◌≢◌, ◌<◌, ◌≤◌, ℕ, zero, suc, ◌+◌, ◌-◌, ℤ, pos, negsuc, Bool, true, false, ◌&&◌, cond, leb, ltb, replicate, IfSome, List, [], ◌∷◌, ◌++◌, map, length, take, drop, set, refl, sym, ap, ◌∙◌, subst, arith, Option, None, Some, get_or, ◌==◌, eqb, add-one, length-append, drop-cons}
+use Rattle.std.proofs.Common.{◌≡◌, ◌≢◌, ◌<◌, ◌≤◌, ℕ, zero, suc, ◌+◌, ℤ, Bool, true, false, ◌&&◌, cond, leb, ltb, replicate, IfSome, List, [], ◌∷◌, ◌++◌, map, length, take, drop, set, refl, sym, ap, ◌∙◌, subst, arith, Option, None, Some, get_or, ◌==◌, eqb, drop-cons}
 use Rattle.std.specs.Option.{option_map, option_map_or}
 use Rattle.std.specs.List.{range_with_len, position_from}
 use Rattle.std.proofs.lemmas.List.{take_more, get_or-set_same, get_or-set_other}
@@ -9,7 +9,6 @@ use Rattle.std.proofs.lemmas.Bool.{eqb-true, eq-eqb, and_from, le-leb, ltb-true}
 use Rattle.lls_search_file.specs.Posed.{are_numbered, names_after}
 use Rattle.std.proofs.lemmas.List.FromFn.{get_or-map-range_with_len, length-map-range_with_len, fill_by_all}
 use Rattle.lls_lit.specs.Literal.{variable_of}
-use Rattle.lls_lit.specs.Formula.{Clause}
 use Rattle.lls_search_file.specs.declared.cell.Cell.{Cell}
 use Rattle.lls_search_file.specs.declared.cell.Kind.{Kind}
 use Rattle.lls_search_file.specs.declared.cell.Kind.TheVariants.{Dead, Live, Free, Named, Negated}
@@ -19,7 +18,7 @@ use Rattle.lls_encode.specs.Formula.{same, has_name, name_literal, tied_to, name
 use Rattle.lls_encode.specs.Names.{first_literal, first_literals}
 
 -- the first place in one list, else in the next
-abbrev or_else : Option ℕ → Option ℕ → Option ℕ
+abbrev pub or_else : Option ℕ → Option ℕ → Option ℕ
 or_else (Some i) later = Some i
 or_else None later = later
 
@@ -79,7 +78,7 @@ position_more cells k n k_in =
     ∙ ap (λ at. or_else (position_from (has_name n) 0 (take k cells)) (cond (has_name n (cell_number cells k)) (Some at) None)) (omega (arith, len))
 
 -- the first place among all cells
-position_all : (cells : List Cell) (k n : ℕ) → k < length cells → has_name n (cell_number cells k) ≡ true
+pub position_all : (cells : List Cell) (k n : ℕ) → k < length cells → has_name n (cell_number cells k) ≡ true
     → position_from (has_name n) 0 cells ≡ or_else (position_from (has_name n) 0 (take k cells)) (Some k)
 position_all cells k n k_in here =
     let len : length (take k cells) ≡ k = length-take_within k cells (omega arith) in
@@ -89,7 +88,7 @@ position_all cells k n k_in here =
     ∙ ap (or_else (position_from (has_name n) 0 (take k cells)))
     (rw (at, drop-cons cells k (record { mark = false; kind = Dead })) (ap (λ b. cond b (Some k) (position_from (has_name n) (k + 1) (drop (suc k) cells))) here))
 
-has_own_name : (n : ℕ) (cell : Cell) → name_of cell.kind ≡ Some n → has_name n cell ≡ true
+pub has_own_name : (n : ℕ) (cell : Cell) → name_of cell.kind ≡ Some n → has_name n cell ≡ true
 has_own_name n cell e = ap (λ o. option_map_or (λ m. m == n) o false) e ∙ eq-eqb n n refl
 
 has_no_name : (m : ℕ) (cell : Cell) → name_of cell.kind ≡ None → has_name m cell ≡ false

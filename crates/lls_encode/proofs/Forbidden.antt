@@ -1,17 +1,15 @@
 -- No solution's transition stands in a forbidden row.
-use Rattle.std.proofs.Common.{◌≡◌, ◌<◌, ◌≤◌, ℕ, zero, suc, ◌+◌, ◌-◌, ◌*◌, ◌/◌, ℤ, pos, negsuc, ◌+ℤ◌, ◌-ℤ◌, Bool, true, false, not, ◌&&◌, cond, List, [], ◌∷◌, ◌++◌, map, length, take, refl, sym, ap, ◌∙◌, subst, arith, Option, None, Some, get_or, ◌==◌, eqb, add-one}
+use Rattle.std.proofs.Common.{◌≡◌, ◌<◌, ◌≤◌, ℕ, zero, suc, ◌+◌, ◌-◌, ◌/◌, ℤ, pos, ◌+ℤ◌, ◌-ℤ◌, Bool, true, false, cond, List, [], map, take, refl, sym, ap, ◌∙◌, subst, arith, Option, None, Some, get_or, ◌==◌, eqb, add-one}
 use Rattle.std.proofs.lemmas.Bool.Decides.{nat_tests}
 use Rattle.std.specs.Option.{option_to_list}
-use Rattle.std.specs.List.{list_all, flat_map, range_with_len}
+use Rattle.std.specs.List.{list_all, range_with_len}
 use Rattle.std.specs.Int.{bit_at}
 use Rattle.std.proofs.lemmas.Bool.{and_parts, and_from, eqb-true}
 use Rattle.lls_lit.specs.Formula.{Clause, satisfies_clause, satisfies}
 use Rattle.lls_rule.specs.Rule.{answer, successor, number_of}
-use Rattle.lls_grid.specs.History.{History, HasSizes, at, three, nine, cells_of}
+use Rattle.lls_grid.specs.History.{History, HasSizes, at, nine, cells_of}
 use Rattle.lls_problem.specs.Problem.{PosedProblem}
-use Rattle.lls_encode.specs.declared.place.Place.{Place}
-use Rattle.lls_encode.specs.declared.place.Place.TheVariants.{Known, Of}
-use Rattle.lls_encode.specs.Place.{differs, place_at, place_in, three_places, inputs_at}
+use Rattle.lls_encode.specs.Place.{differs, place_at, place_in, inputs_at}
 use Rattle.lls_encode.specs.Formula.{row_bits, is_forbidden, row_clauses, row_count, transition_clauses}
 use Rattle.lls_encode.proofs.Values.{value_of, values-inputs_at}
 use Rattle.lls_encode.proofs.Bounds.{row_count-is}
@@ -28,7 +26,7 @@ rows_agree = refl
 below : (a k : ℕ) → a ≤ k → eqb a k ≡ false → a + 1 ≤ k
 below a k low other = grind (arith, nat_tests)
 
-at_in_range : (p : ℕ → Bool) (a n k : ℕ) → list_all p (range_with_len a n) ≡ true → a ≤ k → k < a + n → p k ≡ true
+pub at_in_range : (p : ℕ → Bool) (a n k : ℕ) → list_all p (range_with_len a n) ≡ true → a ≤ k → k < a + n → p k ≡ true
 at_in_range p a zero k all low high = absurd (omega arith)
 at_in_range p a (suc n) k all low high =
     let parts = and_parts (p a) (list_all p (range_with_len (a + 1) n)) all in
@@ -68,16 +66,24 @@ inputs_are_literals p t y x =
       lit (t + 1) y x,
     )
 
+-- where the inputs' values are the bits of a row, the row says the place and the answer for its neighbourhood
+pub row_says : (p : PosedProblem) (h : History) → HasSizes p.posed.generations p.posed.height p.posed.width h → (t : ℕ) (y x : ℤ) → t + 1 < p.posed.generations
+    → (row : ℕ) → row < 1024 → map (value_of (cells_of h)) (inputs_at p t y x) ≡ row_bits row
+    → (at p.rule h (t + 1) y x ≡ (bit_at row 0 == 1)) × (successor p.rule (nine p.rule h t y x) ≡ answer p.rule (row / 2))
+row_says p h sizes t y x next_in row inside same =
+    let values = sym (values-inputs_at p h sizes t y x next_in) ∙ same in
+    let around : nine p.rule h t y x ≡ nine_bits row = ap (take 9) values in (
+      ap (λ bits. get_or bits 9 false) values,
+      ap (λ bits. answer p.rule (number_of bits)) around ∙ ap (answer p.rule) (number_of-nine_bits row inside),
+    )
+
 -- the inputs' values aren't those of a forbidden row
 apart : (p : PosedProblem) (h : History) → HasSizes p.posed.generations p.posed.height p.posed.width h → (t : ℕ) (y x : ℤ) → t + 1 < p.posed.generations
     → at p.rule h (t + 1) y x ≡ successor p.rule (nine p.rule h t y x) → (row : ℕ) → row < 1024 → is_forbidden p.rule row ≡ true
     → map (value_of (cells_of h)) (inputs_at p t y x) ≡ row_bits row → ⊥
 apart p h sizes t y x next_in obeys row inside forbidden same =
-    let values = sym (values-inputs_at p h sizes t y x next_in) ∙ same in
-    let around : nine p.rule h t y x ≡ nine_bits row = ap (take 9) values in
-    let next : at p.rule h (t + 1) y x ≡ (bit_at row 0 == 1) = ap (λ bits. get_or bits 9 false) values in
-    let found : (bit_at row 0 == 1) ≡ answer p.rule (row / 2) = sym next ∙ obeys ∙ ap (λ bits. answer p.rule (number_of bits)) around ∙ ap (answer p.rule) (number_of-nine_bits row inside) in
-    not_forbidden (answer p.rule (row / 2)) (bit_at row 0) found forbidden
+    let says = row_says p h sizes t y x next_in row inside same in
+    not_forbidden (answer p.rule (row / 2)) (bit_at row 0) (sym says.0 ∙ obeys ∙ says.1) forbidden
 
 some_satisfied : (values : List Bool) (o : Option Clause) → ((clause : Clause) → o ≡ Some clause → satisfies_clause values clause ≡ true) → satisfies values (option_to_list o) ≡ true
 some_satisfied values None each = refl

@@ -4,5 +4,10 @@ pub mod Rows
 pub mod Values
 pub mod Satisfied
 pub mod Forbidden
+pub mod Framed
 pub mod Complete
 pub mod Firsts
+pub mod Parts
+pub mod Refuted
+pub mod Agree
+pub mod Sound

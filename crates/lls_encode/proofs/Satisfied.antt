@@ -1,19 +1,15 @@
 -- A solution's cells satisfy the clauses of each transition.
-use Rattle.std.proofs.Common.{◌≡◌, ◌<◌, ◌≤◌, ℕ, zero, suc, ◌+◌, ◌-◌, ◌*◌, ◌/◌, ◌%◌, ◌^◌, ℤ, pos, negsuc, ◌+ℤ◌, ◌-ℤ◌, Bool, true, false, not, ◌&&◌, ◌||◌, cond, List, [], ◌∷◌, ◌++◌, map, length, refl, sym, ap, ◌∙◌, subst, arith, Option, None, Some, get_or, add-one, nat_le, ◌==◌, eqb}
-use Rattle.std.specs.Option.{option_map, option_to_list}
-use Rattle.std.specs.List.{list_all, list_any, flat_map, range_with_len}
-use Rattle.std.specs.Int.{bit_at}
+use Rattle.std.proofs.Common.{◌≡◌, ◌<◌, ◌≤◌, ℕ, zero, suc, ◌+◌, ℤ, pos, negsuc, Bool, true, false, not, ◌||◌, List, [], ◌∷◌, map, length, refl, sym, ap, ◌∙◌, subst, arith, Option, None, Some, add-one}
+use Rattle.std.specs.Option.{option_map}
+use Rattle.std.specs.List.{list_all, flat_map, range_with_len}
 use Rattle.std.proofs.lemmas.Bool.{and_parts, and_from}
 use Rattle.std.proofs.lemmas.List.Folds.{list_all-append}
-use Rattle.lls_lit.specs.Literal.{negation, variable_of}
+use Rattle.lls_lit.specs.Literal.{negation}
 use Rattle.lls_lit.specs.Formula.{Clause, value_at, is_true, satisfies_clause, satisfies}
-use Rattle.lls_rule.specs.Rule.{answer, successor, number_of}
 use Rattle.lls_encode.specs.declared.place.Place.{Place}
 use Rattle.lls_encode.specs.declared.place.Place.TheVariants.{Known, Of}
 use Rattle.lls_encode.specs.Place.{differs}
-use Rattle.lls_encode.specs.Formula.{row_bits, is_forbidden, row_clauses, row_count, transition_clauses}
 use Rattle.lls_encode.proofs.Values.{value_of}
-use Rattle.lls_encode.proofs.Bounds.{row_count-is}
 
 -- a literal that isn't 0, and its negation
 abbrev pub is_literal : ℤ → Bool

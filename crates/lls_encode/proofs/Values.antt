@@ -1,17 +1,16 @@
 -- What a solution's cells say at the places of a transition.
-use Rattle.std.proofs.Common.{◌≡◌, ◌<◌, ◌≤◌, ℕ, zero, suc, ◌+◌, ◌-◌, ◌*◌, ℤ, pos, negsuc, ◌+ℤ◌, ◌-ℤ◌, Bool, true, false, not, List, [], ◌∷◌, map, length, refl, sym, ap, ◌∙◌, subst, arith, Option, None, Some, get_or, add-one, nat_le}
+use Rattle.std.proofs.Common.{◌≡◌, ◌<◌, ℕ, ◌+◌, ℤ, pos, ◌+ℤ◌, ◌-ℤ◌, Bool, false, List, [], ◌∷◌, map, refl, sym, ap, ◌∙◌, arith, Option, None, Some, get_or, add-one}
 use Rattle.std.specs.Prelude.{unwrap_or}
-use Rattle.lls_lit.specs.Literal.{negation, variable_of}
-use Rattle.lls_lit.specs.Formula.{Clause, value_at, is_true}
+use Rattle.lls_lit.specs.Formula.{is_true}
 use Rattle.lls_rule.specs.Rule.{background}
 use Rattle.lls_grid.specs.Place.{inside}
-use Rattle.lls_grid.specs.History.{History, HasSizes, at, three, nine, place_cell, cells_of}
+use Rattle.lls_grid.specs.History.{History, HasSizes, at, three, cells_of}
 use Rattle.lls_grid.proofs.InOrder.{place_cell-in_order, place_cell-above, place_cell-beside}
 use Rattle.lls_problem.specs.Problem.{PosedProblem}
 use Rattle.lls_problem.specs.Solution.{place_of}
 use Rattle.lls_encode.specs.declared.place.Place.{Place}
 use Rattle.lls_encode.specs.declared.place.Place.TheVariants.{Known, Of}
-use Rattle.lls_encode.specs.Place.{place_at, place_in, three_places, inputs_at}
+use Rattle.lls_encode.specs.Place.{place_at, place_in, inputs_at}
 
 -- the value at a place of a transition under an assignment
 abbrev pub value_of : List Bool → Place → Bool
@@ -19,7 +18,7 @@ value_of values (Known value) = value
 value_of values (Of literal) = is_true values literal
 
 -- the value of a cell's variable
-is_true-cell : (values : List Bool) (k : ℕ) → is_true values (pos (k + 1)) ≡ get_or values k false
+pub is_true-cell : (values : List Bool) (k : ℕ) → is_true values (pos (k + 1)) ≡ get_or values k false
 is_true-cell values k = rw add-one refl
 
 -- a place's value under a history's cells is the history's value there

@@ -2,3 +2,4 @@ pub mod Place
 pub mod Formula
 pub mod Names
 pub mod Room
+pub mod History

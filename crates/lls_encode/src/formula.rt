@@ -1,9 +1,10 @@
 // The formula of a problem.
-ghost use Rattle.std.specs.Prelude.{◌≡◌, true, IfOk};
+ghost use Rattle.std.specs.Prelude.{◌≡◌, Bool, true, List, length, IfOk};
 ghost use Rattle.lls_grid.specs.History.{History, cells_of};
 ghost use Rattle.lls_lit.specs.Formula.{satisfies, IsUnsatisfiable};
 ghost use Rattle.lls_problem.specs.Solution.{IsSolution, IsAbsent};
 ghost use Rattle.lls_encode.specs.Formula.{formula_of};
+ghost use Rattle.lls_encode.specs.History.{history_of};
 
 use crate::cells::{push_fixed, push_names};
 use crate::transition::push_transitions;
@@ -21,8 +22,15 @@ pub fn encode(alloc: Global, problem: &Problem) -> Result<Formula, Memory>
     ensures complete { IfOk result (λ formula. (history : History) → IsSolution problem.now history
         → satisfies (cells_of history) formula.clauses ≡ true) }
 
+    // The values of every assignment that satisfies it are the cells of a solution.
+    ensures sound { IfOk result (λ formula. (values : List Bool) → length values ≡ formula.vars
+        → satisfies values formula.clauses ≡ true → IsSolution problem.now (history_of problem.now values)) }
+
     // So a formula that no assignment satisfies says that there is no solution.
     ensures absent { IfOk result (λ formula. IsUnsatisfiable formula → IsAbsent problem.now) }
+
+    // And where there is no solution, no assignment satisfies it.
+    ensures unsatisfiable { IfOk result (λ formula. IsAbsent problem.now → IsUnsatisfiable formula) }
 {
     let posed = problem.posed();
     let cells = posed.cells.items();

@@ -1,13 +1,14 @@
--- The three parts in their order make the formula, and the cells of a solution satisfy it.
-use Rattle.std.proofs.Common.{◌≡◌, ◌≤◌, ◌+◌, ◌*◌, ◌∙◌, ap, sym, arith, length, [], subst, true, ℕ, List}
+-- The three parts in their order make the formula. The cells of a solution satisfy it, and what satisfies it is a solution.
+use Rattle.std.proofs.Common.{◌≡◌, ◌*◌, ◌∙◌, ap, sym, length, [], subst, ℕ, List}
 use Rattle.lls_lit.specs.Formula.{Clause, Cnf, satisfies, IsUnsatisfiable}
 use Rattle.std.specs.List.{flat_map, range_with_len}
 use Rattle.lls_search_file.specs.declared.cell.Cell.{Cell}
 use Rattle.lls_grid.specs.History.{cells_of}
-use Rattle.lls_problem.specs.Solution.{cell_number, IsAbsent}
-use Rattle.lls_encode.specs.Formula.{fixed_clauses, name_clauses, fixed_part, name_part, transition_part, formula_of}
+use Rattle.lls_problem.specs.Solution.{cell_number}
+use Rattle.lls_encode.specs.Formula.{fixed_clauses, name_clauses, fixed_part, name_part}
 use Rattle.lls_encode.specs.Room.{with_clauses, HasRoom}
 use Rattle.lls_encode.proofs.Complete.{satisfies-formula_of, absent_from, made, room_left, room_for_names}
+use Rattle.lls_encode.proofs.Sound.{IsSolution-history_of, unsatisfiable_from}
 use Rattle.lls_encode.proofs.formula.encode.Goals as goal
 
 abbrev with_vars : ℕ → Cnf
@@ -52,3 +53,12 @@ returns-clause-complete c = λ history solution.
 pub returns-clause-absent : goal.returns-clause-absent
 returns-clause-absent c = λ unsatisfiable.
     absent_from c.args.problem.now c.posed-posed.ensures.kept (subst IsUnsatisfiable (returns-clause-formula c) unsatisfiable)
+
+pub returns-clause-sound : goal.returns-clause-sound
+returns-clause-sound c = λ values count satisfied.
+    let is = returns-clause-formula c in
+    IsSolution-history_of c.args.problem.now c.posed-posed.ensures.kept values (count ∙ ap (λ f. f.vars) is) (sym (ap (λ f. satisfies values f.clauses) is) ∙ satisfied)
+
+pub returns-clause-unsatisfiable : goal.returns-clause-unsatisfiable
+returns-clause-unsatisfiable c = λ absent.
+    subst IsUnsatisfiable (sym (returns-clause-formula c)) (unsatisfiable_from c.args.problem.now c.posed-posed.ensures.kept absent)

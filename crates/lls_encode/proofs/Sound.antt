@@ -1,0 +1,92 @@
+-- The history of every assignment that satisfies the formula is a solution.
+use Rattle.std.proofs.Common.{◌≡◌, ◌<◌, ℕ, ◌+◌, ◌-◌, ◌*◌, Bool, true, false, cond, List, [], ◌∷◌, ◌++◌, length, refl, sym, ap, ◌∙◌, subst, arith}
+use Rattle.std.specs.List.{flat_map}
+use Rattle.std.proofs.lemmas.Bool.{and_parts, false_from_ne_true}
+use Rattle.std.proofs.lemmas.List.{take_all}
+use Rattle.std.proofs.lemmas.Grind.{flat_map-append}
+use Rattle.lls_lit.specs.Formula.{Clause, satisfies, IsUnsatisfiable}
+use Rattle.lls_grid.specs.Chunks.{chunked}
+use Rattle.lls_grid.specs.History.{History, HasSizes, folded, cells_of, cells_of_rows}
+use Rattle.lls_grid.proofs.Folded.{length-folded, height_of-folded, width_of-folded, HasSizes-folded}
+use Rattle.lls_grid.proofs.Chunks.{folded-chunked, joined-chunked, length-chunked}
+use Rattle.lls_search_file.specs.Posed.{IsPosed}
+use Rattle.lls_problem.specs.Problem.{PosedProblem}
+use Rattle.lls_problem.specs.Solution.{MeetsCells, is_marked, Obeys, IsSolution, IsAbsent}
+use Rattle.lls_encode.specs.Formula.{place_clauses, line_clauses, generation_clauses, fixed_part, name_part, transition_part, formula_of}
+use Rattle.lls_encode.specs.History.{history_of}
+use Rattle.lls_encode.proofs.Framed.{framed_row, framed_column}
+use Rattle.lls_encode.proofs.Complete.{vars-formula_of}
+use Rattle.lls_encode.proofs.Parts.{satisfies-append, satisfied_in_range, satisfied_framed}
+use Rattle.lls_encode.proofs.Refuted.{successor-by_clauses}
+use Rattle.lls_encode.proofs.Agree.{MeetsCells-by_clauses}
+
+-- the cells of a history that is folded from its cells
+joined_twice : (history : History) → cells_of history ≡ flat_map (λ row. row) (flat_map (λ rows. rows) history)
+joined_twice [] = refl
+joined_twice (rows ∷ history) =
+    ap (λ cells. cells_of_rows rows ++ cells) (joined_twice history) ∙ sym (flat_map-append (λ row. row) rows (flat_map (λ rows. rows) history))
+
+cells_of-folded : (generations height width : ℕ) (cells : List Bool) → length cells ≡ width * (height * generations) → cells_of (folded generations height width cells) ≡ cells
+cells_of-folded generations height width cells count =
+    let rows = chunked width (height * generations) cells in
+    joined_twice (folded generations height width cells)
+    ∙ ap (λ h. flat_map (λ row. row) (flat_map (λ rows. rows) h)) (folded-chunked generations height width cells count)
+    ∙ ap (flat_map (λ row. row)) (joined-chunked height generations rows ∙ take_all (height * generations) rows (omega (arith, length-chunked width (height * generations) cells)))
+    ∙ joined-chunked width (height * generations) cells
+    ∙ take_all (width * (height * generations)) cells (omega (arith, count))
+
+pub cells_of-history_of : (p : PosedProblem) (values : List Bool) → IsPosed p.posed → length values ≡ length p.posed.cells → cells_of (history_of p values) ≡ values
+cells_of-history_of p values kept len = cells_of-folded p.posed.generations p.posed.height p.posed.width values (len ∙ kept.count)
+
+HasSizes-history_of : (p : PosedProblem) (values : List Bool) → IsPosed p.posed → HasSizes p.posed.generations p.posed.height p.posed.width (history_of p values)
+HasSizes-history_of p values kept =
+    let some : 0 < p.posed.generations = omega (arith, kept.generations.0) in
+    let rows : 0 < p.posed.height = omega (arith, kept.height.0) in
+    let sizes = HasSizes-folded p.posed.generations p.posed.height p.posed.width values some rows in (
+      length-folded p.posed.generations p.posed.height p.posed.width values,
+      rw (height_of-folded p.posed.generations p.posed.height p.posed.width values some, width_of-folded p.posed.generations p.posed.height p.posed.width values some rows) at sizes.1,
+    )
+
+-- the clauses of a place that no mark frees
+unmarked : (values : List Bool) (mark : Bool) (clauses : List Clause) → mark ≡ false → satisfies values (cond mark [] clauses) ≡ true → satisfies values clauses ≡ true
+unmarked values true clauses free satisfied = cc
+unmarked values false clauses free satisfied = satisfied
+
+Obeys-by_clauses : (p : PosedProblem) (h : History) → HasSizes p.posed.generations p.posed.height p.posed.width h → satisfies (cells_of h) (transition_part p) ≡ true → Obeys p h
+Obeys-by_clauses p h sizes satisfied = λ t y x next_in framed free.
+    let edge = p.demands.edge in
+    let generation = satisfied_in_range (cells_of h) (generation_clauses p) 0 (p.posed.generations - 1) t satisfied (omega arith) (omega arith) in
+    let line = satisfied_framed (cells_of h) (line_clauses p t) edge p.posed.height y generation (framed_row edge p.posed.height p.posed.width y x framed) in
+    let place = satisfied_framed (cells_of h) (place_clauses p t y) edge p.posed.width x line (framed_column edge p.posed.height p.posed.width y x framed) in
+    successor-by_clauses p h sizes t y x next_in (unmarked (cells_of h) (is_marked p.posed (t + 1) y x) _ free place)
+
+-- each part of the formula is satisfied
+record SatisfiesParts (p : PosedProblem) (values : List Bool) : Type 0 where
+  fixed : satisfies values (fixed_part p) ≡ true
+  names : satisfies values (name_part p) ≡ true
+  transitions : satisfies values (transition_part p) ≡ true
+
+parts_of : (p : PosedProblem) (values : List Bool) → satisfies values (formula_of p).clauses ≡ true → SatisfiesParts p values
+unfolding formula_of
+parts_of p values satisfied =
+    let all = and_parts _ _ (sym (satisfies-append values (fixed_part p ++ name_part p) (transition_part p)) ∙ satisfied) in
+    let cells = and_parts _ _ (sym (satisfies-append values (fixed_part p) (name_part p)) ∙ all.0) in
+    record { fixed = cells.0; names = cells.1; transitions = all.1 }
+
+-- the theorem
+pub IsSolution-history_of : (p : PosedProblem) → IsPosed p.posed → (values : List Bool) → length values ≡ (formula_of p).vars
+    → satisfies values (formula_of p).clauses ≡ true → IsSolution p (history_of p values)
+IsSolution-history_of p kept values len satisfied =
+    let parts = parts_of p values satisfied in
+    let sizes = HasSizes-history_of p values kept in
+    let cells : cells_of (history_of p values) ≡ values = cells_of-history_of p values kept (len ∙ vars-formula_of p) in
+    record {
+      sizes = sizes;
+      cells = subst (MeetsCells p.posed.cells) (sym cells) (MeetsCells-by_clauses values p.posed.cells parts.fixed parts.names);
+      rule = Obeys-by_clauses p (history_of p values) sizes (ap (λ vs. satisfies vs (transition_part p)) cells ∙ parts.transitions);
+    }
+
+-- so where there is no solution nothing satisfies the formula
+pub unsatisfiable_from : (p : PosedProblem) → IsPosed p.posed → IsAbsent p → IsUnsatisfiable (formula_of p)
+unsatisfiable_from p kept absent values len =
+    false_from_ne_true (satisfies values (formula_of p).clauses) (λ satisfied. absent (history_of p values) (IsSolution-history_of p kept values len satisfied))
