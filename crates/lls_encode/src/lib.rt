@@ -4,6 +4,8 @@
 mod cells;
 mod formula;
 mod place;
+#[cfg(test)]
+mod tests;
 mod transition;
 
 pub use formula::encode;

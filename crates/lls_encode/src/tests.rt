@@ -1,0 +1,103 @@
+// Formulas of search files, as DIMACS writes clauses, worked out by hand and by an independent script.
+use crate::encode;
+use lls_cnf::Formula;
+use lls_problem::{Demands, Edge, make_problem};
+use lls_rule::Rule;
+use lls_search_file::read_posed;
+use std::alloc::{AllocError, Global};
+use std::test::Fail;
+
+// The clauses in their order, each ended by 0.
+fn clauses(alloc: Global, formula: &Formula) -> Result<String, AllocError> {
+    let mut text = String::new(alloc);
+    for k in 0..formula.len() {
+        for literal in formula.clause(k) {
+            write!(text, "{} ", literal.number())?;
+        }
+        text.push_str("0\n")?;
+    }
+    Ok(text)
+}
+
+// The formula of a search file under a rule and an edge.
+fn encoded(alloc: Global, file: &[u8], rule: Rule, edge: Edge) -> Result<Formula, Fail> {
+    let problem = make_problem(read_posed(alloc, file)?, rule, Demands { edge })?;
+    Ok(encode(alloc, &problem)?)
+}
+
+#[test]
+fn formulas_of_search_files(rt: HostRuntime) -> Result<(), Fail> {
+    let alloc = rt.alloc();
+    let life = Rule::from_counts(0b0_0000_1000, 0b0_0000_1100);
+    let blinking = Rule::from_counts(0b0_0000_0001, 0);
+    let one_born = Rule::from_counts(0b0_0000_0010, 0);
+    let rows: [(&[u8], Rule, Edge, u32, &str); 12] = [
+        (
+            b"1\n\n1",
+            life,
+            Edge::Framed,
+            2,
+            "1 0\n2 0\n1 -2 0\n-1 -2 0\n",
+        ),
+        (b"1\n\n1'", life, Edge::Framed, 2, "1 0\n2 0\n"),
+        (
+            b"a -a a",
+            life,
+            Edge::Framed,
+            3,
+            "-1 -2 0\n1 2 0\n-1 3 0\n1 -3 0\n",
+        ),
+        (b"-a * a", life, Edge::Framed, 3, "1 3 0\n-1 -3 0\n"),
+        (
+            b"*\n\n*",
+            blinking,
+            Edge::Framed,
+            2,
+            "-1 0\n-1 0\n-1 0\n-1 0\n1 2 0\n-1 -2 0\n-1 0\n-1 0\n-1 0\n-1 0\n",
+        ),
+        (b"*\n\n*", blinking, Edge::Bare, 2, "1 2 0\n-1 -2 0\n"),
+        (
+            b"*\n\n*'\n\n*",
+            blinking,
+            Edge::Framed,
+            3,
+            "-1 0\n-1 0\n-1 0\n-1 0\n-1 0\n-1 0\n-1 0\n-1 0\n2 -3 0\n-2 -3 0\n",
+        ),
+        (
+            b"0 1\n* *\n\n0' 1'\n1' 0'",
+            life,
+            Edge::Bare,
+            8,
+            "-1 0\n2 0\n-5 0\n6 0\n7 0\n-8 0\n",
+        ),
+        (
+            b"* *\n\n*' *",
+            one_born,
+            Edge::Bare,
+            4,
+            "1 2 -4 0\n1 -2 -4 0\n-1 2 4 0\n-1 -2 -4 0\n",
+        ),
+        (
+            b"*\n*\n\n*\n*'",
+            one_born,
+            Edge::Bare,
+            4,
+            "1 2 -3 0\n1 -2 3 0\n-1 2 -3 0\n-1 -2 -3 0\n",
+        ),
+        (
+            b"0 *\n\n1' a\n\na' -a'",
+            life,
+            Edge::Bare,
+            6,
+            "-1 0\n3 0\n-4 5 0\n4 -5 0\n-4 -6 0\n4 6 0\n1 2 -4 0\n1 -2 -4 0\n-1 2 -4 0\n-1 -2 -4 0\n",
+        ),
+        (b"* *\n* *", life, Edge::Framed, 4, ""),
+    ];
+    for (file, rule, edge, vars, text) in rows {
+        let formula = encoded(alloc, file, rule, edge)?;
+        let found = clauses(alloc, &formula)?;
+        assert_eq!(rt; formula.vars(), vars);
+        assert_eq!(rt; found.as_str(), text);
+    }
+    Ok(())
+}
