@@ -60,16 +60,6 @@ fn push_same(formula: &mut Formula, a: Lit, b: Lit) -> Result<(), Memory>
     formula.push(&[a, b.negated()])
 }
 
-/// The number of a cell's name, where it has one.
-fn name_number(kind: Kind) -> Option<usize>
-    ensures { result ≡ name_of kind }
-{
-    match kind {
-        Kind::Named(name) | Kind::Negated(name) => Some(name as usize),
-        Kind::Dead | Kind::Live | Kind::Free => None,
-    }
-}
-
 /// The literal by which the kth cell says its name's value.
 fn name_literal(k: usize, kind: Kind) -> Lit
     requires { k < 8192 }
@@ -101,9 +91,10 @@ fn push_name(
     ensures firsts { OnOk result (firsts.new.items ≡ first_literals cells.now (k + 1) (length firsts.old.items)) }
 {
     let kind = cells[k].kind;
-    let Some(name) = name_number(kind) else {
+    let Some(name) = kind.name() else {
         return Ok(());
     };
+    let name = name as usize;
     let literal = name_literal(k, kind);
     match firsts[name] {
         Some(first) => push_same(formula, first, literal),

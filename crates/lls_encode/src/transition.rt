@@ -8,7 +8,7 @@ ghost use Rattle.lls_encode.specs.Place.{differs, place_within};
 ghost use Rattle.lls_encode.specs.Formula.{row_bits, is_forbidden, row_clauses, transition_clauses, place_clauses, line_clauses, generation_clauses, transition_part, first_framed, framed_count};
 ghost use Rattle.lls_encode.specs.Room.{with_clauses, HasRoom};
 
-use crate::place::{Place, inputs_at, is_marked};
+use crate::place::{Place, inputs_at};
 use lls_base::Memory;
 use lls_cnf::Formula;
 use lls_lit::Lit;
@@ -117,7 +117,7 @@ fn push_place(
     let _posed = problem.posed();
     let y = line as i32 - 1;
     let x = column as i32 - 1;
-    if !is_marked(problem, t + 1, y, x) {
+    if !problem.is_marked(t + 1, y, x) {
         push_transition(
             formula,
             clause,

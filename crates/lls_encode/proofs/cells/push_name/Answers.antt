@@ -11,25 +11,25 @@ use Rattle.lls_encode.proofs.cells.push_name.Goals as goal
 
 pub returns-in_default-clause-firsts : goal.returns-in_default-clause-firsts
 returns-in_default-clause-firsts c =
-    let unnamed : name_of (cell_number c.args.cells.now c.args.k).kind ≡ None = sym c.name_number.ensures ∙ c.in_default.is in
+    let unnamed : name_of (cell_number c.args.cells.now c.args.k).kind ≡ None = sym c.name.ensures ∙ c.in_default.is in
     c.requires.firsts ∙ first_literals-unnamed c.args.cells.now c.args.k (length c.args.firsts.now.items) c.requires.cell unnamed
 
 pub push_same-requires-clause-within : goal.push_same-requires-clause-within
 push_same-requires-clause-within c =
-    let named : name_of (cell_number c.args.cells.now c.args.k).kind ≡ Some c.in-Some.name = sym c.name_number.ensures ∙ c.in-Some.is in
+    let named : name_of (cell_number c.args.cells.now c.args.k).kind ≡ Some c.in-Some.name = sym c.name.ensures ∙ c.in-Some.is in
     let had : first_literal c.args.cells.now c.args.k c.in-Some.name ≡ Some c.in-Some-index.first =
     first_literal_at c.args.cells.now c.args.k c.in-Some.name c.args.firsts.now.items _ _ c.requires.firsts c.requires.known named (sym c.index.ensures ∙ c.in-Some-index.is) in
     is_within-names c.args.cells.now c.args.formula.now.vars c.args.k c.in-Some.name c.in-Some-index.first c.name_literal-literal.result c.requires.vars c.requires.cell had c.name_literal-literal.ensures
 
 pub returns-in-None-clause-pushed : goal.returns-in-None-clause-pushed
 returns-in-None-clause-pushed c =
-    let named : name_of (cell_number c.args.cells.now c.args.k).kind ≡ Some c.in-Some.name = sym c.name_number.ensures ∙ c.in-Some.is in
+    let named : name_of (cell_number c.args.cells.now c.args.k).kind ≡ Some c.in-Some.name = sym c.name.ensures ∙ c.in-Some.is in
     with_clauses-none c.args.formula.now ∙ ap (with_clauses c.args.formula.now) (sym (name_clauses-new c.args.cells.now c.args.k c.in-Some.name c.requires.cell named
     (first_literal_at c.args.cells.now c.args.k c.in-Some.name c.args.firsts.now.items _ _ c.requires.firsts c.requires.known named (sym c.index.ensures ∙ c.in-None.is))))
 
 pub returns-in-None-clause-firsts : goal.returns-in-None-clause-firsts
 returns-in-None-clause-firsts c =
-    let named : name_of (cell_number c.args.cells.now c.args.k).kind ≡ Some c.in-Some.name = sym c.name_number.ensures ∙ c.in-Some.is in
+    let named : name_of (cell_number c.args.cells.now c.args.k).kind ≡ Some c.in-Some.name = sym c.name.ensures ∙ c.in-Some.is in
     let none : first_literal c.args.cells.now c.args.k c.in-Some.name ≡ None =
     first_literal_at c.args.cells.now c.args.k c.in-Some.name c.args.firsts.now.items _ _ c.requires.firsts c.requires.known named (sym c.index.ensures ∙ c.in-None.is) in
     let inside : c.in-Some.name < length c.args.firsts.now.items = subst (λ name. IfSome name (λ m. m < length c.args.firsts.now.items)) named c.requires.known in
@@ -39,7 +39,7 @@ returns-in-None-clause-firsts c =
 
 pub returns-in-Some-index-clause-pushed : goal.returns-in-Some-index-clause-pushed
 returns-in-Some-index-clause-pushed c =
-    let named : name_of (cell_number c.args.cells.now c.args.k).kind ≡ Some c.in-Some.name = sym c.name_number.ensures ∙ c.in-Some.is in
+    let named : name_of (cell_number c.args.cells.now c.args.k).kind ≡ Some c.in-Some.name = sym c.name.ensures ∙ c.in-Some.is in
     let had : first_literal c.args.cells.now c.args.k c.in-Some.name ≡ Some c.in-Some-index.first =
     first_literal_at c.args.cells.now c.args.k c.in-Some.name c.args.firsts.now.items _ _ c.requires.firsts c.requires.known named (sym c.index.ensures ∙ c.in-Some-index.is) in
     on_ok c.push_same.result _ _
@@ -48,7 +48,7 @@ returns-in-Some-index-clause-pushed c =
 
 pub returns-in-Some-index-clause-firsts : goal.returns-in-Some-index-clause-firsts
 returns-in-Some-index-clause-firsts c =
-    let named : name_of (cell_number c.args.cells.now c.args.k).kind ≡ Some c.in-Some.name = sym c.name_number.ensures ∙ c.in-Some.is in
+    let named : name_of (cell_number c.args.cells.now c.args.k).kind ≡ Some c.in-Some.name = sym c.name.ensures ∙ c.in-Some.is in
     let had : first_literal c.args.cells.now c.args.k c.in-Some.name ≡ Some c.in-Some-index.first =
     first_literal_at c.args.cells.now c.args.k c.in-Some.name c.args.firsts.now.items _ _ c.requires.firsts c.requires.known named (sym c.index.ensures ∙ c.in-Some-index.is) in
     on_ok_always c.push_same.result _ (c.requires.firsts ∙ first_literals-kept c.args.cells.now c.args.k (length c.args.firsts.now.items) c.in-Some.name c.in-Some-index.first c.requires.cell named had)
