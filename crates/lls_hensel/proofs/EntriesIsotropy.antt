@@ -28,40 +28,40 @@ class_told n h =
     (agree_below_at (λ n. same_class (class_by_number (turned n)) (class_by_number n) && same_class (class_by_number (mirrored n)) (class_by_number n)) (λ _. true) 256 n classes_kept h) in
     (class_same (class_by_number (turned n)) (class_by_number n) parts.0, class_same (class_by_number (mirrored n)) (class_by_number n) parts.1)
 
--- eight of the same class as those of a number are of the classes that those are of
-of_class_along : (class : Class) (image : List Bool) (n number : ℕ) → n < 256 → number < 256 → image ≡ eight_of number → class_by_number number ≡ class_by_number n → is_of_class image class ≡ is_of_class (eight_of n) class
-of_class_along class image n number h below is same =
+-- eight whose number has the class of another number are of the same classes as the other
+is_of_class-same : (class : Class) (image : List Bool) (n number : ℕ) → n < 256 → number < 256 → image ≡ eight_of number → class_by_number number ≡ class_by_number n → is_of_class image class ≡ is_of_class (eight_of n) class
+is_of_class-same class image n number h below is same =
     ap (λ eight. is_of_class eight class) is ∙ (is_of_class-eight_of number class below ∙
     (ap (λ own. nat_eq class.count own.count && same_letter own.letter class.letter) same ∙ sym (is_of_class-eight_of n class h)))
 
--- images are of the same classes
+-- a turn and the mirror keep the classes that eight neighbours are of
 class_kept : (class : Class) → IsKept (λ eight. is_of_class eight class)
 class_kept class = record {
-  by_turn = λ n h. let told = quarter_turn-eight_of n h in of_class_along class (quarter_turn (eight_of n)) n (turned n) h told.0 told.1 (class_told n h).0;
-  by_mirror = λ n h. let told = mirror-eight_of n h in of_class_along class (mirror (eight_of n)) n (mirrored n) h told.0 told.1 (class_told n h).1;
+  by_turn = λ n h. let told = quarter_turn-eight_of n h in is_of_class-same class (quarter_turn (eight_of n)) n (turned n) h told.0 told.1 (class_told n h).0;
+  by_mirror = λ n h. let told = mirror-eight_of n h in is_of_class-same class (mirror (eight_of n)) n (mirrored n) h told.0 told.1 (class_told n h).1;
 }
 
 -- an entry says the same of neighbourhoods with equal centres and one class
-tells_along : (m n : ℕ) (entry : Entry) → m < 512 → has_bit m 4 ≡ has_bit n 4 → are_images (around m) (around n) ≡ true → tells m entry ≡ tells n entry
+tells-image : (m n : ℕ) (entry : Entry) → m < 512 → has_bit m 4 ≡ has_bit n 4 → are_images (around m) (around n) ≡ true → tells m entry ≡ tells n entry
 unfolding tells
-tells_along m n entry below centres images =
+tells-image m n entry below centres images =
     ap (λ centre. beq entry.survival centre && is_of_class (around m) entry.class) centres ∙
     ap (λ of. beq entry.survival (has_bit n 4) && of) (same_around (λ eight. is_of_class eight entry.class) m n (class_kept entry.class) below images)
 
--- so do entries
-next_of_along : (m n : ℕ) (entries : List Entry) → m < 512 → has_bit m 4 ≡ has_bit n 4 → are_images (around m) (around n) ≡ true → next_of entries m ≡ next_of entries n
+-- entries say the same of them
+next_of-image : (m n : ℕ) (entries : List Entry) → m < 512 → has_bit m 4 ≡ has_bit n 4 → are_images (around m) (around n) ≡ true → next_of entries m ≡ next_of entries n
 unfolding next_of
-next_of_along m n [] below centres images = refl
-next_of_along m n (entry ∷ rest) below centres images =
-    ap (λ told. told || list_any (tells m) rest) (tells_along m n entry below centres images) ∙
-    ap (λ told. tells n entry || told) (next_of_along m n rest below centres images)
+next_of-image m n [] below centres images = refl
+next_of-image m n (entry ∷ rest) below centres images =
+    ap (λ told. told || list_any (tells m) rest) (tells-image m n entry below centres images) ∙
+    ap (λ told. tells n entry || told) (next_of-image m n rest below centres images)
 
 -- the rule that entries say is isotropic
 pub IsIsotropic-table_of : (entries : List Entry) → IsIsotropic (table_of (next_of entries))
 IsIsotropic-table_of entries m n below within centres images =
-    answer-table_of (next_of entries) m below ∙ (next_of_along m n entries below centres images ∙ sym (answer-table_of (next_of entries) n within))
+    answer-table_of (next_of entries) m below ∙ (next_of-image m n entries below centres images ∙ sym (answer-table_of (next_of entries) n within))
 
--- and so is the rule that is read
+-- a rule that is read is isotropic
 pub IsIsotropic-read : (result : Result (List Bool) RuleError) (read : Result (List Entry) RuleError) → result ≡ and_then read (λ entries. Ok (table_of (next_of entries))) → IfOk result IsIsotropic
 IsIsotropic-read result (Ok entries) e = subst (λ r. IfOk r IsIsotropic) (sym e) (IsIsotropic-table_of entries)
 IsIsotropic-read result (Err fault) e = subst (λ r. IfOk r IsIsotropic) (sym e) tt

@@ -26,7 +26,7 @@ class_told n h =
     (agree_below_at (λ n. pointwise beq (representative_eight (quarter_turn (eight_of n))) (representative_eight (eight_of n)) && pointwise beq (representative_eight (mirror (eight_of n))) (representative_eight (eight_of n))) (λ _. true) 256 n turn_keeps_class h) in
     (same_eight (representative_eight (quarter_turn (eight_of n))) (representative_eight (eight_of n)) parts.0, same_eight (representative_eight (mirror (eight_of n))) (representative_eight (eight_of n)) parts.1)
 
--- images have one representative
+-- a turn and the mirror keep the representative
 representative_kept : IsKept representative_eight
 representative_kept = record { by_turn = λ n h. (class_told n h).0; by_mirror = λ n h. (class_told n h).1 }
 
