@@ -1,5 +1,5 @@
 // A shelf in memory, for tests.
-ghost use Rattle.std.specs.Prelude.{◌≡◌, ◌<◌, ◌≤◌, ◌⊎◌, ◌↔◌, IsTrue, length, min, Some, None, false, is_some, is_ok, IfOk, IsErr, IsErrOf, OnErr, IfSome, drop};
+ghost use Rattle.std.specs.Prelude.{◌≡◌, OnOk, ◌<◌, ◌≤◌, ◌⊎◌, ◌↔◌, IsTrue, length, min, Some, None, false, is_some, is_ok, IfOk, IsErr, IsErrOf, OnErr, IfSome, drop};
 ghost use Rattle.std.specs.FinMap as map;
 ghost use Rattle.std.specs.Option.{option_map, ForSome};
 ghost use Rattle.lls_base.specs.Faults.{Counts, Rose};
@@ -44,9 +44,9 @@ impl Input {
 
     fn read(&mut self, buf: &mut [u8], most: usize) -> usize
         requires { 0 < most }
-        ensures within { result ≤ length buf.old }
-        ensures most { result ≤ most }
+        ensures count { result ≡ min (min (length (input_rest self.old)) (length buf.old)) most }
         ensures front { ReadsFront result (input_rest self.old) buf.new }
+        ensures behind { drop result buf.new ≡ drop result buf.old }
         ensures rest { input_rest self.new ≡ drop result (input_rest self.old) }
     {
         let rest = &self.bytes[self.at..];
@@ -160,6 +160,8 @@ impl Shelf for MemShelf {
             → IsTrue (is_due (shelf_schedules self.old).opens) ⊎ Rose (shelf_lacked self.old) (shelf_lacked self.new) }
         ensures counted { shelf_schedules self.new ≡ after_open_call (shelf_schedules self.old) }
         ensures same_most { shelf_most self.new ≡ shelf_most self.old }
+        ensures no_fault { OnOk result (shelf_faults self.new ≡ shelf_faults self.old) }
+        ensures no_lack { OnOk result (shelf_lacked self.new ≡ shelf_lacked self.old) }
     {
         self.input = None;
         if self.schedules.opens.strikes() {
@@ -188,10 +190,13 @@ impl Shelf for MemShelf {
         ensures failed { OnErr result (Rose (shelf_faults self.old) (shelf_faults self.new)) }
 
         // Each call that is listed fails, and no other does.
-        ensures most { IfOk result (λ n. n ≤ shelf_most self.old) }
+        ensures most { IfOk result (λ n. IfSome (shelf_contents self.old).rest
+            (λ rest. n ≡ min (min (length rest) (length buf.old)) (shelf_most self.old))) }
+        ensures behind { IfOk result (λ n. drop n buf.new ≡ drop n buf.old) }
         ensures listed { IsErr result ↔ IsTrue (is_due (shelf_schedules self.old).reads) }
         ensures counted { shelf_schedules self.new ≡ after_read_call (shelf_schedules self.old) }
         ensures same_most { shelf_most self.new ≡ shelf_most self.old }
+        ensures no_fault { OnOk result (shelf_faults self.new ≡ shelf_faults self.old) }
         ensures lacked { shelf_lacked self.new ≡ shelf_lacked self.old }
     {
         if self.schedules.reads.strikes() {
@@ -217,6 +222,8 @@ impl Shelf for MemShelf {
             (IsTrue (is_due (shelf_schedules self.old).creates) ⊎ Rose (shelf_lacked self.old) (shelf_lacked self.new)) }
         ensures counted { shelf_schedules self.new ≡ after_create_call (shelf_schedules self.old) }
         ensures same_most { shelf_most self.new ≡ shelf_most self.old }
+        ensures no_fault { OnOk result (shelf_faults self.new ≡ shelf_faults self.old) }
+        ensures no_lack { OnOk result (shelf_lacked self.new ≡ shelf_lacked self.old) }
     {
         self.output = None;
         if self.schedules.creates.strikes() {
@@ -248,6 +255,8 @@ impl Shelf for MemShelf {
             (IsTrue (is_due (shelf_schedules self.old).writes) ⊎ Rose (shelf_lacked self.old) (shelf_lacked self.new)) }
         ensures counted { shelf_schedules self.new ≡ after_write_call (shelf_schedules self.old) }
         ensures same_most { shelf_most self.new ≡ shelf_most self.old }
+        ensures no_fault { OnOk result (shelf_faults self.new ≡ shelf_faults self.old) }
+        ensures no_lack { OnOk result (shelf_lacked self.new ≡ shelf_lacked self.old) }
     {
         if self.schedules.writes.strikes() {
             self.tally.fail();

@@ -1,5 +1,5 @@
 // A sink in memory, for tests.
-ghost use Rattle.std.specs.Prelude.{◌≡◌, ◌<◌, ◌≤◌, ◌⊎◌, [], length, min, Some, IsTrue, true, IfOk, IsErr, OnErr};
+ghost use Rattle.std.specs.Prelude.{◌≡◌, OnOk, ◌<◌, ◌≤◌, ◌⊎◌, [], length, min, Some, IsTrue, true, IfOk, IsErr, OnErr};
 ghost use Rattle.std.specs.Io.KnownBytes.{append_known};
 ghost use Rattle.lls_base.specs.Faults.{Counts, Rose};
 ghost use Rattle.lls_base.specs.Sink.{bytes_taken, TookNone};
@@ -70,6 +70,8 @@ impl Sink for MemSink {
         ensures counts { Counts (sink_faults self.old) (sink_faults self.new) }
         ensures failed { OnErr result (Rose (sink_faults self.old) (sink_faults self.new)) }
         ensures none { TookNone result bytes.now → Rose (sink_faults self.old) (sink_faults self.new) }
+        ensures no_fault { OnOk result (sink_faults self.new ≡ sink_faults self.old) }
+        ensures no_lack { OnOk result (sink_lacked self.new ≡ sink_lacked self.old) }
 
         // Each call that is listed fails, and no other does but for want of memory.
         ensures most { IfOk result (λ n. n ≡ min (length bytes.now) (sink_most self.old)) }

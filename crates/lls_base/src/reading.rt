@@ -64,6 +64,7 @@ pub fn read_all<S: Shelf>(
     ensures input { S.has_input shelf.new ≡ was_opened result }
     ensures output { S.has_output shelf.new ≡ S.has_output shelf.old }
     ensures counts { Counts (S.faults shelf.old) (S.faults shelf.new) }
+    ensures no_fault { OnOk result (S.faults shelf.new ≡ S.faults shelf.old) }
 {
     match shelf.open_input(name.text()) {
         Ok(()) => read_rest(shelf, limit, into),
@@ -92,6 +93,7 @@ fn read_rest<S: Shelf>(shelf: &mut S, limit: u64, into: &mut Vec<u8>) -> Result<
     ensures input { S.has_input shelf.new ≡ S.has_input shelf.old }
     ensures output { S.has_output shelf.new ≡ S.has_output shelf.old }
     ensures counts { Counts (S.faults shelf.old) (S.faults shelf.new) }
+    ensures no_fault { OnOk result (S.faults shelf.new ≡ S.faults shelf.old) }
 {
     let mut chunk = [0; CHUNK];
     let mut taken = 0;

@@ -1,5 +1,5 @@
 // Named files, of which one at a time is read and one at a time is written.
-ghost use Rattle.std.specs.Prelude.{◌≡◌, ◌<◌, ◌≤◌, ◌^◌, ℕ, Bool, true, false, is_ok, length, IsTrue, IfOk, IsErrOf, OnErr, IfSome, Option, List};
+ghost use Rattle.std.specs.Prelude.{◌≡◌, OnOk, ◌<◌, ◌≤◌, ◌^◌, ℕ, Bool, true, false, is_ok, length, IsTrue, IfOk, IsErrOf, OnErr, IfSome, Option, List};
 ghost use Rattle.std.specs.Option.{option_map};
 ghost use Rattle.lls_base.specs.Faults.{Counts, Rose};
 ghost use Rattle.lls_base.specs.Sink.{TookNone};
@@ -17,6 +17,7 @@ pub enum OpenFault {
 }
 
 /// Files by name, the one that is being read and the one that is being written.
+/// The count of faults rises where a call fails, and where one succeeds it stays.
 /// A new shelf has no current input and no current output.
 pub trait Shelf {
     /// The files, what is left of the input and the output's name, where the shelf tells them: all or none.
@@ -37,7 +38,8 @@ pub trait Shelf {
         ensures output { has_output self.new ≡ has_output self.old }
         ensures counts { Counts (faults self.old) (faults self.new) }
         ensures failed { IsErrOf result OpenFault.Failed → Rose (faults self.old) (faults self.new) }
-        ensures absent_is_no_fault { IsErrOf result OpenFault.Absent → faults self.new ≡ faults self.old };
+        ensures absent_is_no_fault { IsErrOf result OpenFault.Absent → faults self.new ≡ faults self.old }
+        ensures no_fault { OnOk result (faults self.new ≡ faults self.old) };
 
     /// Takes some first bytes of what is left into the front of the buffer, and answers how many:
     /// none only at the end of the input, or with an empty buffer.
@@ -49,7 +51,8 @@ pub trait Shelf {
         ensures input { has_input self.new ≡ has_input self.old }
         ensures output { has_output self.new ≡ has_output self.old }
         ensures counts { Counts (faults self.old) (faults self.new) }
-        ensures failed { OnErr result (Rose (faults self.old) (faults self.new)) };
+        ensures failed { OnErr result (Rose (faults self.old) (faults self.new)) }
+        ensures no_fault { OnOk result (faults self.new ≡ faults self.old) };
 
     /// Makes the name stand for no bytes, and makes it the current output.
     fn create_output(&mut self, name: &str) -> Result<(), Failed>
@@ -57,7 +60,8 @@ pub trait Shelf {
         ensures input { has_input self.new ≡ has_input self.old }
         ensures output { has_output self.new ≡ is_ok result }
         ensures counts { Counts (faults self.old) (faults self.new) }
-        ensures failed { OnErr result (Rose (faults self.old) (faults self.new)) };
+        ensures failed { OnErr result (Rose (faults self.old) (faults self.new)) }
+        ensures no_fault { OnOk result (faults self.new ≡ faults self.old) };
 
     /// Appends some first bytes of the piece to the current output, and answers how many.
     fn write(&mut self, bytes: &[u8]) -> Result<usize, Failed>
@@ -68,9 +72,10 @@ pub trait Shelf {
         ensures output { has_output self.new ≡ has_output self.old }
         ensures counts { Counts (faults self.old) (faults self.new) }
 
-        // `Failed`, and none taken of a piece that isn't empty, are faults.
+        // `Failed`, and none taken of a piece that isn't empty, are faults. Some taken is none.
         ensures failed { OnErr result (Rose (faults self.old) (faults self.new)) }
-        ensures none { TookNone result bytes.now → Rose (faults self.old) (faults self.new) };
+        ensures none { TookNone result bytes.now → Rose (faults self.old) (faults self.new) }
+        ensures no_fault { IfOk result (λ n. 0 < n → faults self.new ≡ faults self.old) };
 
     /// Whether there is an input and an output is as told.
     ghost agrees: { (shelf : Self) → IfSome (told shelf) (Agrees (has_input shelf) (has_output shelf)) };

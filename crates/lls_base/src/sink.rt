@@ -22,9 +22,10 @@ pub trait Sink {
         ensures written { written self.new ≡ append_known (written self.old) (bytes_taken result bytes.now) }
         ensures counts { Counts (faults self.old) (faults self.new) }
 
-        // `Failed`, and none taken of a piece that isn't empty, are faults.
+        // `Failed`, and none taken of a piece that isn't empty, are faults. Some taken is none.
         ensures failed { OnErr result (Rose (faults self.old) (faults self.new)) }
-        ensures none { TookNone result bytes.now → Rose (faults self.old) (faults self.new) };
+        ensures none { TookNone result bytes.now → Rose (faults self.old) (faults self.new) }
+        ensures no_fault { IfOk result (λ n. 0 < n → faults self.new ≡ faults self.old) };
 
     /// A count of faults has 64 bits.
     ghost faults_fit: { (sink : Self) → faults sink < 2 ^ 64 };

@@ -22,6 +22,7 @@ pub fn write_all<O: Sink>(sink: &mut O, bytes: &[u8]) -> Result<(), Failed>
     ensures err { OnErr result ((n : ℕ) × (n ≤ length bytes.now) × (O.written sink.new ≡ append_known (O.written sink.old) (take n bytes.now))) }
     ensures counts { Counts (O.faults sink.old) (O.faults sink.new) }
     ensures failed { OnErr result (Rose (O.faults sink.old) (O.faults sink.new)) }
+    ensures no_fault { OnOk result (O.faults sink.new ≡ O.faults sink.old) }
 {
     let mut done = 0;
     while done < bytes.len() {
@@ -44,6 +45,7 @@ pub fn write_file<S: Shelf>(shelf: &mut S, name: &Name, bytes: &[u8]) -> Result<
     ensures output { S.has_output shelf.new ≡ was_created result }
     ensures counts { Counts (S.faults shelf.old) (S.faults shelf.new) }
     ensures failed { OnErr result (Rose (S.faults shelf.old) (S.faults shelf.new)) }
+    ensures no_fault { OnOk result (S.faults shelf.new ≡ S.faults shelf.old) }
 {
     if let Err(Failed) = shelf.create_output(name.text()) {
         return Err(FileFault::CreateFailed);

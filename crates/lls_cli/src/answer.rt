@@ -1,5 +1,5 @@
 // What a job is answered.
-ghost use Rattle.std.specs.Prelude.{◌≡◌, ◌∷◌, ◌++◌, [], Ok, IfOk, IfErr, IfSome, IsErr, List, ℕ};
+ghost use Rattle.std.specs.Prelude.{◌≡◌, ◌∷◌, ◌++◌, [], Ok, IfOk, IfErr, IfSome, IsErr, OnOk, List, ℕ};
 ghost use Rattle.lls_base.specs.Faults.{Counts};
 ghost use Rattle.lls_base.specs.Shelf.{known_files};
 ghost use Rattle.lls_problem.specs.Solution.{IsAbsent, IsSolution};
@@ -94,6 +94,7 @@ pub fn answer_job<S: Shelf>(alloc: Global, shelf: &mut S, job: Job) -> Result<An
     ensures yes { IfSome (known_files (S.told shelf.old)) (λ files. IfOk result (λ answer. answer.status ≡ Status.Done → YesHolds job files)) }
     ensures no { IfSome (known_files (S.told shelf.old)) (λ files. IfOk result (λ answer. answer.status ≡ Status.Refused → NoHolds job files)) }
     ensures counts { Counts (S.faults shelf.old) (S.faults shelf.new) }
+    ensures no_fault { OnOk result (S.faults shelf.new ≡ S.faults shelf.old) }
     ensures files { known_files (S.told shelf.new) ≡ known_files (S.told shelf.old) }
 {
     match job {
@@ -130,6 +131,7 @@ fn check<S: Shelf>(
     ensures refused { IfSome (known_files (S.told shelf.old)) (λ files. IfOk result (λ answer. answer.status ≡ Status.Refused
         → ProofIsRefused (problem_of files search.now rule demands) (input_of files proof.now 1073741824))) }
     ensures counts { Counts (S.faults shelf.old) (S.faults shelf.new) }
+    ensures no_fault { OnOk result (S.faults shelf.new ≡ S.faults shelf.old) }
     ensures files { known_files (S.told shelf.new) ≡ known_files (S.told shelf.old) }
 {
     let problem = match read_problem(alloc, shelf, search, rule, demands) {
@@ -181,6 +183,7 @@ fn judge_job<S: Shelf>(
     ensures behind_words { IfErr result IsBehindWords }
     ensures failed { IfErr result (λ fault. HasRisen fault (S.faults shelf.old) (S.faults shelf.new)) }
     ensures counts { Counts (S.faults shelf.old) (S.faults shelf.new) }
+    ensures no_fault { OnOk result (S.faults shelf.new ≡ S.faults shelf.old) }
     ensures files { known_files (S.told shelf.new) ≡ known_files (S.told shelf.old) }
 {
     let problem = match read_problem(alloc, shelf, search, rule, demands) {

@@ -1,5 +1,5 @@
 // The inputs of a job.
-ghost use Rattle.std.specs.Prelude.{◌≡◌, IfErr, IfSome};
+ghost use Rattle.std.specs.Prelude.{◌≡◌, IfErr, IfSome, OnOk};
 ghost use Rattle.lls_base.specs.Faults.{Counts};
 ghost use Rattle.lls_base.specs.Shelf.{known_files};
 ghost use Rattle.lls_cli.specs.Decided.{input_of, problem_of, posed_in, plain_in, history_of, HasRisen, Settles, IsInside};
@@ -43,6 +43,7 @@ pub fn read_input<S: Shelf>(
     ensures behind_words { IfErr result IsBehindWords }
     ensures failed { IfErr result (λ fault. HasRisen fault (S.faults shelf.old) (S.faults shelf.new)) }
     ensures counts { Counts (S.faults shelf.old) (S.faults shelf.new) }
+    ensures no_fault { OnOk result (S.faults shelf.new ≡ S.faults shelf.old) }
     ensures files { known_files (S.told shelf.new) ≡ known_files (S.told shelf.old) }
 {
     let mut bytes = Vec::new(alloc);
@@ -77,6 +78,7 @@ pub fn read_problem<S: Shelf>(
     ensures behind_words { IfErr result IsBehindWords }
     ensures failed { IfErr result (λ fault. HasRisen fault (S.faults shelf.old) (S.faults shelf.new)) }
     ensures counts { Counts (S.faults shelf.old) (S.faults shelf.new) }
+    ensures no_fault { OnOk result (S.faults shelf.new ≡ S.faults shelf.old) }
     ensures files { known_files (S.told shelf.new) ≡ known_files (S.told shelf.old) }
 {
     let bytes = match read_input(alloc, shelf, search, SEARCH_LIMIT) {
@@ -113,6 +115,7 @@ pub fn read_pattern<S: Shelf>(
     ensures behind_words { IfErr result IsBehindWords }
     ensures failed { IfErr result (λ fault. HasRisen fault (S.faults shelf.old) (S.faults shelf.new)) }
     ensures counts { Counts (S.faults shelf.old) (S.faults shelf.new) }
+    ensures no_fault { OnOk result (S.faults shelf.new ≡ S.faults shelf.old) }
     ensures files { known_files (S.told shelf.new) ≡ known_files (S.told shelf.old) }
 {
     match read_input(alloc, shelf, pattern, SEARCH_LIMIT) {

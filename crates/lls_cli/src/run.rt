@@ -52,6 +52,7 @@ fn give<O: Sink, E: Sink>(answer: &Answer, out: &mut O, err: &mut E) -> Status
     ensures given { result ≡ answer.now.status → O.written out.new ≡ append_known (O.written out.old) answer.now.text.items }
     ensures status { (result ≡ answer.now.status) ⊎ ((result ≡ Status.Outside) × Rose (O.faults out.old) (O.faults out.new)) }
     ensures out { GrewBy answer.now.text.items (O.written out.old) (O.written out.new) (O.faults out.old) (O.faults out.new) }
+    ensures no_fault { result ≡ answer.now.status → O.faults out.new ≡ O.faults out.old }
     ensures err { result ≡ answer.now.status → E.written err.new ≡ E.written err.old }
     ensures said { IsFault result → Said (Fault.Outside OutsideFault.OutFailed) result (E.written err.old) (E.written err.new) (E.faults err.old) (E.faults err.new) }
     ensures out_counts { Counts (O.faults out.old) (O.faults out.new) }
@@ -104,6 +105,9 @@ pub fn run<S: Shelf, O: Sink, E: Sink>(
 
     // The standard output holds first bytes of the answer, or nothing new.
     ensures part { IfSome (known_files (S.told shelf.old)) (λ files. GavePart (decided (map string_bytes words.now) files) (O.written out.old) (O.written out.new)) }
+
+    // A yes or a no comes only where no call of the outside failed.
+    ensures no_fault { IsYesOrNo result → (S.faults shelf.new ≡ S.faults shelf.old) × (O.faults out.new ≡ O.faults out.old) }
 
     // What stands after it.
     ensures silent { IsSilent result → O.written out.new ≡ O.written out.old }

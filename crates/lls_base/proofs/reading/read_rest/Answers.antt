@@ -33,4 +33,5 @@ loop-count-preserved g c =
       input = read.input ∙ invariant.input;
       output = read.output ∙ invariant.output;
       counts = Counts-trans invariant.counts read.counts;
+      no_fault = read.no_fault ∙ invariant.no_fault;
     }

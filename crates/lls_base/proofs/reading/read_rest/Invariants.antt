@@ -15,6 +15,7 @@ invariant-loop-count g l = record {
   input : g.S.Shelf.has_input l.shelf ≡ g.S.Shelf.has_input l.initial.shelf;
   output : g.S.Shelf.has_output l.shelf ≡ g.S.Shelf.has_output l.initial.shelf;
   counts : Counts (g.S.Shelf.faults l.initial.shelf) (g.S.Shelf.faults l.shelf);
+  no_fault : g.S.Shelf.faults l.shelf ≡ g.S.Shelf.faults l.initial.shelf;
 }
 
 abbrev pub decreases-loop-count : goal.decreases-loop-count

@@ -26,4 +26,5 @@ loop-written-preserved g c =
       input = c.in-Ok.ensures.input ∙ invariant.input;
       output = c.in-Ok.ensures.output ∙ invariant.output;
       counts = Counts-trans invariant.counts c.in-Ok.ensures.counts;
+      no_fault = c.in-Ok.ensures.no_fault (omega (arith, c.if-taken-eq0.false)) ∙ invariant.no_fault;
     }

@@ -11,6 +11,7 @@ invariant-loop-written g l = record {
   input : g.S.Shelf.has_input l.shelf ≡ g.S.Shelf.has_input l.fn.shelf;
   output : g.S.Shelf.has_output l.shelf ≡ true;
   counts : Counts (g.S.Shelf.faults l.fn.shelf) (g.S.Shelf.faults l.shelf);
+  no_fault : g.S.Shelf.faults l.shelf ≡ g.S.Shelf.faults l.fn.shelf;
 }
 
 abbrev pub decreases-loop-written : goal.decreases-loop-written
