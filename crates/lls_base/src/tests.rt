@@ -122,6 +122,9 @@ fn real_files(rt: HostRuntime) -> Result<(), Fail> {
     let mut into = Vec::new(alloc);
     assert_eq!(rt; read_all(&mut shelf, &file, 20_000, &mut into), Ok(()));
     assert_eq!(rt; into.as_slice(), bytes.as_slice());
+    // A file has no files below it: that isn't an absent file, but a failure.
+    let below = name(alloc, "lls_base_real_files/below")?;
+    assert_eq!(rt; shelf.open_input(below.text()), Err(OpenFault::Failed));
     fs::remove_file(&rt, file.text())?;
     assert_eq!(rt; shelf.open_input(file.text()), Err(OpenFault::Absent));
     assert_eq!(rt; shelf.create_output("no_folder/file"), Err(Failed));

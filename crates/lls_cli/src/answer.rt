@@ -47,19 +47,15 @@ fn check_proof(alloc: Global, problem: &Problem, proof: &[u8]) -> Result<Answer,
     ensures absent { IfOk result (λ answer. answer.status ≡ Status.Done → IsAbsent problem.now) }
     ensures refused { IfOk result (λ answer. answer.status ≡ Status.Refused → IsErr (verdict (formula_of problem.now) proof.now)) }
 {
-    let Ok(formula) = encode(alloc, problem) else {
-        return Err(Fault::Memory);
-    };
+    let formula = encode(alloc, problem)?;
     let verdict = check_bytes(alloc, &formula, proof);
     let status = match verdict {
         Ok(()) => Status::Done,
         Err(CheckError::Memory) => return Err(Fault::Memory),
         Err(_) => Status::Refused,
     };
-    match Vec::from_slice(alloc, check_text(verdict)) {
-        Ok(text) => Ok(Answer { status, text }),
-        Err(_) => Err(Fault::Memory),
-    }
+    let text = check_text(verdict).to_vec(alloc)?;
+    Ok(Answer { status, text })
 }
 
 /// The canonical text of a rule.
@@ -75,13 +71,11 @@ fn print(alloc: Global, rule: &Rule) -> Result<Answer, Fault>
         Err(PrintRuleError::NotIsotropic(_)) => unreachable!(),
         Err(PrintRuleError::Memory) => return Err(Fault::Memory),
     };
-    match text.push(b'\n') {
-        Ok(()) => Ok(Answer {
-            status: Status::Done,
-            text,
-        }),
-        Err(_) => Err(Fault::Memory),
-    }
+    text.push(b'\n')?;
+    Ok(Answer {
+        status: Status::Done,
+        text,
+    })
 }
 
 /// The answer of a job, read from the shelf.
@@ -134,14 +128,9 @@ fn check<S: Shelf>(
     ensures no_fault { OnOk result (S.faults shelf.new ≡ S.faults shelf.old) }
     ensures files { known_files (S.told shelf.new) ≡ known_files (S.told shelf.old) }
 {
-    let problem = match read_problem(alloc, shelf, search, rule, demands) {
-        Ok(problem) => problem,
-        Err(fault) => return Err(fault),
-    };
-    match read_input(alloc, shelf, proof, PROOF_LIMIT) {
-        Ok(bytes) => check_proof(alloc, &problem, &bytes),
-        Err(fault) => Err(fault),
-    }
+    let problem = read_problem(alloc, shelf, search, rule, demands)?;
+    let bytes = read_input(alloc, shelf, proof, PROOF_LIMIT)?;
+    check_proof(alloc, &problem, &bytes)
 }
 
 /// The answer to a history that is judged.
@@ -159,10 +148,8 @@ fn judge_history(alloc: Global, problem: &Problem, history: &History) -> Result<
     } else {
         Status::Refused
     };
-    match judgement_text(alloc, judgement) {
-        Ok(text) => Ok(Answer { status, text }),
-        Err(_) => Err(Fault::Memory),
-    }
+    let text = judgement_text(alloc, judgement)?;
+    Ok(Answer { status, text })
 }
 
 /// The answer of a judging.
@@ -186,12 +173,7 @@ fn judge_job<S: Shelf>(
     ensures no_fault { OnOk result (S.faults shelf.new ≡ S.faults shelf.old) }
     ensures files { known_files (S.told shelf.new) ≡ known_files (S.told shelf.old) }
 {
-    let problem = match read_problem(alloc, shelf, search, rule, demands) {
-        Ok(problem) => problem,
-        Err(fault) => return Err(fault),
-    };
-    match read_pattern(alloc, shelf, pattern) {
-        Ok(history) => judge_history(alloc, &problem, &history),
-        Err(fault) => Err(fault),
-    }
+    let problem = read_problem(alloc, shelf, search, rule, demands)?;
+    let history = read_pattern(alloc, shelf, pattern)?;
+    judge_history(alloc, &problem, &history)
 }

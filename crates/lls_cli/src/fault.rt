@@ -6,7 +6,7 @@ use crate::status::Status;
 use crate::words_error::WordsError;
 use lls_base::{Memory, ReadError};
 use lls_search_file::PosedError;
-use std::alloc::AllocError;
+use std::alloc::{AllocError, AllocFailed};
 
 /// A failure of the outside.
 #[derive(Clone, Copy, Debug, PartialEq, Eq)]
@@ -34,6 +34,39 @@ pub enum Fault {
     TooLong(u64),
     /// An allocation was refused.
     Memory,
+}
+
+impl From<Memory> for Fault {
+    ghost use Rattle.std.specs.Prelude.{◌≡◌};
+    ghost use Rattle.lls_cli.specs.declared.fault.Fault.TheVariants as faults;
+
+    ghost from_gives = { λ _ e. e ≡ faults.Memory };
+
+    fn from(_: Memory) -> Self {
+        Fault::Memory
+    }
+}
+
+impl From<AllocError> for Fault {
+    ghost use Rattle.std.specs.Prelude.{◌≡◌};
+    ghost use Rattle.lls_cli.specs.declared.fault.Fault.TheVariants as faults;
+
+    ghost from_gives = { λ _ e. e ≡ faults.Memory };
+
+    fn from(_: AllocError) -> Self {
+        Fault::Memory
+    }
+}
+
+impl<T: Drop> From<AllocFailed<T>> for Fault {
+    ghost use Rattle.std.specs.Prelude.{◌≡◌};
+    ghost use Rattle.lls_cli.specs.declared.fault.Fault.TheVariants as faults;
+
+    ghost from_gives = { λ _ e. e ≡ faults.Memory };
+
+    fn from(_: AllocFailed<T>) -> Self {
+        Fault::Memory
+    }
 }
 
 impl Fault {

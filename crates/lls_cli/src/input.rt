@@ -81,14 +81,9 @@ pub fn read_problem<S: Shelf>(
     ensures no_fault { OnOk result (S.faults shelf.new ≡ S.faults shelf.old) }
     ensures files { known_files (S.told shelf.new) ≡ known_files (S.told shelf.old) }
 {
-    let bytes = match read_input(alloc, shelf, search, SEARCH_LIMIT) {
-        Ok(bytes) => bytes,
-        Err(fault) => return Err(fault),
-    };
-    match posed_input(alloc, &bytes) {
-        Ok(posed) => Ok(make_problem(posed, rule, demands).unwrap()),
-        Err(fault) => Err(fault),
-    }
+    let bytes = read_input(alloc, shelf, search, SEARCH_LIMIT)?;
+    let posed = posed_input(alloc, &bytes)?;
+    Ok(make_problem(posed, rule, demands).unwrap())
 }
 
 /// The history of a pattern's bytes.
@@ -118,8 +113,6 @@ pub fn read_pattern<S: Shelf>(
     ensures no_fault { OnOk result (S.faults shelf.new ≡ S.faults shelf.old) }
     ensures files { known_files (S.told shelf.new) ≡ known_files (S.told shelf.old) }
 {
-    match read_input(alloc, shelf, pattern, SEARCH_LIMIT) {
-        Ok(bytes) => pattern_input(alloc, &bytes),
-        Err(fault) => Err(fault),
-    }
+    let bytes = read_input(alloc, shelf, pattern, SEARCH_LIMIT)?;
+    pattern_input(alloc, &bytes)
 }
