@@ -5,7 +5,7 @@ use std::test::Fail;
 
 #[test]
 fn patterns_are_judged_and_rules_printed(rt: HostRuntime) -> Result<(), Fail> {
-    let rows: [Row; 16] = [
+    let rows: [Row; 19] = [
         (
             "judge f p",
             "1\n\n1\n",
@@ -42,6 +42,27 @@ fn patterns_are_judged_and_rules_printed(rt: HostRuntime) -> Result<(), Fail> {
             "broken: Name 0 0 1\n",
         ),
         ("judge f p", "a -a\n", "1 0\n", Status::Done, "meets\n"),
+        (
+            "judge f p",
+            "a -a\n",
+            "1\n",
+            Status::Refused,
+            "broken: Size\n",
+        ),
+        (
+            "judge f p",
+            "1\n\n1\n",
+            "0\n\n0\n",
+            Status::Refused,
+            "broken: Cell 0 0 0\n",
+        ),
+        (
+            "judge f p --edge open",
+            "0 0 0\n1 1 1\n0 0 0\n\n* * *\n* * *\n* * *\n",
+            "0 0 0\n1 1 1\n0 0 0\n\n0 1 0\n0 1 0\n0 1 1\n",
+            Status::Refused,
+            "broken: Rule 1 2 2\n",
+        ),
         (
             "judge f p",
             "0 0 0\n1 1 1\n0 0 0\n\n* * *\n* * *\n* * *\n",
