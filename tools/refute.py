@@ -149,15 +149,19 @@ class Refutation:
         return True
 
 
-def main():
-    path, births, survivals, edge = sys.argv[1:]
+def formula_of(path, births, survivals, edge):
+    """Returns the formula of the search file at a path."""
 
     def successor(nine):
         neighbours = sum(nine) - nine[4]
         return str(neighbours) in (survivals if nine[4] else births)
 
     with open(path, encoding="ascii") as file:
-        formula = Formula(read_search_file(file.read()), successor, edge == "closed")
+        return Formula(read_search_file(file.read()), successor, edge == "closed")
+
+
+def main():
+    formula = formula_of(*sys.argv[1:])
     print(f"{formula.count} variables, {len(formula.clauses)} clauses", file=sys.stderr)
     refutation = Refutation(formula)
     if not refutation.refute():

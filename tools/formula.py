@@ -1,0 +1,22 @@
+#!/usr/bin/env python3
+"""Prints the formula of a search file as DIMACS CNF, for any SAT solver.
+
+    formula.py SEARCH BIRTHS SURVIVALS closed|open
+
+BIRTHS and SURVIVALS are digits, or `-` for none. The clauses are made by refute.py beside this file, which shares nothing
+with the crates.
+"""
+import sys
+
+from refute import formula_of
+
+
+def main():
+    formula = formula_of(*sys.argv[1:])
+    print(f"p cnf {formula.count} {len(formula.clauses)}")
+    for clause in formula.clauses:
+        print(*clause, 0)
+
+
+if __name__ == "__main__":
+    main()
