@@ -1,7 +1,7 @@
 -- What a command line is answered by the files that stand on the shelf, where memory and the outside don't fail.
-use Rattle.std.specs.Prelude.{◌≡◌, ℕ, ◌++◌, nat_lt, Bool, List, [], ◌∷◌, length, Option, None, Some, Result, Ok, Err, IsErr, if◌then◌else◌}
+use Rattle.std.specs.Prelude.{◌≡◌, ℕ, ◌++◌, nat_lt, Bool, List, [], ◌∷◌, length, Option, None, Some, Result, Ok, Err, IsErr, IfSome, if◌then◌else◌}
 use Rattle.std.specs.FinMap as map
-use Rattle.lls_base.specs.Shelf.{Files}
+use Rattle.lls_base.specs.Shelf.{Files, Contents, known_files}
 use Rattle.lls_base.specs.Faults.{Rose}
 use Rattle.lls_hensel.specs.Printing.{rule_text}
 use Rattle.lls_search_file.specs.declared.error.PosedError.{PosedError}
@@ -34,6 +34,10 @@ use Rattle.lls_cli.specs.Texts.{check_text, judgement_text}
 abbrev pub and_so : {A B : Type 0} → Result A Fault → (A → Result B Fault) → Result B Fault
 and_so (Ok x) f = f x
 and_so (Err e) f = Err e
+
+-- a fact about the files, where the shelf tells them
+abbrev pub IfTold : Option Contents → (Files → Type 0) → Type 0
+IfTold told fact = IfSome (known_files told) fact
 
 -- a status and the text for the standard output
 pub record Decision : Type 0 where

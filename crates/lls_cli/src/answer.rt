@@ -7,7 +7,7 @@ ghost use Rattle.lls_encode.specs.Formula.{formula_of};
 ghost use Rattle.lls_hensel.specs.Isotropy.{IsIsotropic};
 ghost use Rattle.lls_hensel.specs.Printing.{rule_text};
 ghost use Rattle.lls_lrat.specs.Verdict.{verdict};
-ghost use Rattle.lls_cli.specs.Decided.{problem_of, check_decision, check_decided, judge_decided, job_decided, input_of, history_of, Outcome, Judged, ProblemIsAbsent, ProofIsRefused, PatternIsSolution, PatternIsBroken, YesHolds, NoHolds, HasRisen, IsInside, Settles};
+ghost use Rattle.lls_cli.specs.Decided.{problem_of, check_decision, check_decided, judge_decided, job_decided, input_of, history_of, Outcome, Judged, ProblemIsAbsent, ProofIsRefused, PatternIsSolution, PatternIsBroken, YesHolds, NoHolds, HasRisen, IfTold, IsInside, Settles};
 ghost use Rattle.lls_cli.specs.Job.{IsPrintable};
 ghost use Rattle.lls_cli.specs.Answer.{answer_seen, SettlesOutcome};
 ghost use Rattle.lls_cli.specs.Run.{IsYesOrNo, IsBehindWords};
@@ -38,14 +38,16 @@ pub struct Answer {
 
 /// The answer to a proof against the formula of a problem.
 fn check_proof(alloc: Global, problem: &Problem, proof: &[u8]) -> Result<Answer, Fault>
-    ensures answer { Settles answer_seen result (Ok (check_decision (verdict (formula_of problem.now) proof.now))) }
+    ensures answer { Settles answer_seen result
+        (Ok (check_decision (verdict (formula_of problem.now) proof.now))) }
     ensures yes_or_no { IfOk result (λ answer. IsYesOrNo answer.status) }
     ensures inside { IfErr result IsInside }
     ensures behind_words { IfErr result IsBehindWords }
 
     // A proof is accepted only where there is no solution.
     ensures absent { IfOk result (λ answer. answer.status ≡ Status.Done → IsAbsent problem.now) }
-    ensures refused { IfOk result (λ answer. answer.status ≡ Status.Refused → IsErr (verdict (formula_of problem.now) proof.now)) }
+    ensures refused { IfOk result (λ answer. answer.status ≡ Status.Refused
+        → IsErr (verdict (formula_of problem.now) proof.now)) }
 {
     let formula = encode(alloc, problem)?;
     let verdict = check_bytes(alloc, &formula, proof);
@@ -61,7 +63,8 @@ fn check_proof(alloc: Global, problem: &Problem, proof: &[u8]) -> Result<Answer,
 /// The canonical text of a rule.
 fn print(alloc: Global, rule: &Rule) -> Result<Answer, Fault>
     requires { IsIsotropic rule.now }
-    ensures answer { Settles answer_seen result (Ok (record { status = Status.Done; text = rule_text rule.now ++ 10 ∷ [] })) }
+    ensures answer { Settles answer_seen result
+        (Ok (record { status = Status.Done; text = rule_text rule.now ++ 10 ∷ [] })) }
     ensures yes_or_no { IfOk result (λ answer. IsYesOrNo answer.status) }
     ensures inside { IfErr result IsInside }
     ensures behind_words { IfErr result IsBehindWords }
@@ -81,12 +84,15 @@ fn print(alloc: Global, rule: &Rule) -> Result<Answer, Fault>
 /// The answer of a job, read from the shelf.
 pub fn answer_job<S: Shelf>(alloc: Global, shelf: &mut S, job: Job) -> Result<Answer, Fault>
     requires { IsPrintable job }
-    ensures decided { IfSome (known_files (S.told shelf.old)) (λ files. SettlesOutcome result (job_decided job files)) }
+    ensures decided { IfTold (S.told shelf.old) (λ files.
+        SettlesOutcome result (job_decided job files)) }
     ensures yes_or_no { IfOk result (λ answer. IsYesOrNo answer.status) }
     ensures behind_words { IfErr result IsBehindWords }
     ensures failed { IfErr result (λ fault. HasRisen fault (S.faults shelf.old) (S.faults shelf.new)) }
-    ensures yes { IfSome (known_files (S.told shelf.old)) (λ files. IfOk result (λ answer. answer.status ≡ Status.Done → YesHolds job files)) }
-    ensures no { IfSome (known_files (S.told shelf.old)) (λ files. IfOk result (λ answer. answer.status ≡ Status.Refused → NoHolds job files)) }
+    ensures yes { IfTold (S.told shelf.old) (λ files. IfOk result (λ answer.
+        answer.status ≡ Status.Done → YesHolds job files)) }
+    ensures no { IfTold (S.told shelf.old) (λ files. IfOk result (λ answer.
+        answer.status ≡ Status.Refused → NoHolds job files)) }
     ensures counts { Counts (S.faults shelf.old) (S.faults shelf.new) }
     ensures no_fault { OnOk result (S.faults shelf.new ≡ S.faults shelf.old) }
     ensures files { known_files (S.told shelf.new) ≡ known_files (S.told shelf.old) }
@@ -117,12 +123,15 @@ fn check<S: Shelf>(
     rule: Rule,
     demands: Demands,
 ) -> Result<Answer, Fault>
-    ensures decided { IfSome (known_files (S.told shelf.old)) (λ files. Settles answer_seen result (check_decided files search.now proof.now rule demands)) }
+    ensures decided { IfTold (S.told shelf.old) (λ files.
+        Settles answer_seen result (check_decided files search.now proof.now rule demands)) }
     ensures yes_or_no { IfOk result (λ answer. IsYesOrNo answer.status) }
     ensures behind_words { IfErr result IsBehindWords }
     ensures failed { IfErr result (λ fault. HasRisen fault (S.faults shelf.old) (S.faults shelf.new)) }
-    ensures absent { IfSome (known_files (S.told shelf.old)) (λ files. IfOk result (λ answer. answer.status ≡ Status.Done → ProblemIsAbsent (problem_of files search.now rule demands))) }
-    ensures refused { IfSome (known_files (S.told shelf.old)) (λ files. IfOk result (λ answer. answer.status ≡ Status.Refused
+    ensures absent { IfTold (S.told shelf.old) (λ files. IfOk result (λ answer.
+        answer.status ≡ Status.Done → ProblemIsAbsent (problem_of files search.now rule demands))) }
+    ensures refused { IfTold (S.told shelf.old) (λ files. IfOk result (λ answer.
+        answer.status ≡ Status.Refused
         → ProofIsRefused (problem_of files search.now rule demands) (input_of files proof.now 1073741824))) }
     ensures counts { Counts (S.faults shelf.old) (S.faults shelf.new) }
     ensures no_fault { OnOk result (S.faults shelf.new ≡ S.faults shelf.old) }
@@ -136,8 +145,10 @@ fn check<S: Shelf>(
 /// The answer to a history that is judged.
 fn judge_history(alloc: Global, problem: &Problem, history: &History) -> Result<Answer, Fault>
     ensures answer { SettlesOutcome result (Ok (Judged problem.now history.now)) }
-    ensures solution { IfOk result (λ answer. answer.status ≡ Status.Done → IsSolution problem.now history.now) }
-    ensures broken { IfOk result (λ answer. answer.status ≡ Status.Refused → IsSolution problem.now history.now → ⊥) }
+    ensures solution { IfOk result (λ answer.
+        answer.status ≡ Status.Done → IsSolution problem.now history.now) }
+    ensures broken { IfOk result (λ answer.
+        answer.status ≡ Status.Refused → IsSolution problem.now history.now → ⊥) }
     ensures yes_or_no { IfOk result (λ answer. IsYesOrNo answer.status) }
     ensures inside { IfErr result IsInside }
     ensures behind_words { IfErr result IsBehindWords }
@@ -161,10 +172,13 @@ fn judge_job<S: Shelf>(
     rule: Rule,
     demands: Demands,
 ) -> Result<Answer, Fault>
-    ensures decided { IfSome (known_files (S.told shelf.old)) (λ files. SettlesOutcome result (judge_decided files search.now pattern.now rule demands)) }
-    ensures solution { IfSome (known_files (S.told shelf.old)) (λ files. IfOk result (λ answer. answer.status ≡ Status.Done
+    ensures decided { IfTold (S.told shelf.old) (λ files.
+        SettlesOutcome result (judge_decided files search.now pattern.now rule demands)) }
+    ensures solution { IfTold (S.told shelf.old) (λ files. IfOk result (λ answer.
+        answer.status ≡ Status.Done
         → PatternIsSolution (problem_of files search.now rule demands) (history_of files pattern.now))) }
-    ensures broken { IfSome (known_files (S.told shelf.old)) (λ files. IfOk result (λ answer. answer.status ≡ Status.Refused
+    ensures broken { IfTold (S.told shelf.old) (λ files. IfOk result (λ answer.
+        answer.status ≡ Status.Refused
         → PatternIsBroken (problem_of files search.now rule demands) (history_of files pattern.now))) }
     ensures yes_or_no { IfOk result (λ answer. IsYesOrNo answer.status) }
     ensures behind_words { IfErr result IsBehindWords }

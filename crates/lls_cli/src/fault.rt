@@ -27,7 +27,8 @@ pub enum Fault {
     Words(WordsError),
     /// The search file isn't in its grammar, or is too large.
     Posed(PosedError),
-    /// The cell of this generation, row and column of the pattern is the first that is marked, or neither dead nor live.
+    /// The cell of this generation, row and column of the pattern is the first that is marked, or neither
+    /// dead nor live.
     NotPlain(u64, u64, u64),
     Outside(OutsideFault),
     /// An input has more bytes than this limit.

@@ -2,7 +2,7 @@
 ghost use Rattle.std.specs.Prelude.{◌≡◌, IfErr, IfSome, OnOk};
 ghost use Rattle.lls_base.specs.Faults.{Counts};
 ghost use Rattle.lls_base.specs.Shelf.{known_files};
-ghost use Rattle.lls_cli.specs.Decided.{input_of, problem_of, posed_in, plain_in, history_of, HasRisen, Settles, IsInside};
+ghost use Rattle.lls_cli.specs.Decided.{input_of, problem_of, posed_in, plain_in, history_of, HasRisen, IfTold, Settles, IsInside};
 ghost use Rattle.lls_search_file.specs.Reading.{posed_of};
 ghost use Rattle.lls_search_file.specs.Plain.{plain_of};
 ghost use Rattle.lls_cli.specs.Inputs.{input_fault};
@@ -39,7 +39,8 @@ pub fn read_input<S: Shelf>(
     name: &Name,
     limit: u64,
 ) -> Result<Vec<u8>, Fault>
-    ensures input { IfSome (known_files (S.told shelf.old)) (λ files. Settles (λ bytes. bytes.items) result (input_of files name.now limit)) }
+    ensures input { IfTold (S.told shelf.old) (λ files.
+        Settles (λ bytes. bytes.items) result (input_of files name.now limit)) }
     ensures behind_words { IfErr result IsBehindWords }
     ensures failed { IfErr result (λ fault. HasRisen fault (S.faults shelf.old) (S.faults shelf.new)) }
     ensures counts { Counts (S.faults shelf.old) (S.faults shelf.new) }
@@ -74,7 +75,8 @@ pub fn read_problem<S: Shelf>(
     rule: Rule,
     demands: Demands,
 ) -> Result<Problem, Fault>
-    ensures problem { IfSome (known_files (S.told shelf.old)) (λ files. Settles (λ problem. problem) result (problem_of files search.now rule demands)) }
+    ensures problem { IfTold (S.told shelf.old) (λ files.
+        Settles (λ problem. problem) result (problem_of files search.now rule demands)) }
     ensures behind_words { IfErr result IsBehindWords }
     ensures failed { IfErr result (λ fault. HasRisen fault (S.faults shelf.old) (S.faults shelf.new)) }
     ensures counts { Counts (S.faults shelf.old) (S.faults shelf.new) }
@@ -106,7 +108,8 @@ pub fn read_pattern<S: Shelf>(
     shelf: &mut S,
     pattern: &Name,
 ) -> Result<History, Fault>
-    ensures history { IfSome (known_files (S.told shelf.old)) (λ files. Settles (λ history. history) result (history_of files pattern.now)) }
+    ensures history { IfTold (S.told shelf.old) (λ files.
+        Settles (λ history. history) result (history_of files pattern.now)) }
     ensures behind_words { IfErr result IsBehindWords }
     ensures failed { IfErr result (λ fault. HasRisen fault (S.faults shelf.old) (S.faults shelf.new)) }
     ensures counts { Counts (S.faults shelf.old) (S.faults shelf.new) }

@@ -37,7 +37,8 @@ pub struct Scan<'w> {
 impl<'w> Scan<'w> {
     /// Takes an operand or an option, of which this is the word. After an error nothing more is said of it.
     fn take(&mut self, place: u64, word: &'w str, token: Token<'w>) -> Result<(), WordsError>
-        ensures { Gives (λ _. seen_scan self.new) result (Ok (with_token (seen_scan self.old) place word.entry.now (seen_token token.entry))) }
+        ensures { Gives (λ _. seen_scan self.new) result
+            (Ok (with_token (seen_scan self.old) place word.entry.now (seen_token token.entry))) }
     {
         match token {
             Token::Operand => self.operands.push(Operand { place, word })?,
@@ -70,7 +71,8 @@ pub fn scan_words<'w>(
     command: Command,
     words: &'w [String],
 ) -> Result<Scan<'w>, WordsError>
-    ensures { Gives seen_scan result (scan command 2 false nothing_scanned (map string_bytes words.entry.now)) }
+    ensures { Gives seen_scan result
+        (scan command 2 false nothing_scanned (map string_bytes words.entry.now)) }
 {
     let mut scan = Scan {
         operands: Vec::new(alloc),

@@ -37,7 +37,8 @@ pub fn read_token<'w>(
     word: &'w [u8],
     next: Option<&'w [u8]>,
 ) -> Result<Token<'w>, WordsError>
-    ensures { seen_word result ≡ token_of command (settings_of givens.now) place word.entry.now (option_copied next.entry) }
+    ensures { seen_word result
+        ≡ token_of command (settings_of givens.now) place word.entry.now (option_copied next.entry) }
 {
     if is_plain(word) {
         return Ok(Token::Operand);

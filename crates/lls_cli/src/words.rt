@@ -21,7 +21,8 @@ fn name_of(alloc: Global, operand: &Operand) -> Result<Name, AllocError>
 
 /// The job of a command by its operands and options.
 fn job_with(alloc: Global, command: Command, scan: &Scan) -> Result<Job, WordsError>
-    ensures job { Gives (λ job. job) result (job_with command (seen_scan scan.now).operands (seen_scan scan.now).givens) }
+    ensures job { Gives (λ job. job) result
+        (job_with command (seen_scan scan.now).operands (seen_scan scan.now).givens) }
     ensures printable { IfOk result IsPrintable }
 {
     match (command, scan.operands.as_slice()) {
@@ -50,8 +51,8 @@ fn job_with(alloc: Global, command: Command, scan: &Scan) -> Result<Job, WordsEr
     }
 }
 
-/// The job of the words behind the program's name, or the first fault: of the command, of the words from the left, of
-/// the number of operands, of the values from the left.
+/// The job of the words behind the program's name, or the first fault: of the command, of the words
+/// from the left, of the number of operands, of the values from the left.
 pub fn read_job(alloc: Global, words: &[String]) -> Result<Job, WordsError>
     ensures job { Gives (λ job. job) result (job_of (map string_bytes words.now)) }
     ensures printable { IfOk result IsPrintable }
