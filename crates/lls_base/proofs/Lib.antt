@@ -1,4 +1,5 @@
 pub mod Faults
+pub mod Results
 pub mod FileMaps
 pub mod NamedBytes
 pub mod Outputs

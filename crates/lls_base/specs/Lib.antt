@@ -1,4 +1,5 @@
 pub mod Faults
+pub mod Results
 pub mod Sink
 pub mod Shelf
 pub mod Reading
