@@ -1,6 +1,6 @@
 -- Faults that a whole has from its parts.
-use Rattle.std.proofs.Common.{◌≡◌, ◌≢◌, Result, Ok, Err, ap}
-use Rattle.lls_base.specs.Results.{and_then, Gives}
+use Rattle.std.proofs.Common.{◌≡◌, Result, Ok, Err, ap}
+use Rattle.lls_base.specs.Results.{and_then}
 
 -- the fault of a part is the fault of what follows from it
 pub and_then-err : {A B E : Type 0} (part : Result A E) (more : A → Result B E) (fault : E) → part ≡ Err fault → and_then part more ≡ Err fault

@@ -1,5 +1,5 @@
 -- What a whole write of a file leaves.
-use Rattle.std.specs.Prelude.{Bool, true, false, List, ℕ, None, Some, Result, Ok, Err}
+use Rattle.std.specs.Prelude.{Bool, true, false, List, ℕ, None, Some, Result, Ok, Err, codes}
 use Rattle.std.specs.FinMap as map
 use Rattle.lls_base.specs.declared.writing.FileFault.{FileFault}
 use Rattle.lls_base.specs.declared.writing.FileFault.TheVariants as fault
@@ -18,3 +18,8 @@ with_output name bytes c = record c { files = map.insert c.files name bytes; tar
 -- there is no current output
 abbrev pub without_output : Contents → Contents
 without_output c = record c { target = None }
+
+-- the name of an answer
+abbrev pub file_fault_text : FileFault → List ℕ
+file_fault_text fault.CreateFailed = codes "CreateFailed"
+file_fault_text fault.WriteFailed = codes "WriteFailed"

@@ -29,6 +29,13 @@ impl<R: Files> DiskShelf<R> {
             faults: 0,
         }
     }
+
+    /// How often a call has failed.
+    pub fn faults(&self) -> u64
+        ensures { result ≡ ⟦<DiskShelf<R> as Shelf>⟧.faults self.now }
+    {
+        self.faults
+    }
 }
 
 impl<R: Files> Shelf for DiskShelf<R> {

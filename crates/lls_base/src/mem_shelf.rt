@@ -119,7 +119,7 @@ impl MemShelf {
         stored(&self.files, name)
     }
 
-    /// How often a call has failed for want of memory. A call that isn't listed fails only there.
+    /// How often a call has failed for want of memory. It counts these alone, and a call that isn't listed fails only there.
     pub fn lacked(&self) -> u64
         ensures { result ≡ shelf_lacked self.now }
     {
@@ -153,8 +153,10 @@ impl Shelf for MemShelf {
         ensures counts { Counts (shelf_faults self.old) (shelf_faults self.new) }
         ensures failed { IsErrOf result OpenFault.Failed → Rose (shelf_faults self.old) (shelf_faults self.new) }
         ensures absent_is_no_fault { IsErrOf result OpenFault.Absent → shelf_faults self.new ≡ shelf_faults self.old }
+        ensures absent_lacks_nothing { IsErrOf result OpenFault.Absent → shelf_lacked self.new ≡ shelf_lacked self.old }
 
         // Each call that is listed fails, and no other does but for want of memory.
+        ensures listed_lacks_nothing { IsTrue (is_due (shelf_schedules self.old).opens) → shelf_lacked self.new ≡ shelf_lacked self.old }
         ensures listed { IsTrue (is_due (shelf_schedules self.old).opens) → IsErrOf result OpenFault.Failed }
         ensures unlisted { IsErrOf result OpenFault.Failed
             → IsTrue (is_due (shelf_schedules self.old).opens) ⊎ Rose (shelf_lacked self.old) (shelf_lacked self.new) }
@@ -162,6 +164,7 @@ impl Shelf for MemShelf {
         ensures same_most { shelf_most self.new ≡ shelf_most self.old }
         ensures no_fault { OnOk result (shelf_faults self.new ≡ shelf_faults self.old) }
         ensures no_lack { OnOk result (shelf_lacked self.new ≡ shelf_lacked self.old) }
+        ensures lacked_counts { Counts (shelf_lacked self.old) (shelf_lacked self.new) }
     {
         self.input = None;
         if self.schedules.opens.strikes() {
@@ -217,6 +220,7 @@ impl Shelf for MemShelf {
         ensures failed { OnErr result (Rose (shelf_faults self.old) (shelf_faults self.new)) }
 
         // Each call that is listed fails, and no other does but for want of memory.
+        ensures listed_lacks_nothing { IsTrue (is_due (shelf_schedules self.old).creates) → shelf_lacked self.new ≡ shelf_lacked self.old }
         ensures listed { IsTrue (is_due (shelf_schedules self.old).creates) → IsErr result }
         ensures unlisted { OnErr result
             (IsTrue (is_due (shelf_schedules self.old).creates) ⊎ Rose (shelf_lacked self.old) (shelf_lacked self.new)) }
@@ -224,6 +228,7 @@ impl Shelf for MemShelf {
         ensures same_most { shelf_most self.new ≡ shelf_most self.old }
         ensures no_fault { OnOk result (shelf_faults self.new ≡ shelf_faults self.old) }
         ensures no_lack { OnOk result (shelf_lacked self.new ≡ shelf_lacked self.old) }
+        ensures lacked_counts { Counts (shelf_lacked self.old) (shelf_lacked self.new) }
     {
         self.output = None;
         if self.schedules.creates.strikes() {
@@ -250,6 +255,7 @@ impl Shelf for MemShelf {
 
         // Each call that is listed fails, and no other does but for want of memory.
         ensures most { IfOk result (λ n. n ≡ min (length bytes.now) (shelf_most self.old)) }
+        ensures listed_lacks_nothing { IsTrue (is_due (shelf_schedules self.old).writes) → shelf_lacked self.new ≡ shelf_lacked self.old }
         ensures listed { IsTrue (is_due (shelf_schedules self.old).writes) → IsErr result }
         ensures unlisted { OnErr result
             (IsTrue (is_due (shelf_schedules self.old).writes) ⊎ Rose (shelf_lacked self.old) (shelf_lacked self.new)) }
@@ -257,6 +263,7 @@ impl Shelf for MemShelf {
         ensures same_most { shelf_most self.new ≡ shelf_most self.old }
         ensures no_fault { OnOk result (shelf_faults self.new ≡ shelf_faults self.old) }
         ensures no_lack { OnOk result (shelf_lacked self.new ≡ shelf_lacked self.old) }
+        ensures lacked_counts { Counts (shelf_lacked self.old) (shelf_lacked self.new) }
     {
         if self.schedules.writes.strikes() {
             self.tally.fail();

@@ -72,10 +72,12 @@ impl Sink for MemSink {
         ensures none { TookNone result bytes.now → Rose (sink_faults self.old) (sink_faults self.new) }
         ensures no_fault { OnOk result (sink_faults self.new ≡ sink_faults self.old) }
         ensures no_lack { OnOk result (sink_lacked self.new ≡ sink_lacked self.old) }
+        ensures lacked_counts { Counts (sink_lacked self.old) (sink_lacked self.new) }
 
         // Each call that is listed fails, and no other does but for want of memory.
         ensures most { IfOk result (λ n. n ≡ min (length bytes.now) (sink_most self.old)) }
         ensures listed { IsTrue (is_due (sink_schedule self.old)) → IsErr result }
+        ensures listed_lacks_nothing { IsTrue (is_due (sink_schedule self.old)) → sink_lacked self.new ≡ sink_lacked self.old }
         ensures unlisted { OnErr result (IsTrue (is_due (sink_schedule self.old)) ⊎ Rose (sink_lacked self.old) (sink_lacked self.new)) }
         ensures counted { sink_schedule self.new ≡ after_call (sink_schedule self.old) }
         ensures same_most { sink_most self.new ≡ sink_most self.old }

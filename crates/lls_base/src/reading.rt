@@ -1,13 +1,15 @@
 // Whole reads of a file, up to a limit.
-ghost use Rattle.std.specs.Prelude.{◌≡◌, ◌<◌, ◌≤◌, ◌++◌, ℕ, List, false, length, take, IsTrue, IsNone, IsErrOf, IfErr, IfSome, OnOk};
+ghost use Rattle.std.specs.Prelude.{◌≡◌, ◌<◌, ◌≤◌, ◌++◌, [], ℕ, List, false, length, take, IsTrue, IsNone, IsErrOf, IfErr, IfSome, OnOk};
 ghost use Rattle.std.specs.FinMap as map;
 ghost use Rattle.lls_base.specs.Faults.{Counts, Rose};
 ghost use Rattle.lls_base.specs.Shelf.{known_files, known_target, known_rest, bytes_of};
-ghost use Rattle.lls_base.specs.Reading.{was_opened, GrewByFile, GrewByAll};
+ghost use Rattle.lls_base.specs.Reading.{was_opened, has_failed, GrewByFile, GrewByAll};
 ghost use Rattle.lls_base.specs.declared.reading.ReadError.TheVariants.{Memory as OutOfMemory};
 
 use crate::{Failed, Name, OpenFault, Shelf};
 use std::alloc::AllocError;
+use std::error::Error;
+use std::fmt;
 
 const CHUNK: usize = 8192;
 
@@ -25,6 +27,25 @@ pub enum ReadError {
     /// There is no file of that name.
     NoFile,
 }
+
+impl fmt::Display for ReadError {
+    ghost use Rattle.std.specs.Prelude.{Some};
+    ghost use Rattle.lls_base.specs.Reading.{read_error_text};
+
+    ghost output = { λ error. Some (read_error_text error) };
+
+    fn fmt<W: fmt::Write>(&self, f: &mut fmt::Formatter<W>) -> fmt::Result {
+        match self {
+            ReadError::OpenFailed => write!(f, "OpenFailed"),
+            ReadError::ReadFailed => write!(f, "ReadFailed"),
+            ReadError::TooLong(limit) => write!(f, "TooLong {limit}"),
+            ReadError::Memory => write!(f, "Memory"),
+            ReadError::NoFile => write!(f, "NoFile"),
+        }
+    }
+}
+
+impl Error for ReadError {}
 
 impl From<AllocError> for ReadError {
     ghost from_gives = { λ _ e. e ≡ OutOfMemory };
@@ -44,6 +65,7 @@ pub fn read_all<S: Shelf>(
 ) -> Result<(), ReadError>
     ensures ok { OnOk result (IfSome (known_files (S.told shelf.old))
         (λ files. GrewByFile files name.now limit into.old.items into.new.items)) }
+    ensures rest { OnOk result (IfSome (known_rest (S.told shelf.new)) (λ rest. rest ≡ [])) }
     ensures grew { (bytes : List ℕ) × (into.new.items ≡ into.old.items ++ bytes) }
     ensures prefix { IfSome (known_files (S.told shelf.old))
         (λ files. (n : ℕ) × (into.new.items ≡ into.old.items ++ take n (bytes_of files name.now))) }
@@ -64,7 +86,7 @@ pub fn read_all<S: Shelf>(
     ensures input { S.has_input shelf.new ≡ was_opened result }
     ensures output { S.has_output shelf.new ≡ S.has_output shelf.old }
     ensures counts { Counts (S.faults shelf.old) (S.faults shelf.new) }
-    ensures no_fault { OnOk result (S.faults shelf.new ≡ S.faults shelf.old) }
+    ensures no_fault { has_failed result ≡ false → S.faults shelf.new ≡ S.faults shelf.old }
 {
     match shelf.open_input(name.text()) {
         Ok(()) => read_rest(shelf, limit, into),
@@ -78,6 +100,7 @@ fn read_rest<S: Shelf>(shelf: &mut S, limit: u64, into: &mut Vec<u8>) -> Result<
     requires { IsTrue (S.has_input shelf.old) }
     ensures ok { OnOk result (IfSome (known_rest (S.told shelf.old))
         (λ rest. GrewByAll limit into.old.items into.new.items rest)) }
+    ensures rest { OnOk result (IfSome (known_rest (S.told shelf.new)) (λ rest. rest ≡ [])) }
     ensures grew { (bytes : List ℕ) × (into.new.items ≡ into.old.items ++ bytes) }
     ensures prefix { IfSome (known_rest (S.told shelf.old))
         (λ rest. (n : ℕ) × (into.new.items ≡ into.old.items ++ take n rest)) }
@@ -93,7 +116,7 @@ fn read_rest<S: Shelf>(shelf: &mut S, limit: u64, into: &mut Vec<u8>) -> Result<
     ensures input { S.has_input shelf.new ≡ S.has_input shelf.old }
     ensures output { S.has_output shelf.new ≡ S.has_output shelf.old }
     ensures counts { Counts (S.faults shelf.old) (S.faults shelf.new) }
-    ensures no_fault { OnOk result (S.faults shelf.new ≡ S.faults shelf.old) }
+    ensures no_fault { has_failed result ≡ false → S.faults shelf.new ≡ S.faults shelf.old }
 {
     let mut chunk = [0; CHUNK];
     let mut taken = 0;

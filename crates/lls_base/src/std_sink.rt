@@ -18,6 +18,13 @@ impl<W: Write> StdSink<W> {
     {
         StdSink { stream, faults: 0 }
     }
+
+    /// How often a call has failed.
+    pub fn faults(&self) -> u64
+        ensures { result ≡ ⟦<StdSink<W> as Sink>⟧.faults self.now }
+    {
+        self.faults
+    }
 }
 
 impl<W: Write> Sink for StdSink<W> {

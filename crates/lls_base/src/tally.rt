@@ -8,6 +8,7 @@ pub struct Tally {
     pub faults: u64,
     pub lacked: u64,
     ghost faults_fit: { faults < 2 ^ 64 },
+    ghost lacked_fits: { lacked < 2 ^ 64 },
 }
 
 impl Tally {
@@ -30,6 +31,7 @@ impl Tally {
         ensures faults { Rose self.old.faults self.new.faults }
         ensures counts { Counts self.old.faults self.new.faults }
         ensures lacked { Rose self.old.lacked self.new.lacked }
+        ensures lacked_counts { Counts self.old.lacked self.new.lacked }
     {
         self.fail();
         self.lacked = self.lacked.saturating_add(1);

@@ -4,8 +4,9 @@ use crate::{
     StdSink, read_all, write_all, write_file,
 };
 use std::alloc::{AllocError, Global};
-use std::fs;
+use std::io::{ErrorKind, Write};
 use std::test::Fail;
+use std::{fs, io};
 
 fn name(alloc: Global, text: &str) -> Result<Name, AllocError> {
     Ok(Name::new(String::from_str(alloc, text)?))
@@ -120,19 +121,60 @@ fn real_files(rt: HostRuntime) -> Result<(), Fail> {
     let bytes = vec![in alloc; b'x'; 20_000]?;
     assert_eq!(rt; write_file(&mut shelf, &file, &bytes), Ok(()));
     let mut into = Vec::new(alloc);
-    assert_eq!(rt; read_all(&mut shelf, &file, 20_000, &mut into), Ok(()));
-    assert_eq!(rt; into.as_slice(), bytes.as_slice());
+    let read = read_all(&mut shelf, &file, 20_000, &mut into);
     // A file has no files below it: that isn't an absent file, but a failure.
-    let below = name(alloc, "lls_base_real_files/below")?;
-    assert_eq!(rt; shelf.open_input(below.text()), Err(OpenFault::Failed));
+    let below = shelf.open_input("lls_base_real_files/below");
     fs::remove_file(&rt, file.text())?;
+    assert_eq!(rt; read, Ok(()));
+    assert_eq!(rt; into.as_slice(), bytes.as_slice());
+    assert_eq!(rt; below, Err(OpenFault::Failed));
+    assert_eq!(rt; shelf.faults(), 1);
     assert_eq!(rt; shelf.open_input(file.text()), Err(OpenFault::Absent));
+    assert_eq!(rt; shelf.faults(), 1);
     assert_eq!(rt; shelf.create_output("no_folder/file"), Err(Failed));
+    assert_eq!(rt; shelf.faults(), 2);
+    // A folder is opened and can't be read; this device takes nothing.
+    assert_eq!(rt;
+        read_all(&mut shelf, &name(alloc, "/")?, 1, &mut into),
+        Err(ReadError::ReadFailed)
+    );
+    assert_eq!(rt; shelf.faults(), 3);
+    assert_eq!(rt;
+        write_file(&mut shelf, &name(alloc, "/dev/full")?, b"5 0 1"),
+        Err(FileFault::WriteFailed)
+    );
+    assert_eq!(rt; shelf.faults(), 4);
     Ok(())
 }
 
+// A stream that fails at its first call, takes nothing at its second, and everything from then on.
+#[derive(Drop)]
+struct Stubborn {
+    calls: u8,
+}
+
+impl Write for Stubborn {
+    fn write(&mut self, bytes: &[u8]) -> io::Result<usize> {
+        self.calls = self.calls.saturating_add(1);
+        match self.calls {
+            1 => Err(io::Error::from(ErrorKind::BrokenPipe)),
+            2 => Ok(0),
+            _ => Ok(bytes.len()),
+        }
+    }
+
+    fn flush(&mut self) -> io::Result<()> {
+        Ok(())
+    }
+}
+
 #[test]
-fn standard_streams(rt: HostRuntime) -> Result<(), Fail> {
+fn streams(rt: HostRuntime) -> Result<(), Fail> {
+    let mut sink = StdSink::new(Stubborn { calls: 0 });
+    for (faults, answer) in [(1, Err(Failed)), (2, Err(Failed)), (2, Ok(()))] {
+        assert_eq!(rt; write_all(&mut sink, b"block"), answer);
+        assert_eq!(rt; sink.faults(), faults);
+    }
     assert_eq!(rt; write_all(&mut StdSink::new(rt.stdout()), b"out\n"), Ok(()));
     assert_eq!(rt; StdSink::new(rt.stderr()).write(b""), Ok(0));
     Ok(())

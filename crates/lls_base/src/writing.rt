@@ -6,6 +6,8 @@ ghost use Rattle.lls_base.specs.Faults.{Counts, Rose};
 ghost use Rattle.lls_base.specs.Writing.{was_created, with_output, without_output};
 
 use crate::{Failed, Name, Shelf, Sink};
+use std::error::Error;
+use std::fmt;
 
 /// Why a file wasn't written whole.
 #[derive(Clone, Copy, Debug, PartialEq, Eq)]
@@ -15,6 +17,22 @@ pub enum FileFault {
     /// A write failed, or took nothing. The name stands for some first bytes.
     WriteFailed,
 }
+
+impl fmt::Display for FileFault {
+    ghost use Rattle.std.specs.Prelude.{Some};
+    ghost use Rattle.lls_base.specs.Writing.{file_fault_text};
+
+    ghost output = { λ fault. Some (file_fault_text fault) };
+
+    fn fmt<W: fmt::Write>(&self, f: &mut fmt::Formatter<W>) -> fmt::Result {
+        match self {
+            FileFault::CreateFailed => write!(f, "CreateFailed"),
+            FileFault::WriteFailed => write!(f, "WriteFailed"),
+        }
+    }
+}
+
+impl Error for FileFault {}
 
 /// Writes all the bytes to a sink. After a failure it has taken some first bytes of them.
 pub fn write_all<O: Sink>(sink: &mut O, bytes: &[u8]) -> Result<(), Failed>
