@@ -1,0 +1,41 @@
+-- The table of commands and options.
+use Rattle.std.specs.Prelude.{ℕ, ◌==◌, Bool, List, [], ◌∷◌, Option, None, Some, codes, if◌then◌else◌}
+use Rattle.std.specs.List.{list_any}
+use Rattle.std.specs.Str.{bytes_eq}
+use Rattle.lls_words.specs.declared.command.Command.{Command}
+use Rattle.lls_words.specs.declared.command.Command.TheVariants as commands
+use Rattle.lls_words.specs.declared.command.Setting.{Setting}
+use Rattle.lls_words.specs.declared.command.Setting.TheVariants as settings
+
+abbrev pub command_of : List ℕ → Option Command
+command_of name =
+    if bytes_eq name (codes "check") then Some commands.Check else
+    if bytes_eq name (codes "judge") then Some commands.Judge else
+    if bytes_eq name (codes "rule") then Some commands.Rule else None
+
+abbrev pub setting_of : List ℕ → Option Setting
+setting_of name =
+    if bytes_eq name (codes "rule") then Some settings.Rule else
+    if bytes_eq name (codes "edge") then Some settings.Edge else None
+
+abbrev pub operand_count : Command → ℕ
+operand_count commands.Check = 2
+operand_count commands.Judge = 2
+operand_count commands.Rule = 1
+
+-- the options that a command takes
+abbrev pub options_of : Command → List Setting
+options_of commands.Check = settings.Rule ∷ settings.Edge ∷ []
+options_of commands.Judge = settings.Rule ∷ settings.Edge ∷ []
+options_of commands.Rule = []
+
+-- where an option stands in the table of options
+abbrev pub table_place : Setting → ℕ
+table_place settings.Rule = 0
+table_place settings.Edge = 1
+
+abbrev pub same_setting : Setting → Setting → Bool
+same_setting a b = table_place a == table_place b
+
+abbrev pub takes : Command → Setting → Bool
+takes command setting = list_any (λ option. same_setting option setting) (options_of command)

@@ -1,0 +1,77 @@
+-- The items of a command line behind its command: operands, and options with their values.
+use Rattle.std.specs.Prelude.{ℕ, ◌+◌, ◌==◌, ◌&&◌, nat_lt, not, Bool, true, false, List, [], ◌∷◌, take, drop, position, Option, None, Some, if◌then◌else◌}
+
+-- a dash, and the sign between an option's name and its value
+abbrev pub is_dash : ℕ → Bool
+is_dash byte = byte == 45
+
+abbrev pub is_equals_sign : ℕ → Bool
+is_equals_sign byte = byte == 61
+
+-- a word that isn't empty and doesn't begin with a dash: an operand, or a value
+abbrev pub is_plain : List ℕ → Bool
+is_plain [] = false
+is_plain (b ∷ bs) = not (is_dash b)
+
+-- what stands behind the two dashes of an option, of which something does
+abbrev pub option_text : List ℕ → Option (List ℕ)
+option_text [] = None
+option_text (a ∷ []) = None
+option_text (a ∷ b ∷ []) = None
+option_text (a ∷ b ∷ c ∷ text) = if is_dash a && is_dash b then Some (c ∷ text) else None
+
+-- the form of a word: an operand; an option with its value in the same word; an option alone; none of these
+pub data Form : Type 0 where
+  operand : Form
+  inline : List ℕ → List ℕ → Form
+  spaced : List ℕ → Form
+  other : Form
+
+-- an option's name, and its value behind the first equals sign, where there is one
+abbrev pub cut_at : List ℕ → Option ℕ → Form
+cut_at text None = spaced text
+cut_at text (Some place) = inline (take place text) (drop (place + 1) text)
+
+abbrev pub option_form : Option (List ℕ) → Form
+option_form None = other
+option_form (Some text) = cut_at text (position is_equals_sign text)
+
+abbrev pub form_of : List ℕ → Form
+form_of word = if is_plain word then operand else option_form (option_text word)
+
+-- an item: an operand; an option by its name and its value, if it has one; a word that is neither. Each has its place
+pub data Item : Type 0 where
+  plain : ℕ → List ℕ → Item
+  named : ℕ → List ℕ → Option (List ℕ) → Item
+  odd : ℕ → Item
+
+-- the item of a word by its form and the word behind it
+abbrev pub formed : ℕ → List ℕ → Option (List ℕ) → Form → Item
+formed place word next operand = plain place word
+formed place word next (inline name value) = named place name (Some value)
+formed place word next (spaced name) = named place name next
+formed place word next other = odd place
+
+abbrev pub item_of : ℕ → List ℕ → Option (List ℕ) → Item
+item_of place word next = formed place word next (form_of word)
+
+-- an option alone takes the word behind it as its value
+abbrev pub is_spaced : Form → Bool
+is_spaced operand = false
+is_spaced (inline name value) = false
+is_spaced (spaced name) = true
+is_spaced other = false
+
+abbrev pub takes_next : List ℕ → Bool
+takes_next word = is_spaced (form_of word)
+
+-- how many words the item of a word takes, behind which stand that many
+abbrev pub words_taken : List ℕ → ℕ → ℕ
+words_taken word behind = if nat_lt 0 behind then (if takes_next word then 2 else 1) else 1
+
+-- the items of words from a place on
+abbrev pub items_of : ℕ → List (List ℕ) → List Item
+items_of place [] = []
+items_of place (word ∷ []) = item_of place word None ∷ []
+items_of place (word ∷ next ∷ words) =
+    item_of place word (Some next) ∷ (if takes_next word then items_of (place + 2) words else items_of (place + 1) (next ∷ words))

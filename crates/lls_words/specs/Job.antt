@@ -1,0 +1,81 @@
+-- The job of a command line, or its first fault.
+use Rattle.std.specs.Prelude.{ℕ, Bool, List, [], ◌∷◌, length, codes, Option, None, Some, Result, Ok, Err, if◌then◌else◌}
+use Rattle.std.specs.Str.{bytes_eq}
+use Rattle.lls_rule.specs.Rule.{table_of, by_counts}
+use Rattle.lls_hensel.specs.declared.read.RuleError.{RuleError}
+use Rattle.lls_hensel.specs.Isotropy.{IsIsotropic}
+use Rattle.lls_hensel.specs.Reading.{entries_of}
+use Rattle.lls_hensel.specs.Entries.{next_of}
+use Rattle.lls_problem.specs.declared.demands.Edge.{Edge}
+use Rattle.lls_problem.specs.declared.demands.Edge.TheVariants.{Framed, Bare}
+use Rattle.lls_words.specs.declared.command.Command.{Command}
+use Rattle.lls_words.specs.declared.command.Command.TheVariants as commands
+use Rattle.lls_words.specs.declared.command.Setting.{Setting}
+use Rattle.lls_words.specs.declared.command.Setting.TheVariants as settings
+use Rattle.lls_words.specs.declared.settings.Settings.{Settings}
+use Rattle.lls_words.specs.declared.job.Job.{Job}
+use Rattle.lls_words.specs.declared.job.Job.TheVariants as jobs
+use Rattle.lls_words.specs.declared.error.WordsError.{WordsError}
+use Rattle.lls_words.specs.declared.error.WordsError.TheVariants.{NoCommand, UnknownCommand, BadValue, BadRule, Operands}
+use Rattle.lls_words.specs.Command.{command_of, operand_count}
+use Rattle.lls_base.specs.Results.{and_then}
+use Rattle.lls_words.specs.Scan.{Operand, Given, scan}
+
+-- a rule text at a place
+abbrev pub rule_or : ℕ → Result (List Bool) RuleError → Result (List Bool) WordsError
+rule_or place (Ok rule) = Ok rule
+rule_or place (Err fault) = Err (BadRule place fault)
+
+-- the rule of a text is by its entries
+abbrev pub rule_read : List ℕ → Result (List Bool) RuleError
+rule_read text = and_then (entries_of text) (λ entries. Ok (table_of (next_of entries)))
+
+abbrev pub rule_at : ℕ → List ℕ → Result (List Bool) WordsError
+rule_at place text = rule_or place (rule_read text)
+
+abbrev pub edge_at : ℕ → List ℕ → Result Edge WordsError
+edge_at place text =
+    if bytes_eq text (codes "closed") then Ok Framed else
+    if bytes_eq text (codes "open") then Ok Bare else Err (BadValue place)
+
+abbrev pub setting_value : Settings → ℕ → List ℕ → Setting → Result Settings WordsError
+setting_value s place text settings.Rule = and_then (rule_at place text) (λ rule. Ok (record s { rule = rule }))
+setting_value s place text settings.Edge = and_then (edge_at place text) (λ edge. Ok (record s { demands = record s.demands { edge = edge } }))
+
+-- the settings with the value of one option
+abbrev pub with_value : Settings → Given → Result Settings WordsError
+with_value s given = setting_value s given.place given.value given.setting
+
+-- the settings of the options in their order
+abbrev pub settled : Settings → List Given → Result Settings WordsError
+settled s [] = Ok s
+settled s (given ∷ givens) = and_then (with_value s given) (λ more. settled more givens)
+
+-- Life, `B3/S23`, under a closed edge
+abbrev pub defaults : Settings
+defaults = record { rule = table_of (by_counts 8 12); demands = record { edge = Framed } }
+
+-- the job of a command by its operands, whose number is the first test, and its options
+abbrev pub job_with : Command → List Operand → List Given → Result Job WordsError
+job_with commands.Check (search_file ∷ proof ∷ []) givens =
+    and_then (settled defaults givens) (λ s. Ok (jobs.Check search_file.word proof.word s.rule s.demands))
+job_with commands.Judge (search_file ∷ pattern ∷ []) givens =
+    and_then (settled defaults givens) (λ s. Ok (jobs.Judge search_file.word pattern.word s.rule s.demands))
+job_with commands.Rule (text ∷ []) givens = and_then (rule_at text.place text.word) (λ rule. Ok (jobs.Rule rule))
+job_with command operands givens = Err (Operands (operand_count command) (length operands))
+
+abbrev pub job_of_command : Option Command → List (List ℕ) → Result Job WordsError
+job_of_command None words = Err UnknownCommand
+job_of_command (Some command) words =
+    and_then (scan command words) (λ s. job_with command s.operands s.givens)
+
+-- the job of all the words of a command line, without the program's name
+abbrev pub job_of : List (List ℕ) → Result Job WordsError
+job_of [] = Err NoCommand
+job_of (name ∷ words) = job_of_command (command_of name) words
+
+-- a rule that is to be printed is isotropic
+abbrev pub IsPrintable : Job → Type 0
+IsPrintable (jobs.Check search_file proof rule demands) = Unit {0}
+IsPrintable (jobs.Judge search_file pattern rule demands) = Unit {0}
+IsPrintable (jobs.Rule rule) = IsIsotropic rule

@@ -1,0 +1,6 @@
+pub mod Command
+pub mod Items
+pub mod Scan
+pub mod Job
+pub mod Texts
+pub mod Seen

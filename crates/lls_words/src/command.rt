@@ -1,0 +1,77 @@
+// The table of commands: what each is called, how many operands it has and which options it takes.
+ghost use Rattle.std.specs.Prelude.{◌≡◌};
+ghost use Rattle.lls_words.specs.Command.{command_of, operand_count, options_of, setting_of, takes};
+
+/// A command.
+#[derive(Clone, Copy, Debug, PartialEq, Eq)]
+pub enum Command {
+    Check,
+    Judge,
+    Rule,
+}
+
+/// An option.
+#[derive(Clone, Copy, Debug, PartialEq, Eq)]
+pub enum Setting {
+    Rule,
+    Edge,
+}
+
+impl Command {
+    /// The command of that name.
+    pub fn from_name(name: &[u8]) -> Option<Command>
+        ensures { result ≡ command_of name.now }
+    {
+        if name == b"check".as_slice() {
+            Some(Command::Check)
+        } else if name == b"judge".as_slice() {
+            Some(Command::Judge)
+        } else if name == b"rule".as_slice() {
+            Some(Command::Rule)
+        } else {
+            None
+        }
+    }
+
+    /// How many operands the command has.
+    pub fn operand_count(self) -> u64
+        ensures { result ≡ operand_count self }
+    {
+        match self {
+            Command::Check | Command::Judge => 2,
+            Command::Rule => 1,
+        }
+    }
+
+    /// The options that the command takes.
+    fn options(self) -> &'static [Setting]
+        ensures { result.now ≡ options_of self }
+    {
+        match self {
+            Command::Check | Command::Judge => &[Setting::Rule, Setting::Edge],
+            Command::Rule => &[],
+        }
+    }
+
+    /// Whether the command takes the option.
+    pub fn takes(self, setting: Setting) -> bool
+        ensures { result ≡ takes self setting }
+    {
+        self.options().iter().any(|option| *option == setting)
+    }
+}
+
+impl Setting {
+    /// The option of that name, without its two dashes.
+    pub fn from_name(name: &[u8]) -> Option<Setting>
+        ensures { result ≡ setting_of name.now }
+    {
+        if name == b"rule".as_slice() {
+            Some(Setting::Rule)
+        } else if name == b"edge".as_slice() {
+            Some(Setting::Edge)
+        } else {
+            None
+        }
+    }
+}

@@ -1,0 +1,18 @@
+//! The words of a command line and the job that they ask for.
+#![tactic(auto)]
+
+mod command;
+mod error;
+mod item;
+mod items;
+mod job;
+mod scan;
+mod settings;
+mod words;
+
+pub use error::WordsError;
+pub use job::Job;
+pub use words::read_job;
+
+#[cfg(test)]
+mod tests;

@@ -1,0 +1,81 @@
+// Command lines and the jobs or faults that they are read as.
+use crate::{Job, WordsError, read_job};
+use lls_problem::Edge;
+use std::alloc::{AllocError, Global};
+use std::test::Fail;
+
+/// The words of a command line, separated by single blanks.
+fn words_of(alloc: Global, text: &str) -> Result<Vec<String>, AllocError> {
+    let mut words = Vec::new(alloc);
+    for word in text.split(' ') {
+        words.push(String::from_str(alloc, word)?)?;
+    }
+    Ok(words)
+}
+
+#[test]
+fn faults_are_named_by_their_place(rt: HostRuntime) -> Result<(), Fail> {
+    let alloc = rt.alloc();
+    let rows = [
+        ("guess f p", "UnknownCommand"),
+        ("--help", "UnknownCommand"),
+        ("check f", "Operands 2 1"),
+        ("judge f p f", "Operands 2 3"),
+        ("rule", "Operands 1 0"),
+        ("check f  p", "BadWord 3"),
+        ("check -f p", "BadWord 2"),
+        ("check f -- p", "BadWord 3"),
+        ("check f p --best", "UnknownOption 4"),
+        ("rule --edge=open 23/3", "UnknownOption 2"),
+        ("check f p --edge open --edge open", "RepeatedOption 6"),
+        ("check f p --edge open --edge", "RepeatedOption 6"),
+        ("check f p --edge", "MissingValue 4"),
+        ("check f --edge= p", "MissingValue 3"),
+        ("check f --edge --rule p", "MissingValue 3"),
+        ("check --edge shut f p", "BadValue 2"),
+        ("check f p --rule=B9/S --edge shut", "Stray 4 2"),
+        ("check f p --edge shut --rule B9/S", "BadValue 4"),
+        ("rule B1k/S", "BadLetter 2 3"),
+        ("rule B33/S", "RepeatedDigit 2 3"),
+        ("rule B2aa/S", "RepeatedLetter 2 4"),
+        ("rule B2-/S", "NoLetters 2 3"),
+    ];
+    for (line, want) in rows {
+        let words = words_of(alloc, line)?;
+        let Err(error) = read_job(alloc, &words) else {
+            return Err(Fail::from("a fault"));
+        };
+        assert_eq!(rt; error.to_string(alloc)?.as_str(), want, "at {line:?}");
+    }
+    assert!(rt; matches!(read_job(alloc, &[]), Err(WordsError::NoCommand)));
+    Ok(())
+}
+
+#[test]
+fn options_and_operands_stand_in_any_order(rt: HostRuntime) -> Result<(), Fail> {
+    let alloc = rt.alloc();
+    let rows = [
+        ("check f p", Edge::Framed),
+        ("check --edge open f p", Edge::Bare),
+        ("check f --edge=open p", Edge::Bare),
+        ("check f p --edge closed", Edge::Framed),
+    ];
+    for (line, want) in rows {
+        let words = words_of(alloc, line)?;
+        let Ok(
+            Job::Check {
+                search,
+                proof,
+                demands,
+                ..
+            },
+        ) = read_job(alloc, &words)
+        else {
+            return Err(Fail::from("a check"));
+        };
+        assert_eq!(rt; search.text(), "f", "at {line:?}");
+        assert_eq!(rt; proof.text(), "p", "at {line:?}");
+        assert_eq!(rt; demands.edge, want, "at {line:?}");
+    }
+    Ok(())
+}
