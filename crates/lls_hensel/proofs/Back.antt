@@ -16,7 +16,8 @@ use Rattle.lls_hensel.specs.Entries.{Group, among, stands_for}
 use Rattle.lls_hensel.specs.Neighbours.{eight_of, around}
 use Rattle.lls_hensel.specs.Numbers.{class_by_number, letter_by_number, representative_by_number, representatives_of, representatives_of_fewer, images_by_number, fewer_of, turned, mirrored}
 use Rattle.lls_hensel.specs.Printing.{number_with, first_eight, representative_eight, letters_at, named, grouped, group_text}
-use Rattle.lls_hensel.specs.Reading.{is_count, is_slash, is_survival_mark, letters_read, letter_first, listed, tail_read, and_then}
+use Rattle.lls_hensel.specs.Reading.{is_count, is_slash, is_survival_mark, letters_read, letter_first, listed, tail_read}
+use Rattle.lls_base.specs.Results.{and_then}
 use Rattle.lls_hensel.specs.declared.read.RuleError.TheVariants.{NoLetters}
 use Rattle.lls_hensel.proofs.Parts.{Lettered, letters, part, part_step, part-cons, list_all-part, letters_read-part, stands_with, among-part}
 

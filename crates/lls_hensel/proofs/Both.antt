@@ -2,7 +2,8 @@
 use Rattle.std.proofs.Common.{◌≡◌, ℕ, Bool, false, List, ◌++◌, length, Result, Ok, Err, refl, ap, ◌∙◌}
 use Rattle.lls_rule.specs.Rule.{table_of}
 use Rattle.lls_hensel.specs.Entries.{Entry, next_of, with_entries}
-use Rattle.lls_hensel.specs.Reading.{and_then, both_sides, side_entries}
+use Rattle.lls_hensel.specs.Reading.{both_sides, side_entries}
+use Rattle.lls_base.specs.Results.{and_then}
 use Rattle.lls_hensel.specs.declared.read.RuleError.{RuleError}
 use Rattle.lls_hensel.proofs.With.{length-with_entries, with_entries-append, with_entries-dead}
 

@@ -13,7 +13,7 @@ use Rattle.lls_hensel.specs.Entries.{Entry, tells, next_of}
 use Rattle.lls_hensel.specs.Isotropy.{IsIsotropic}
 use Rattle.lls_hensel.specs.Neighbours.{around, eight_of, quarter_turn, mirror, are_images}
 use Rattle.lls_hensel.specs.Numbers.{class_by_number, letter_by_number, representative_by_number, representatives_of, representatives_of_fewer, images_by_number, fewer_of, turned, mirrored}
-use Rattle.lls_hensel.specs.Reading.{and_then}
+use Rattle.lls_base.specs.Results.{and_then}
 use Rattle.lls_hensel.proofs.Classes.{same_class, class_same}
 use Rattle.lls_hensel.proofs.Images.{IsKept, quarter_turn-eight_of, mirror-eight_of, same_around}
 use Rattle.lls_hensel.proofs.Tells.{is_of_class-eight_of}

@@ -12,7 +12,8 @@ use Rattle.lls_hensel.specs.Groups.{around_number}
 use Rattle.lls_hensel.specs.Neighbours.{around}
 use Rattle.lls_hensel.specs.Numbers.{class_by_number}
 use Rattle.lls_hensel.specs.Printing.{number_with, representative_eight, representative_nine, differs, uneven, side_text, rule_text}
-use Rattle.lls_hensel.specs.Reading.{Cut, side_read, side_entries, side_before, is_slash, is_survival_mark, survival_after, both_sides, birth_first, entries_of, and_then}
+use Rattle.lls_hensel.specs.Reading.{Cut, side_read, side_entries, side_before, is_slash, is_survival_mark, survival_after, both_sides, birth_first, entries_of}
+use Rattle.lls_base.specs.Results.{and_then}
 use Rattle.lls_hensel.proofs.Back.{own_answer}
 use Rattle.lls_hensel.proofs.SidesBack.{texts, is_inside, whole_side_back}
 use Rattle.lls_hensel.proofs.Tells.{around-eight_of}

@@ -10,7 +10,8 @@ use Rattle.lls_hensel.specs.Entries.{Group, among, next_of, stands_for, entries_
 use Rattle.lls_hensel.specs.Groups.{around_number}
 use Rattle.lls_hensel.specs.Numbers.{class_by_number}
 use Rattle.lls_hensel.specs.Printing.{group_text}
-use Rattle.lls_hensel.specs.Reading.{cut, cut_before, is_count, is_slash, is_survival_mark, group_read, groups_read, tail_read, and_then}
+use Rattle.lls_hensel.specs.Reading.{cut, cut_before, is_count, is_slash, is_survival_mark, group_read, groups_read, tail_read}
+use Rattle.lls_base.specs.Results.{and_then}
 use Rattle.lls_hensel.specs.declared.read.RuleError.TheVariants.{RepeatedDigit}
 use Rattle.lls_hensel.proofs.Back.{own_answer, is_behind, IsAbsent, IsPresent, group_back}
 use Rattle.lls_hensel.proofs.Tells.{next_of-entries_of_group, around_number-lt, counts-le}

@@ -2,15 +2,11 @@
 use Rattle.std.specs.Prelude.{ℕ, ◌+◌, ◌-◌, ◌==◌, nat_le, Bool, true, false, cond, not, List, [], ◌∷◌, ◌++◌, length, drop, flat_map, Result, Ok, Err, ◌&&◌, ◌||◌}
 use Rattle.std.specs.Char.{is_ascii_lowercase}
 use Rattle.std.specs.List.{take_while}
+use Rattle.lls_base.specs.Results.{and_then}
 use Rattle.lls_hensel.specs.Class.{letter_among}
 use Rattle.lls_hensel.specs.Entries.{Entry, Group, among, entries_of_group}
 use Rattle.lls_hensel.specs.declared.read.RuleError.{RuleError}
 use Rattle.lls_hensel.specs.declared.read.RuleError.TheVariants.{Empty, BadLetter, RepeatedDigit, RepeatedLetter, NoLetters, Stray}
-
--- what follows from a part that was read, or its fault
-abbrev pub and_then : {A B : Type 0} → Result A RuleError → (A → Result B RuleError) → Result B RuleError
-and_then (Ok part) more = more part
-and_then (Err fault) more = Err fault
 
 -- a digit `0` to `8`
 abbrev pub is_count : ℕ → Bool

@@ -1,7 +1,8 @@
 -- A side of a rule text as it is read from a place on.
 use Rattle.std.specs.Prelude.{ℕ, ◌+◌, Bool, List, take, drop, flat_map, Result, Ok}
 use Rattle.lls_hensel.specs.Entries.{Group, entries_of_group, with_entries}
-use Rattle.lls_hensel.specs.Reading.{cut, groups_read, and_then}
+use Rattle.lls_hensel.specs.Reading.{cut, groups_read}
+use Rattle.lls_base.specs.Results.{and_then}
 use Rattle.lls_hensel.specs.declared.read.RuleError.{RuleError}
 
 -- the groups of a side that begins at a column, from a place on at which a digit stands

@@ -5,7 +5,8 @@ ghost use Rattle.lls_hensel.specs.Entries.{next_of};
 ghost use Rattle.lls_hensel.specs.Numbers.{live_number, classes_by_number, representatives_of, letter_text, holds_by_number};
 ghost use Rattle.lls_hensel.specs.Isotropy.{IsIsotropic};
 ghost use Rattle.lls_hensel.specs.Printing.{representative_nine, uneven, group_text, side_text, rule_text};
-ghost use Rattle.lls_hensel.specs.Reading.{entries_of, and_then};
+ghost use Rattle.lls_hensel.specs.Reading.{entries_of};
+ghost use Rattle.lls_base.specs.Results.{and_then};
 
 use crate::class::{Representative, fewer, representative_of, representatives};
 use crate::nine::{CENTRE, around, with_centre};

@@ -4,7 +4,8 @@ ghost use Rattle.std.specs.List.{take_while};
 ghost use Rattle.lls_rule.specs.Rule.{table_of};
 ghost use Rattle.lls_hensel.specs.Entries.{next_of, with_entries};
 ghost use Rattle.lls_hensel.specs.Isotropy.{IsIsotropic};
-ghost use Rattle.lls_hensel.specs.Reading.{entries_of, birth_first, survival_first, is_slash, is_survival_mark, survival_after, after_mark, birth_after, side_before, side_entries, misplaced, before_digit, group_read, tail_read, listed, letters_read, is_count, and_then};
+ghost use Rattle.lls_hensel.specs.Reading.{entries_of, birth_first, survival_first, is_slash, is_survival_mark, survival_after, after_mark, birth_after, side_before, side_entries, misplaced, before_digit, group_read, tail_read, listed, letters_read, is_count};
+ghost use Rattle.lls_base.specs.Results.{and_then};
 ghost use Rattle.lls_hensel.specs.Seen.{seen_side, seen_result};
 ghost use Rattle.lls_hensel.specs.Sides.{groups_at, table_read};
 

@@ -1,7 +1,8 @@
 use Rattle.std.proofs.Common.{◌∙◌, sym, ap, Ok}
 use Rattle.lls_rule.specs.Rule.{table_of}
 use Rattle.lls_hensel.specs.Entries.{next_of}
-use Rattle.lls_hensel.specs.Reading.{entries_of, and_then}
+use Rattle.lls_hensel.specs.Reading.{entries_of}
+use Rattle.lls_base.specs.Results.{and_then}
 use Rattle.lls_hensel.proofs.Isotropy.{uneven-IsIsotropic}
 use Rattle.lls_hensel.proofs.RoundTrip.{entries_of-rule_text}
 use Rattle.lls_hensel.proofs.print.print_rule.Goals as goal
