@@ -1,10 +1,11 @@
--- A rule as a table of 512 answers, by the number of a neighbourhood, and what follows from it.
-use Rattle.std.specs.Prelude.{ℕ, ◌+◌, ◌*◌, ◌/◌, ◌%◌, ◌^◌, ◌==◌, suc, zero, Bool, false, cond, List, [], ◌∷◌, map, fold, count_by, replicate, slice_index_or}
+-- A rule as a table of answers by the number of a neighbourhood, and what follows from it.
+use Rattle.std.specs.Prelude.{ℕ, ◌+◌, ◌*◌, ◌/◌, ◌%◌, ◌^◌, ◌==◌, suc, zero, Bool, false, List, [], ◌∷◌, map, fold, count_by, replicate, slice_index_or, if◌then◌else◌}
 use Rattle.std.specs.List.{range_with_len}
+use Rattle.lls_rule.specs.declared.rule.TheConstants.Rule.{NEIGHBOURHOODS, NEIGHBOURS}
 
 -- the number of a list of bits, from the greatest weight to the least
 abbrev pub number_of : List Bool → ℕ
-number_of bits = fold (λ n bit. 2 * n + cond bit 1 0) 0 bits
+number_of bits = fold (λ n bit. 2 * n + (if bit then 1 else 0)) 0 bits
 
 -- the table's answer at a number, and false past its end
 abbrev pub answer : List Bool → ℕ → Bool
@@ -17,20 +18,28 @@ successor table nine = answer table (number_of nine)
 -- the value of every place far from the pattern, by generation
 abbrev pub background : List Bool → ℕ → Bool
 background table zero = false
-background table (suc t) = successor table (replicate 9 (background table t))
+background table (suc t) = successor table (replicate (NEIGHBOURS + 1) (background table t))
 
--- the table of the answers that a function gives to the 512 numbers
+-- the table of the answers that a function gives to the numbers of the neighbourhoods
 unfoldable pub table_of : (ℕ → Bool) → List Bool
-table_of f = map f (range_with_len 0 512)
+table_of f = map f (range_with_len 0 NEIGHBOURHOODS)
 
 -- whether the bit of weight 2 ^ k stands in n
 abbrev pub has_bit : ℕ → ℕ → Bool
 has_bit n k = n / 2 ^ k % 2 == 1
 
--- how many of the eight cells round the centre are live; the centre has weight 2 ^ 4
+-- whether the centre of a neighbourhood is live
+abbrev pub has_centre : ℕ → Bool
+has_centre nine = has_bit nine 4
+
+-- the eight cells round the centre, from top left to bottom right
+abbrev pub around : ℕ → List Bool
+around nine = map (has_bit nine) (8 ∷ 7 ∷ 6 ∷ 5 ∷ 3 ∷ 2 ∷ 1 ∷ 0 ∷ [])
+
+-- how many of them are live
 abbrev pub live_neighbours : ℕ → ℕ
-live_neighbours nine = count_by (has_bit nine) (8 ∷ 7 ∷ 6 ∷ 5 ∷ 3 ∷ 2 ∷ 1 ∷ 0 ∷ [])
+live_neighbours nine = count_by (λ live. live) (around nine)
 
 -- whether a cell lives on by the number of its live neighbours: bit k of `birth` or `survive` stands for k of them
 abbrev pub by_counts : ℕ → ℕ → ℕ → Bool
-by_counts birth survive nine = has_bit (cond (has_bit nine 4) survive birth) (live_neighbours nine)
+by_counts birth survive nine = has_bit (if has_centre nine then survive else birth) (live_neighbours nine)

@@ -1,11 +1,12 @@
--- How a rule keeps its 512 answers in eight words of 64 bits, and gets the words back from the answers.
-use Rattle.std.specs.Prelude.{ℕ, ◌+◌, ◌*◌, ◌/◌, ◌^◌, ◌<◌, ◌≡◌, suc, zero, Bool, cond, List, [], ◌∷◌, ◌++◌, take, drop, length, flat_map, refl}
+-- For private contracts alone: how a rule keeps its answers in words, and gets the words back from the answers.
+use Rattle.std.specs.Prelude.{ℕ, ◌+◌, ◌*◌, ◌/◌, ◌^◌, ◌<◌, ◌≡◌, suc, zero, Bool, List, [], ◌∷◌, ◌++◌, take, drop, length, flat_map, refl, if◌then◌else◌}
 use Rattle.std.proofs.Common.{get_or, ap, ◌∙◌, arith, subst}
 use Rattle.std.proofs.Math.Seq.{take-append_seam, drop-append_seam}
 use Rattle.std.proofs.Math.Nat.{pow-suc}
 use Rattle.std.proofs.lemmas.Bool.Decides.{nat_tests}
 use Rattle.std.proofs.lemmas.Nat.Bits.{bit_at_lowest}
 use Rattle.lls_rule.specs.Rule.{has_bit}
+use Rattle.lls_rule.specs.declared.rule.TheConstants.{WORDS, WORD_BITS}
 
 -- the lowest k bits of a word, the lowest first
 abbrev pub word_bits : ℕ → ℕ → List Bool
@@ -15,7 +16,7 @@ word_bits (suc k) word = has_bit word 0 ∷ word_bits k (word / 2)
 -- the word of a list of bits, the lowest first
 abbrev pub word_of : List Bool → ℕ
 word_of [] = 0
-word_of (bit ∷ bits) = cond bit 1 0 + 2 * word_of bits
+word_of (bit ∷ bits) = (if bit then 1 else 0) + 2 * word_of bits
 
 -- the bits of words of a width, in one list
 abbrev pub bits_in : ℕ → List ℕ → List Bool
@@ -26,24 +27,24 @@ abbrev pub words_in : ℕ → ℕ → List Bool → List ℕ
 words_in width zero bits = []
 words_in width (suc k) bits = word_of (take width bits) ∷ words_in width k (drop width bits)
 
--- the 64 bits of a word, the lowest first
+-- the bits of a rule's word, the lowest first
 unfoldable pub bits_of_word : ℕ → List Bool
-bits_of_word word = word_bits 64 word
+bits_of_word word = word_bits WORD_BITS word
 
--- the answers that words of 64 bits hold
+-- the answers that a rule's words hold
 unfoldable pub table_in : List ℕ → List Bool
-table_in words = bits_in 64 words
+table_in words = bits_in WORD_BITS words
 
--- the eight words of a table
+-- the words of a table
 unfoldable pub words_of : List Bool → List ℕ
-words_of table = words_in 64 8 table
+words_of table = words_in WORD_BITS WORDS table
 
--- eight words of 64 bits
+-- as many words as a rule has, each of its bits
 pub record IsEightWords (words : List ℕ) : Type 0 where
-  pub eight : length words ≡ 8
-  pub within : (k : ℕ) → get_or words k 0 < 2 ^ 64
+  pub eight : length words ≡ WORDS
+  pub within : (k : ℕ) → get_or words k 0 < 2 ^ WORD_BITS
 
-bit-lowest : (word : ℕ) → cond (has_bit word 0) 1 0 + 2 * (word / 2) ≡ word
+bit-lowest : (word : ℕ) → (if has_bit word 0 then 1 else 0) + 2 * (word / 2) ≡ word
 bit-lowest word = let h = bit_at_lowest word in grind (arith, nat_tests, h)
 
 half-lt : (k word : ℕ) → word < 2 ^ suc k → word / 2 < 2 ^ k
@@ -52,7 +53,7 @@ half-lt k word h = omega (arith, pow-suc 2 k)
 pub word_of-word_bits : (k word : ℕ) → word < 2 ^ k → word_of (word_bits k word) ≡ word
 word_of-word_bits zero word within = omega arith
 word_of-word_bits (suc k) word within =
-    ap (λ n. cond (has_bit word 0) 1 0 + 2 * n) (word_of-word_bits k (word / 2) (half-lt k word within)) ∙ bit-lowest word
+    ap (λ n. (if has_bit word 0 then 1 else 0) + 2 * n) (word_of-word_bits k (word / 2) (half-lt k word within)) ∙ bit-lowest word
 
 pub length-word_bits : (k word : ℕ) → length (word_bits k word) ≡ k
 length-word_bits zero word = refl
