@@ -10,10 +10,10 @@ use Rattle.std.proofs.Math.Bool.{beq, not-not}
 use Rattle.std.proofs.lemmas.Bool.{agree_below, agree_below_at, and_parts, eqb-true, ne_eqb, leb-true, or_cases, cases_Bool}
 use Rattle.std.proofs.lemmas.Bool.Decides.{leb_tells}
 use Rattle.std.proofs.lemmas.Slice.Eq.{slice_eq-Decides}
-use Rattle.lls_rule.specs.Rule.{answer}
+use Rattle.lls_rule.specs.Rule.{answer, around}
 use Rattle.lls_hensel.specs.Class.{Picture, pictures, lettered}
 use Rattle.lls_hensel.specs.Entries.{Group, among, stands_for}
-use Rattle.lls_hensel.specs.Neighbours.{eight_of, around}
+use Rattle.lls_hensel.specs.Neighbours.{eight_of}
 use Rattle.lls_hensel.specs.Numbers.{class_by_number, letter_by_number, representative_by_number, representatives_of, representatives_of_fewer, images_by_number, fewer_of, turned, mirrored}
 use Rattle.lls_hensel.specs.Printing.{number_with, first_eight, representative_eight, letters_at, named, grouped, group_text}
 use Rattle.lls_hensel.specs.Reading.{is_count, is_slash, is_survival_mark, letters_read, letter_first, listed, tail_read}

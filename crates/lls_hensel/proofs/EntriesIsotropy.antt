@@ -4,14 +4,14 @@ use Rattle.std.specs.Int.Count.{ones}
 use Rattle.std.specs.List.{list_any}
 use Rattle.std.proofs.Math.Bool.{beq}
 use Rattle.std.proofs.lemmas.Bool.{agree_below, agree_below_at, and_parts}
-use Rattle.lls_rule.specs.Rule.{has_bit, table_of}
+use Rattle.lls_rule.specs.Rule.{has_bit, table_of, around}
 use Rattle.lls_rule.proofs.Tables.{answer-table_of}
 use Rattle.lls_hensel.specs.declared.class.Class.{Class}
 use Rattle.lls_hensel.specs.declared.read.RuleError.{RuleError}
 use Rattle.lls_hensel.specs.Class.{is_of_class, same_letter}
 use Rattle.lls_hensel.specs.Entries.{Entry, tells, next_of}
 use Rattle.lls_hensel.specs.Isotropy.{IsIsotropic}
-use Rattle.lls_hensel.specs.Neighbours.{around, eight_of, quarter_turn, mirror, are_images}
+use Rattle.lls_hensel.specs.Neighbours.{eight_of, quarter_turn, mirror, are_images}
 use Rattle.lls_hensel.specs.Numbers.{class_by_number, letter_by_number, representative_by_number, representatives_of, representatives_of_fewer, images_by_number, fewer_of, turned, mirrored}
 use Rattle.lls_base.specs.Results.{and_then}
 use Rattle.lls_hensel.proofs.Classes.{same_class, class_same}

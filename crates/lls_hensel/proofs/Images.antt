@@ -6,8 +6,9 @@ use Rattle.std.specs.Cmp.{booleans_Decides}
 use Rattle.std.proofs.Math.Bool.{beq}
 use Rattle.std.proofs.lemmas.Bool.{agree_below, agree_below_at, and_parts, or_cases, ltb-true}
 use Rattle.std.proofs.lemmas.Slice.Eq.{slice_eq-Decides}
+use Rattle.lls_rule.specs.Rule.{around}
 use Rattle.lls_hensel.specs.Groups.{around_number}
-use Rattle.lls_hensel.specs.Neighbours.{around, eight_of, quarter_turn, mirror, turns, are_images}
+use Rattle.lls_hensel.specs.Neighbours.{eight_of, quarter_turn, mirror, turns, are_images}
 use Rattle.lls_hensel.specs.Numbers.{turned, mirrored}
 use Rattle.lls_hensel.proofs.Tells.{around_number-lt, around-eight_of}
 

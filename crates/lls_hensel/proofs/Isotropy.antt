@@ -4,8 +4,8 @@ use Rattle.std.specs.List.{range_with_len}
 use Rattle.std.specs.Cmp.Lexicographic.{pointwise}
 use Rattle.std.proofs.Math.Bool.{beq}
 use Rattle.std.proofs.lemmas.Bool.{agree_below, agree_below_at, and_parts, ltb-true}
-use Rattle.lls_rule.specs.Rule.{answer, has_bit}
-use Rattle.lls_hensel.specs.Neighbours.{around, eight_of, quarter_turn, mirror, are_images}
+use Rattle.lls_rule.specs.Rule.{answer, has_bit, around}
+use Rattle.lls_hensel.specs.Neighbours.{eight_of, quarter_turn, mirror, are_images}
 use Rattle.lls_hensel.specs.Isotropy.{IsIsotropic}
 use Rattle.lls_hensel.specs.Printing.{number_with, representative_eight, representative_nine, differs, uneven}
 use Rattle.lls_hensel.proofs.RoundTrip.{isotropic}

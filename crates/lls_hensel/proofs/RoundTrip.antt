@@ -5,11 +5,10 @@ use Rattle.std.proofs.Math.Bool.{beq, or-false}
 use Rattle.std.proofs.Math.Seq.{drop-append_seam}
 use Rattle.std.proofs.lemmas.Bool.{and_parts, cases_eq, le-leb}
 use Rattle.std.proofs.lemmas.List.Sums.{take_while-cons}
-use Rattle.lls_rule.specs.Rule.{answer, has_bit, table_of}
+use Rattle.lls_rule.specs.Rule.{answer, has_bit, table_of, around}
 use Rattle.lls_rule.proofs.Tables.{same_table_of}
 use Rattle.lls_hensel.specs.Entries.{Entry, next_of, entries_of_group}
 use Rattle.lls_hensel.specs.Groups.{around_number}
-use Rattle.lls_hensel.specs.Neighbours.{around}
 use Rattle.lls_hensel.specs.Numbers.{class_by_number}
 use Rattle.lls_hensel.specs.Printing.{number_with, representative_eight, representative_nine, differs, uneven, side_text, rule_text}
 use Rattle.lls_hensel.specs.Reading.{Cut, side_read, side_entries, side_before, is_slash, is_survival_mark, survival_after, both_sides, birth_first, entries_of}

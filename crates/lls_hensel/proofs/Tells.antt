@@ -11,12 +11,12 @@ use Rattle.std.proofs.lemmas.Bool.{leb-true, ltb-true, lt-leb, ne_eqb, and_left}
 use Rattle.std.proofs.lemmas.Bool.Decides.{leb_tells, eqb_tells}
 use Rattle.std.proofs.lemmas.Map.Views.{any-filter_same}
 use Rattle.std.proofs.lemmas.Slice.Eq.{slice_eq-Decides}
-use Rattle.lls_rule.specs.Rule.{has_bit}
+use Rattle.lls_rule.specs.Rule.{has_bit, around}
 use Rattle.lls_hensel.specs.declared.class.Class.{Class}
 use Rattle.lls_rule.proofs.Counts.{centre_test}
 use Rattle.lls_hensel.proofs.Classes.{letter_same, classes_of-class_by_number}
 use Rattle.lls_hensel.specs.Class.{classes_of, pictures, same_letter, is_of_class}
-use Rattle.lls_hensel.specs.Neighbours.{eight_of, around, are_images}
+use Rattle.lls_hensel.specs.Neighbours.{eight_of, are_images}
 use Rattle.lls_hensel.specs.Numbers.{class_by_number, letter_by_number, representative_by_number, representatives_of, representatives_of_fewer, images_by_number, fewer_of, turned, mirrored}
 use Rattle.lls_hensel.specs.Entries.{Entry, Group, tells, next_of, letters_of, stands_for, entries_of_group}
 use Rattle.lls_hensel.specs.Groups.{around_number}

@@ -1,7 +1,8 @@
 -- The classes of eight neighbours and their letters in Hensel notation.
 use Rattle.std.specs.Prelude.{ℕ, ◌-◌, ◌==◌, suc, zero, nat_le, Bool, true, false, cond, not, List, [], ◌∷◌, map, filter, flat_map, codes, replicate, Option, Some, None, ◌&&◌}
 use Rattle.std.specs.List.{range_with_len, zip, list_any}
-use Rattle.lls_hensel.specs.Neighbours.{around, are_images}
+use Rattle.lls_rule.specs.Rule.{around}
+use Rattle.lls_hensel.specs.Neighbours.{are_images}
 use Rattle.lls_hensel.specs.declared.class.Class.{Class}
 
 -- the letters of a count up to four, each with the number of a neighbourhood of its class whose centre is dead

@@ -2,9 +2,8 @@
 use Rattle.std.specs.Prelude.{ℕ, ◌==◌, Bool, true, false, cond, not, List, map, filter, length, Option, Some, None, ◌&&◌, ◌||◌}
 use Rattle.std.specs.List.{list_any}
 use Rattle.std.proofs.Math.Bool.{beq}
-use Rattle.lls_rule.specs.Rule.{has_bit, answer, table_of}
+use Rattle.lls_rule.specs.Rule.{has_bit, answer, table_of, around}
 use Rattle.lls_hensel.specs.declared.class.Class.{Class}
-use Rattle.lls_hensel.specs.Neighbours.{around}
 use Rattle.lls_hensel.specs.Class.{pictures, is_of_class}
 
 -- a class at which cells survive, or are born

@@ -1,7 +1,7 @@
 -- Rules that answer by class.
 use Rattle.std.specs.Prelude.{◌≡◌, ◌<◌, ℕ, Bool, true, List}
-use Rattle.lls_rule.specs.Rule.{has_bit, answer}
-use Rattle.lls_hensel.specs.Neighbours.{around, are_images}
+use Rattle.lls_rule.specs.Rule.{has_bit, answer, around}
+use Rattle.lls_hensel.specs.Neighbours.{are_images}
 
 -- neighbourhoods with equal centres and one class have equal answers
 abbrev pub IsIsotropic : List Bool → Type 0

@@ -5,13 +5,9 @@ use Rattle.std.specs.Cmp.Lexicographic.{pointwise}
 use Rattle.std.proofs.Math.Bool.{beq}
 use Rattle.lls_rule.specs.Rule.{has_bit}
 
--- the bits of a number below 256, the greatest first
+-- the eight bits of a number below 256, the greatest first
 abbrev pub eight_of : ℕ → List Bool
 eight_of n = map (has_bit n) (7 ∷ 6 ∷ 5 ∷ 4 ∷ 3 ∷ 2 ∷ 1 ∷ 0 ∷ [])
-
--- the eight neighbours in a neighbourhood's number, from top left to bottom right
-abbrev pub around : ℕ → List Bool
-around nine = map (has_bit nine) (8 ∷ 7 ∷ 6 ∷ 5 ∷ 3 ∷ 2 ∷ 1 ∷ 0 ∷ [])
 
 -- the eight neighbours after a quarter turn
 abbrev pub quarter_turn : List Bool → List Bool

@@ -2,8 +2,8 @@
 use Rattle.std.specs.Prelude.{ℕ, ◌+◌, ◌-◌, ◌==◌, nat_le, Bool, true, false, cond, not, List, [], ◌∷◌, ◌++◌, map, filter, find, flat_map, length, Option, Some, None}
 use Rattle.std.specs.List.{range_with_len}
 use Rattle.std.proofs.Math.Bool.{beq}
-use Rattle.lls_rule.specs.Rule.{number_of, has_bit, answer}
-use Rattle.lls_hensel.specs.Neighbours.{around, are_images}
+use Rattle.lls_rule.specs.Rule.{number_of, has_bit, answer, around}
+use Rattle.lls_hensel.specs.Neighbours.{are_images}
 use Rattle.lls_hensel.specs.Class.{Picture, pictures}
 
 -- the number of the neighbourhood of a centre and the eight round it
