@@ -1,7 +1,8 @@
 -- The two sides of a rule text, one after the other.
 use Rattle.std.proofs.Common.{◌≡◌, ℕ, Bool, false, List, ◌++◌, length, Result, Ok, Err, refl, ap, ◌∙◌}
 use Rattle.lls_rule.specs.Rule.{table_of}
-use Rattle.lls_hensel.specs.Entries.{Entry, next_of, with_entries}
+use Rattle.lls_hensel.specs.Entries.{Entry, next_of}
+use Rattle.lls_hensel.specs.Sides.{with_entries}
 use Rattle.lls_hensel.specs.Reading.{both_sides, side_entries}
 use Rattle.lls_base.specs.Results.{and_then}
 use Rattle.lls_hensel.specs.declared.read.RuleError.{RuleError}

@@ -5,7 +5,7 @@ use Rattle.std.proofs.lemmas.Bool.{agree_below, agree_below_at, eqb-true, and_pa
 use Rattle.lls_hensel.specs.declared.class.Class.{Class}
 use Rattle.lls_hensel.specs.Class.{classes_of, same_letter}
 use Rattle.lls_hensel.specs.Neighbours.{eight_of}
-use Rattle.lls_hensel.specs.Numbers.{class_by_number, letter_by_number, representative_by_number, representatives_of, representatives_of_fewer, images_by_number, fewer_of, turned, mirrored}
+use Rattle.lls_hensel.specs.Numbers.{class_by_number, letter_by_number, representative_by_number, representatives_of, representatives_of_fewer, images_by_number, fewer_of, turned, mirrored, flipped}
 
 -- whether two classes have one count and one letter
 unfoldable pub same_class : Class → Class → Bool
@@ -17,7 +17,7 @@ is_only class (first ∷ []) = same_class first class
 is_only class _ = false
 
 each_has_one : agree_below (λ n. is_only (class_by_number n) (classes_of (eight_of n))) (λ _. true) 256 ≡ true
-unfolding is_only same_class classes_of class_by_number letter_by_number representative_by_number representatives_of representatives_of_fewer images_by_number fewer_of turned mirrored ones
+unfolding is_only same_class classes_of class_by_number letter_by_number representative_by_number representatives_of representatives_of_fewer images_by_number fewer_of turned mirrored flipped ones
 each_has_one = refl
 
 pub letter_same : (a b : Option ℕ) → same_letter a b ≡ true → a ≡ b

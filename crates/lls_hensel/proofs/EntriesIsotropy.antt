@@ -12,14 +12,14 @@ use Rattle.lls_hensel.specs.Class.{is_of_class, same_letter}
 use Rattle.lls_hensel.specs.Entries.{Entry, tells, next_of}
 use Rattle.lls_hensel.specs.Isotropy.{IsIsotropic}
 use Rattle.lls_hensel.specs.Neighbours.{eight_of, quarter_turn, mirror, are_images}
-use Rattle.lls_hensel.specs.Numbers.{class_by_number, letter_by_number, representative_by_number, representatives_of, representatives_of_fewer, images_by_number, fewer_of, turned, mirrored}
+use Rattle.lls_hensel.specs.Numbers.{class_by_number, letter_by_number, representative_by_number, representatives_of, representatives_of_fewer, images_by_number, fewer_of, turned, mirrored, flipped}
 use Rattle.lls_base.specs.Results.{and_then}
 use Rattle.lls_hensel.proofs.Classes.{same_class, class_same}
 use Rattle.lls_hensel.proofs.Images.{IsKept, quarter_turn-eight_of, mirror-eight_of, same_around}
 use Rattle.lls_hensel.proofs.Tells.{is_of_class-eight_of}
 
 classes_kept : agree_below (λ n. same_class (class_by_number (turned n)) (class_by_number n) && same_class (class_by_number (mirrored n)) (class_by_number n)) (λ _. true) 256 ≡ true
-unfolding same_class class_by_number letter_by_number representative_by_number representatives_of representatives_of_fewer images_by_number fewer_of turned mirrored ones
+unfolding same_class class_by_number letter_by_number representative_by_number representatives_of representatives_of_fewer images_by_number fewer_of turned mirrored flipped ones
 classes_kept = refl
 
 class_told : (n : ℕ) → n < 256 → (class_by_number (turned n) ≡ class_by_number n) × (class_by_number (mirrored n) ≡ class_by_number n)

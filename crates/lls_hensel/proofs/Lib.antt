@@ -6,6 +6,9 @@ pub mod Prefixes
 pub mod With
 pub mod Sides
 pub mod Both
+pub mod GroupLetters
+pub mod Written
+pub mod Sources
 pub mod Uneven
 pub mod Representatives
 pub mod Texts

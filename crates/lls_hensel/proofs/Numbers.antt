@@ -1,7 +1,7 @@
 -- What the masks and shifts of the eight neighbours give, for each of the 256.
-use Rattle.std.proofs.Common.{◌≡◌, ℕ, ◌*◌, ◌/◌, ◌%◌, ◌<◌, nat_eq, true, suc, zero, ◌≢◌, [], ◌∷◌, ◌≤◌, None, arith, bit_and, bit_or, refl}
+use Rattle.std.proofs.Common.{◌≡◌, ℕ, ◌-◌, ◌*◌, ◌/◌, ◌%◌, ◌<◌, nat_eq, true, suc, zero, ◌≢◌, [], ◌∷◌, ◌≤◌, None, arith, bit_and, bit_or, refl}
 use Rattle.std.proofs.lemmas.Bool.{agree_below, agree_below_at, eqb-true}
-use Rattle.lls_hensel.specs.Numbers.{turned, mirrored, representatives_of_fewer}
+use Rattle.lls_hensel.specs.Numbers.{turned, mirrored, flipped, representatives_of_fewer}
 
 -- two functions that were compared at each number below 256
 pub same_below : (f g : ℕ → ℕ) → agree_below (λ n. nat_eq (f n) (g n)) (λ _. true) 256 ≡ true → (n : ℕ) → n < 256 → f n ≡ g n
@@ -32,6 +32,13 @@ pub mirror_by_masks-mirrored : (n : ℕ) → n < 256 →
     bit_or (bit_or (bit_or (bit_or (bit_and n 132 / 4) (bit_and n 33 * 4 % 256)) (bit_and n 16 / 2)) (bit_and n 8 * 2 % 256)) (bit_and n 66) ≡ mirrored n
 unfolding mirror_by_masks
 mirror_by_masks-mirrored n h = same_below mirror_by_masks mirrored mirrors_agree n h
+
+flips_agree : agree_below (λ n. nat_eq (255 - n) (flipped n)) (λ _. true) 256 ≡ true
+unfolding flipped
+flips_agree = refl
+
+pub sub-flipped : (n : ℕ) → n < 256 → 255 - n ≡ flipped n
+sub-flipped n h = same_below (λ n. 255 - n) flipped flips_agree n h
 
 -- a count up to four that is none of these has one class
 pub representatives_of_fewer_none : (m : ℕ) → m ≤ 4 → m ≢ 1 → m ≢ 2 → m ≢ 3 → m ≢ 4 → representatives_of_fewer m ≡ record { letter = None; eight = 0 } ∷ []

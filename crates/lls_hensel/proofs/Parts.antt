@@ -1,18 +1,13 @@
--- Parts of the letters of a count: they are read back as they were printed.
-use Rattle.std.proofs.Common.{◌≡◌, ℕ, ◌+◌, nat_eq, Bool, true, false, cond, not, ◌&&◌, ◌||◌, List, [], ◌∷◌, ◌++◌, map, filter, Result, Ok, Err, inl, inr, refl, ap, ◌∙◌, sym, subst}
-use Rattle.std.specs.List.{list_any, list_all}
-use Rattle.std.specs.Char.{is_ascii_lowercase}
+-- Parts of the letters of a count.
+use Rattle.std.proofs.Common.{◌≡◌, ℕ, nat_eq, Bool, true, false, cond, ◌&&◌, ◌||◌, List, [], ◌∷◌, map, filter, inl, inr, refl, ap, ◌∙◌, sym, subst}
+use Rattle.std.specs.List.{list_any, list_all, AllByRecursion, IsDistinct}
 use Rattle.std.specs.Cmp.Lexicographic.{pointwise}
 use Rattle.std.specs.Cmp.{booleans_Decides}
-use Rattle.std.proofs.Math.Bool.{beq, or-false}
-use Rattle.std.proofs.lemmas.Bool.{and_parts, and_from, or_cases, or_parts, or_left, or_right, eqb-true, false_from_ne_true}
+use Rattle.std.proofs.Math.Bool.{beq}
+use Rattle.std.proofs.lemmas.Bool.{and_parts, and_from, or_cases, or_left, or_right, eqb-true, false_from_ne_true}
 use Rattle.std.proofs.lemmas.Slice.Eq.{slice_eq-Decides}
-use Rattle.std.proofs.lemmas.List.Folds.{list_any-append}
-use Rattle.lls_hensel.specs.Class.{letter_among}
+use Rattle.std.proofs.lemmas.Map.Keys.{IsDistinct-head, IsDistinct-tail, IsDistinct-cons}
 use Rattle.lls_hensel.specs.Entries.{among}
-use Rattle.lls_hensel.specs.Reading.{letters_read}
-use Rattle.lls_hensel.specs.declared.read.RuleError.{RuleError}
-use Rattle.lls_hensel.specs.declared.read.RuleError.TheVariants.{BadLetter, RepeatedLetter, Stray}
 
 -- letters, each with eight neighbours of its class
 abbrev pub Lettered : Type 0
@@ -56,55 +51,29 @@ among-part-all test (q ∷ qs) byte h =
       | false ↦ λ e. or_right (nat_eq q.0 byte) (among (letters qs) byte) (among-part-all test qs byte e)
     ]) at
 
-three_tests : (low of_count before : Bool) (first second third : RuleError) (rest : Result (Unit {0}) RuleError) →
-    cond (not low) (Err first) (cond (not of_count) (Err second) (cond before (Err third) rest)) ≡ Ok tt → (low ≡ true) × (of_count ≡ true) × (before ≡ false) × (rest ≡ Ok tt)
-three_tests true true false first second third rest e = (refl, refl, refl, e)
-three_tests true true true first second third rest e = cc
-three_tests true false before first second third rest e = cc
-three_tests false of_count before first second third rest e = cc
+-- letters that differ differ in a part
+each-part : (P : ℕ → Type 0) (test : List Bool → Bool) (qs : Lettered) → AllByRecursion P (letters qs) → AllByRecursion P (part test qs)
+each-part P test [] h = tt
+each-part P test (q ∷ qs) h =
+    let more = each-part P test qs h.1 in
+    subst (AllByRecursion P) (sym (part-cons test q qs)) (elim (test q.1) as (λ b. AllByRecursion P (part_step b q.0 (part test qs))) [ true ↦ (h.0, more) | false ↦ more ])
 
--- what it is for letters to be read
-pub letters_read-first : (column count : ℕ) (before : List ℕ) (byte : ℕ) (rest : List ℕ) → letters_read column count before (byte ∷ rest) ≡ Ok tt →
-    (is_ascii_lowercase byte ≡ true) × (letter_among count byte ≡ true) × (among before byte ≡ false) × (letters_read (column + 1) count (before ++ byte ∷ []) rest ≡ Ok tt)
-letters_read-first column count before byte rest e =
-    three_tests (is_ascii_lowercase byte) (letter_among count byte) (among before byte) (Stray column) (BadLetter column) (RepeatedLetter column) (letters_read (column + 1) count (before ++ byte ∷ []) rest) e
+pub IsDistinct-part : (test : List Bool → Bool) (qs : Lettered) → IsDistinct nat_eq (letters qs) → IsDistinct nat_eq (part test qs)
+IsDistinct-part test [] h = h
+IsDistinct-part test (q ∷ qs) h =
+    let more = IsDistinct-part test qs (IsDistinct-tail nat_eq q.0 (letters qs) h) in
+    subst (IsDistinct nat_eq) (sym (part-cons test q qs)) (elim (test q.1) as (λ b. IsDistinct nat_eq (part_step b q.0 (part test qs))) [
+      | true ↦ IsDistinct-cons nat_eq q.0 (part test qs) (each-part (λ y. nat_eq q.0 y ≡ false) test qs (IsDistinct-head nat_eq q.0 (letters qs) h)) more
+      | false ↦ more
+    ])
 
-three_passed : (low of_count before : Bool) (first second third : RuleError) (rest : Result (Unit {0}) RuleError) → low ≡ true → of_count ≡ true → before ≡ false → rest ≡ Ok tt →
-    cond (not low) (Err first) (cond (not of_count) (Err second) (cond before (Err third) rest)) ≡ Ok tt
-three_passed true true false first second third rest e f g h = h
-three_passed true true true first second third rest e f g h = cc
-three_passed true false before first second third rest e f g h = cc
-three_passed false of_count before first second third rest e f g h = cc
-
-among-append : (xs : List ℕ) (x byte : ℕ) → among (xs ++ x ∷ []) byte ≡ (among xs byte || nat_eq x byte)
-among-append xs x byte = list_any-append (λ other. nat_eq other byte) xs (x ∷ []) ∙ ap (λ b. among xs byte || b) (or-false (nat_eq x byte))
-
--- read letters stand after other letters
-pub apart : (column count : ℕ) (before xs : List ℕ) (byte : ℕ) → letters_read column count before xs ≡ Ok tt → among xs byte ≡ true → among before byte ≡ false
-apart column count before [] byte e h = cc
-apart column count before (x ∷ xs) byte e h =
-    let first = letters_read-first column count before x xs e in
-    elim (or_cases (nat_eq x byte) (among xs byte) h) [
-      | inl is ↦ subst (λ b. among before b ≡ false) (eqb-true x byte is) first.2
-      | inr more ↦ (or_parts (among before byte) (nat_eq x byte) (sym (among-append before x byte) ∙ apart (column + 1) count (before ++ x ∷ []) xs byte first.3 more)).0
-    ]
-
--- a part of letters that are read is read
-pub letters_read-part : (test : List Bool → Bool) (qs : Lettered) (column other count : ℕ) (before less : List ℕ) → ((byte : ℕ) → among less byte ≡ true → among before byte ≡ true) →
-    letters_read column count before (letters qs) ≡ Ok tt → letters_read other count less (part test qs) ≡ Ok tt
-letters_read-part test [] column other count before less within e = refl
-letters_read-part test (q ∷ qs) column other count before less within e =
-    let first = letters_read-first column count before q.0 (letters qs) e in
-    ap (letters_read other count less) (part-cons test q qs) ∙ elim (test q.1) as (λ b. letters_read other count less (part_step b q.0 (part test qs)) ≡ Ok tt) [
-      | true ↦ three_passed (is_ascii_lowercase q.0) (letter_among count q.0) (among less q.0) (Stray other) (BadLetter other) (RepeatedLetter other) (letters_read (other + 1) count (less ++ q.0 ∷ []) (part test qs))
-          first.0 first.1 (false_from_ne_true (among less q.0) (λ t. let x = within q.0 t in let y = first.2 in cc))
-          (letters_read-part test qs (column + 1) (other + 1) count (before ++ q.0 ∷ []) (less ++ q.0 ∷ [])
-          (λ byte t. among-append before q.0 byte ∙ (elim (or_cases (among less byte) (nat_eq q.0 byte) (sym (among-append less q.0 byte) ∙ t)) [
-            | inl x ↦ or_left (among before byte) (nat_eq q.0 byte) (within byte x)
-            | inr x ↦ or_right (among before byte) (nat_eq q.0 byte) x
-          ])) first.3)
-      | false ↦ letters_read-part test qs (column + 1) other count (before ++ q.0 ∷ []) less
-          (λ byte t. among-append before q.0 byte ∙ or_left (among before byte) (nat_eq q.0 byte) (within byte t)) first.3
+-- one that differs from each of a list differs from one of them
+differs : (x : ℕ) (xs : List ℕ) (y : ℕ) → AllByRecursion (λ y. nat_eq x y ≡ false) xs → among xs y ≡ true → nat_eq x y ≡ false
+differs x [] y h e = cc
+differs x (z ∷ zs) y h e =
+    elim (or_cases (nat_eq z y) (among zs y) e) [
+      | inl is ↦ subst (λ w. nat_eq x w ≡ false) (eqb-true z y is) h.0
+      | inr more ↦ differs x zs y h.1 more
     ]
 
 -- whether a letter stands there with these eight
@@ -120,23 +89,20 @@ stands_among (q ∷ qs) letter eight h =
     ]
 
 -- a letter is among a part exactly where its class passes the test
-pub among-part : (test : List Bool → Bool) (qs : Lettered) (column count : ℕ) (before : List ℕ) (letter : ℕ) (eight : List Bool) → letters_read column count before (letters qs) ≡ Ok tt →
-    stands_with qs letter eight ≡ true → among (part test qs) letter ≡ test eight
-among-part test [] column count before letter eight e h = cc
-among-part test (q ∷ qs) column count before letter eight e h =
-    let first = letters_read-first column count before q.0 (letters qs) e in
+pub among-part : (test : List Bool → Bool) (qs : Lettered) (letter : ℕ) (eight : List Bool) → IsDistinct nat_eq (letters qs) → stands_with qs letter eight ≡ true → among (part test qs) letter ≡ test eight
+among-part test [] letter eight once h = cc
+among-part test (q ∷ qs) letter eight once h =
+    let others = IsDistinct-head nat_eq q.0 (letters qs) once in
     ap (λ bytes. among bytes letter) (part-cons test q qs) ∙
     elim (or_cases (nat_eq q.0 letter && pointwise beq q.1 eight) (stands_with qs letter eight) h) [
       | inl x ↦
           let parts = and_parts (nat_eq q.0 letter) (pointwise beq q.1 eight) x in
           let same : q.1 ≡ eight = (slice_eq-Decides booleans_Decides q.1 eight true (sym parts.1)).0 refl in
           let gone : among (part test qs) letter ≡ false = false_from_ne_true (among (part test qs) letter) (λ t.
-          let all = among-part-all test qs letter t in
-          let no = or_parts (among before letter) (nat_eq q.0 letter) (sym (among-append before q.0 letter) ∙ apart (column + 1) count (before ++ q.0 ∷ []) (letters qs) letter first.3 all) in
-          let yes = parts.0 in let never = no.1 in cc) in
+          let never = differs q.0 (letters qs) letter others (among-part-all test qs letter t) in let is = parts.0 in cc) in
           (elim (test q.1) as (λ b. among (part_step b q.0 (part test qs)) letter ≡ b) [ true ↦ or_left (nat_eq q.0 letter) (among (part test qs) letter) parts.0 | false ↦ gone ]) ∙ ap test same
       | inr x ↦
-          let more = among-part test qs (column + 1) count (before ++ q.0 ∷ []) letter eight first.3 x in
-          let other = (or_parts (among before letter) (nat_eq q.0 letter) (sym (among-append before q.0 letter) ∙ apart (column + 1) count (before ++ q.0 ∷ []) (letters qs) letter first.3 (stands_among qs letter eight x))).1 in
+          let more = among-part test qs letter eight (IsDistinct-tail nat_eq q.0 (letters qs) once) x in
+          let other = differs q.0 (letters qs) letter others (stands_among qs letter eight x) in
           (elim (test q.1) as (λ b. among (part_step b q.0 (part test qs)) letter ≡ among (part test qs) letter) [ true ↦ ap (λ b. b || among (part test qs) letter) other | false ↦ refl ]) ∙ more
     ]

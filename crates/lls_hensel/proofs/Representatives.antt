@@ -12,7 +12,7 @@ use Rattle.lls_hensel.specs.declared.class.Representative.{Representative}
 use Rattle.lls_hensel.specs.Class.{pictures}
 use Rattle.lls_hensel.specs.Neighbours.{eight_of}
 use Rattle.lls_hensel.specs.Groups.{around_number, nine_number}
-use Rattle.lls_hensel.specs.Numbers.{live_number, holds_by_number, classes_by_number, letter_text, representative_by_number, representatives_of, representatives_of_fewer, images_by_number, fewer_of, turned, mirrored}
+use Rattle.lls_hensel.specs.Numbers.{live_number, holds_by_number, classes_by_number, letter_text, representative_by_number, representatives_of, representatives_of_fewer, images_by_number, fewer_of, turned, mirrored, flipped}
 use Rattle.lls_hensel.specs.Printing.{number_with, named, representative_eight, representative_nine, letters_at}
 use Rattle.lls_rule.proofs.Counts.{centre_test}
 use Rattle.lls_hensel.proofs.Tells.{around_number-lt, around-eight_of}
@@ -27,7 +27,7 @@ stands : ℕ → ℕ
 stands eight = live_number (count_ones eight) (eight_at (fewer_of eight) (representative_by_number (count_ones eight) (fewer_of eight)))
 
 stands_below : agree_below (λ n. nat_lt (stands n) 256 && pointwise beq (eight_of (stands n)) (representative_eight (eight_of n))) (λ _. true) 256 ≡ true
-unfolding stands eight_at live_number representative_eight representative_by_number representatives_of representatives_of_fewer images_by_number fewer_of turned mirrored ones
+unfolding stands eight_at live_number representative_eight representative_by_number representatives_of representatives_of_fewer images_by_number fewer_of turned mirrored flipped ones
 stands_below = refl
 
 nines_agree : agree_below (λ n. nat_eq (nine_number true n) (number_with true (eight_of n)) && nat_eq (nine_number false n) (number_with false (eight_of n))) (λ _. true) 256 ≡ true
@@ -99,7 +99,7 @@ by_pairs table live letter number (x ∷ xs) =
     ]
 
 same_pairs : (survival : Bool) (count : ℕ) → count ≤ 8 → map {B = Option ℕ × ℕ} (λ p. (p.letter, number_with survival p.eight)) (pictures count) ≡ map {B = Option ℕ × ℕ} (λ r. (r.letter, nine_number survival (live_number count r.eight))) (representatives_of count)
-unfolding nine_number live_number representatives_of representatives_of_fewer
+unfolding nine_number live_number flipped representatives_of representatives_of_fewer
 same_pairs true zero h = refl
 same_pairs true (suc zero) h = refl
 same_pairs true (suc (suc zero)) h = refl

@@ -2,10 +2,10 @@
 use Rattle.std.proofs.Common.{◌≡◌, ℕ, zero, suc, ◌+◌, ◌-◌, ◌<◌, Bool, true, false, cond, not, ◌==◌, List, [], ◌∷◌, ◌++◌, length, take, drop, get_or, Result, Ok, Err, flat_map, refl, ap, ◌∙◌, sym, subst, arith, add-one, add-zero, zero-add, add_assoc, ◌≤◌, length-drop, length-take}
 use Rattle.std.proofs.Math.Seq.{drop-cons, take-add}
 use Rattle.std.proofs.lemmas.List.{drop-drop}
-use Rattle.lls_hensel.specs.Entries.{Group, among, entries_of_group, with_entries}
+use Rattle.lls_hensel.specs.Entries.{Group, among, entries_of_group}
 use Rattle.lls_hensel.specs.Reading.{Cut, cut, cut_before, side_read, side_entries, misplaced, before_digit, is_count, group_read, groups_read, tail_read, listed, letters_read, letter_first}
 use Rattle.lls_base.specs.Results.{and_then}
-use Rattle.lls_hensel.specs.Sides.{groups_at, table_read}
+use Rattle.lls_hensel.specs.Sides.{groups_at, table_read, with_entries}
 use Rattle.lls_hensel.specs.declared.read.RuleError.{RuleError}
 use Rattle.lls_hensel.specs.declared.read.RuleError.TheVariants.{NoLetters, RepeatedDigit}
 use Rattle.lls_hensel.proofs.Prefixes.{cut-drop, cut_at_digit, take-length-take_while, before_digit-take_while}

@@ -17,7 +17,7 @@ use Rattle.lls_rule.proofs.Counts.{centre_test}
 use Rattle.lls_hensel.proofs.Classes.{letter_same, classes_of-class_by_number}
 use Rattle.lls_hensel.specs.Class.{classes_of, pictures, same_letter, is_of_class}
 use Rattle.lls_hensel.specs.Neighbours.{eight_of, are_images}
-use Rattle.lls_hensel.specs.Numbers.{class_by_number, letter_by_number, representative_by_number, representatives_of, representatives_of_fewer, images_by_number, fewer_of, turned, mirrored}
+use Rattle.lls_hensel.specs.Numbers.{class_by_number, letter_by_number, representative_by_number, representatives_of, representatives_of_fewer, images_by_number, fewer_of, turned, mirrored, flipped}
 use Rattle.lls_hensel.specs.Entries.{Entry, Group, tells, next_of, letters_of, stands_for, entries_of_group}
 use Rattle.lls_hensel.specs.Groups.{around_number}
 
@@ -30,11 +30,11 @@ letter_at_count : Class → ℕ → List (Option ℕ)
 letter_at_count class count = cond (nat_eq count class.count) (class.letter ∷ []) []
 
 found_at_each : agree_below (λ n. agree_below (λ count. pointwise same_letter (letters_found count (eight_of n)) (letter_at_count (class_by_number n) count)) (λ _. true) 9) (λ _. true) 256 ≡ true
-unfolding letters_found letter_at_count class_by_number letter_by_number representative_by_number representatives_of representatives_of_fewer images_by_number fewer_of turned mirrored ones
+unfolding letters_found letter_at_count class_by_number letter_by_number representative_by_number representatives_of representatives_of_fewer images_by_number fewer_of turned mirrored flipped ones
 found_at_each = refl
 
 letters_are_counts : agree_below (λ n. nat_le (class_by_number n).count 8 && list_any (same_letter (class_by_number n).letter) (letters_of (class_by_number n).count)) (λ _. true) 256 ≡ true
-unfolding class_by_number letter_by_number representative_by_number representatives_of representatives_of_fewer images_by_number fewer_of turned mirrored ones
+unfolding class_by_number letter_by_number representative_by_number representatives_of representatives_of_fewer images_by_number fewer_of turned mirrored flipped ones
 letters_are_counts = refl
 
 around_as_number : agree_below (λ n. nat_lt (around_number n) 256 && pointwise beq (around n) (eight_of (around_number n))) (λ _. true) 512 ≡ true
@@ -78,7 +78,7 @@ at_count count own letter other =
       | false ↦ refl
     ]
 
-pictures_none : (count : ℕ) → 8 < count → pictures count ≡ []
+pub pictures_none : (count : ℕ) → 8 < count → pictures count ≡ []
 pictures_none count h = rw (lt-leb count 4 (omega arith), lt-leb count 8 h) refl
 
 found_by_letter : (n : ℕ) (class : Class) → n < 256 → list_any (λ l. same_letter l class.letter) (letters_found class.count (eight_of n)) ≡ (nat_eq class.count (class_by_number n).count && same_letter (class_by_number n).letter class.letter)

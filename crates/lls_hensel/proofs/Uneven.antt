@@ -3,7 +3,8 @@ use Rattle.std.proofs.Common.{◌≡◌, ◌≢◌, ℕ, suc, ◌+◌, ◌-◌, 
 use Rattle.std.specs.List.{range_with_len}
 use Rattle.std.proofs.Math.Bool.{beq}
 use Rattle.lls_rule.specs.Rule.{answer}
-use Rattle.lls_hensel.specs.Printing.{differs, uneven, uneven_from, representative_nine}
+use Rattle.lls_hensel.specs.Printing.{differs, uneven, representative_nine}
+use Rattle.lls_hensel.specs.Texts.{uneven_from}
 
 pub uneven_from-start : (table : List Bool) → uneven table ≡ uneven_from table 0
 unfolding uneven uneven_from

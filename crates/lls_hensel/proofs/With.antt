@@ -4,7 +4,8 @@ use Rattle.std.proofs.Math.Bool.{or-false, or_assoc}
 use Rattle.std.proofs.lemmas.List.Folds.{list_any-append}
 use Rattle.lls_rule.specs.Rule.{answer, table_of}
 use Rattle.lls_rule.proofs.Tables.{length-table_of, answer-table_of, same_tables, same_table_of}
-use Rattle.lls_hensel.specs.Entries.{Entry, tells, next_of, with_entries}
+use Rattle.lls_hensel.specs.Entries.{Entry, tells, next_of}
+use Rattle.lls_hensel.specs.Sides.{with_entries}
 
 pub next_of-append : (first second : List Entry) (n : ℕ) → next_of (first ++ second) n ≡ (next_of first n || next_of second n)
 unfolding next_of

@@ -1,8 +1,8 @@
 -- What a rule text says as a list of entries, each a side and a class, and the successor by them.
-use Rattle.std.specs.Prelude.{ℕ, ◌==◌, Bool, true, false, cond, not, List, map, filter, length, Option, Some, None, ◌&&◌, ◌||◌}
+use Rattle.std.specs.Prelude.{ℕ, ◌==◌, Bool, true, false, not, List, map, filter, length, Option, Some, None, ◌&&◌, if◌then◌else◌}
 use Rattle.std.specs.List.{list_any}
 use Rattle.std.proofs.Math.Bool.{beq}
-use Rattle.lls_rule.specs.Rule.{has_bit, answer, table_of, around}
+use Rattle.lls_rule.specs.Rule.{has_centre, around}
 use Rattle.lls_hensel.specs.declared.class.Class.{Class}
 use Rattle.lls_hensel.specs.Class.{pictures, is_of_class}
 
@@ -11,17 +11,13 @@ pub record Entry : Type 0 where
   pub survival : Bool
   pub class : Class
 
--- whether an entry says that the centre of a neighbourhood lives on: the centre has the entry's side, and the others its class
+-- whether an entry says that the centre of a neighbourhood lives on: the centre has the entry's side, and the eight others its class
 unfoldable pub tells : ℕ → Entry → Bool
-tells nine entry = beq entry.survival (has_bit nine 4) && is_of_class (around nine) entry.class
+tells nine entry = beq entry.survival (has_centre nine) && is_of_class (around nine) entry.class
 
 -- the successor of a neighbourhood by entries
 unfoldable pub next_of : List Entry → ℕ → Bool
 next_of entries nine = list_any (tells nine) entries
-
--- a table with what entries say beside it
-unfoldable pub with_entries : List Bool → List Entry → List Bool
-with_entries table entries = table_of (λ nine. answer table nine || next_of entries nine)
 
 -- a group of a rule text: a digit, perhaps `-`, and letters
 pub record Group : Type 0 where
@@ -44,7 +40,7 @@ is_named letters (Some letter) = among letters letter
 -- whether a group stands for one of its digit's letters: each where it names none, else those that it names, or after `-` all others
 abbrev pub stands_for : Group → Option ℕ → Bool
 stands_for group letter =
-    cond (length group.letters == 0) true (not (beq group.minus (is_named group.letters letter)))
+    if length group.letters == 0 then true else not (beq group.minus (is_named group.letters letter))
 
 -- the entries for which a group stands
 unfoldable pub entries_of_group : Bool → Group → List Entry

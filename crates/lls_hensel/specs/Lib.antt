@@ -1,10 +1,12 @@
 pub mod Neighbours
-pub mod Isotropy
 pub mod Class
-pub mod Numbers
 pub mod Entries
+pub mod Notation
 pub mod Reading
+pub mod Printing
+pub mod Isotropy
 pub mod Groups
+pub mod Numbers
 pub mod Seen
 pub mod Sides
-pub mod Printing
+pub mod Texts

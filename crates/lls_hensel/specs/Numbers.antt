@@ -1,12 +1,14 @@
--- Eight neighbours as numbers below 256, and how a class is found by them.
-use Rattle.std.specs.Prelude.{ℕ, ◌-◌, ◌==◌, nat_lt, min, Bool, cond, List, [], ◌∷◌, map, filter, find, option_and_then, Option, count_ones, ◌||◌}
+-- For private contracts alone: eight neighbours as numbers, and how a class is found by them.
+use Rattle.std.specs.Prelude.{ℕ, ◌-◌, ◌==◌, nat_lt, min, Bool, not, List, [], ◌∷◌, map, filter, find, option_and_then, Option, count_ones, ◌||◌, if◌then◌else◌}
 use Rattle.std.specs.List.{list_any}
 use Rattle.std.proofs.Math.Bool.{beq}
+use Rattle.lls_rule.specs.declared.rule.TheConstants.Rule.{NEIGHBOURS}
 use Rattle.lls_rule.specs.Rule.{number_of, answer}
 use Rattle.lls_hensel.specs.Groups.{nine_number}
 use Rattle.lls_hensel.specs.Printing.{named}
 use Rattle.lls_hensel.specs.Neighbours.{eight_of, quarter_turn, mirror}
 use Rattle.lls_hensel.specs.Class.{few_live}
+use Rattle.lls_hensel.specs.declared.class.TheConstants.{HALF}
 use Rattle.lls_hensel.specs.declared.class.Class.{Class}
 use Rattle.lls_hensel.specs.declared.class.Representative.{Representative}
 
@@ -18,6 +20,10 @@ turned eight = number_of (quarter_turn (eight_of eight))
 unfoldable pub mirrored : ℕ → ℕ
 mirrored eight = number_of (mirror (eight_of eight))
 
+-- the number of the eight with the dead for the live
+unfoldable pub flipped : ℕ → ℕ
+flipped eight = number_of (map not (eight_of eight))
+
 -- whether turns and the mirror take the first number to the second
 unfoldable pub images_by_number : ℕ → ℕ → Bool
 images_by_number first second =
@@ -25,7 +31,7 @@ images_by_number first second =
 
 -- the live neighbours, or the dead ones where those are fewer
 unfoldable pub fewer_of : ℕ → ℕ
-fewer_of eight = cond (nat_lt 4 (count_ones eight)) (255 - eight) eight
+fewer_of eight = if nat_lt HALF (count_ones eight) then flipped eight else eight
 
 -- the classes of a count up to four, with eight neighbours of each
 unfoldable pub representatives_of_fewer : ℕ → List Representative
@@ -33,7 +39,7 @@ representatives_of_fewer count = map (λ p. record { letter = p.letter; eight = 
 
 -- the classes of a count by their letters, each with at most four live neighbours
 unfoldable pub representatives_of : ℕ → List Representative
-representatives_of count = representatives_of_fewer (min count (8 - count))
+representatives_of count = representatives_of_fewer (min count (NEIGHBOURS - count))
 
 -- the class of a count that has these neighbours, of which at most four are live
 unfoldable pub representative_by_number : ℕ → ℕ → Option Representative
@@ -50,7 +56,7 @@ class_by_number eight =
 
 -- the neighbours of a class of a count, by its representative's with at most four live ones
 unfoldable pub live_number : ℕ → ℕ → ℕ
-live_number count eight = cond (nat_lt 4 count) (255 - eight) eight
+live_number count eight = if nat_lt HALF count then flipped eight else eight
 
 -- the answer of a side at a class of a count
 unfoldable pub holds_by_number : List Bool → Bool → ℕ → Representative → Bool
@@ -64,4 +70,4 @@ classes_by_number table survival count live =
 -- the letter of a class, where a side has this answer and there is one
 unfoldable pub letter_text : List Bool → Bool → ℕ → Bool → Representative → List ℕ
 letter_text table survival count live representative =
-    cond (beq (holds_by_number table survival count representative) live) (named (representative.letter ∷ [])) []
+    if beq (holds_by_number table survival count representative) live then named (representative.letter ∷ []) else []

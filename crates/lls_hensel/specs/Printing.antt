@@ -1,10 +1,14 @@
 -- The canonical text of a rule, and where a rule is not isotropic.
-use Rattle.std.specs.Prelude.{ℕ, ◌+◌, ◌-◌, ◌==◌, nat_le, Bool, true, false, cond, not, List, [], ◌∷◌, ◌++◌, map, filter, find, flat_map, length, Option, Some, None}
+use Rattle.std.specs.Prelude.{ℕ, ◌+◌, ◌==◌, nat_le, Bool, true, false, not, List, [], ◌∷◌, map, filter, find, flat_map, length, Option, Some, None, if◌then◌else◌}
 use Rattle.std.specs.List.{range_with_len}
 use Rattle.std.proofs.Math.Bool.{beq}
-use Rattle.lls_rule.specs.Rule.{number_of, has_bit, answer, around}
+use Rattle.lls_rule.specs.declared.rule.TheConstants.Rule.{NEIGHBOURHOODS, NEIGHBOURS}
+use Rattle.lls_rule.specs.Rule.{number_of, has_centre, answer, around}
 use Rattle.lls_hensel.specs.Neighbours.{are_images}
 use Rattle.lls_hensel.specs.Class.{Picture, pictures}
+use Rattle.lls_hensel.specs.Entries.{Group}
+use Rattle.lls_hensel.specs.Notation.{text_of}
+use Rattle.lls_hensel.specs.Notation.Form.{BirthFirst}
 
 -- the number of the neighbourhood of a centre and the eight round it
 abbrev pub number_with : Bool → List Bool → ℕ
@@ -18,11 +22,12 @@ first_eight (picture ∷ _) = picture.eight
 
 -- the eight that stand for the class of eight neighbours
 unfoldable pub representative_eight : List Bool → List Bool
-representative_eight eight = first_eight (filter (λ p. are_images p.eight eight) (flat_map pictures (range_with_len 0 9)))
+representative_eight eight =
+    first_eight (filter (λ p. are_images p.eight eight) (flat_map pictures (range_with_len 0 (NEIGHBOURS + 1))))
 
 -- the neighbourhood with the same centre that stands for the class of another
 unfoldable pub representative_nine : ℕ → ℕ
-representative_nine nine = number_with (has_bit nine 4) (representative_eight (around nine))
+representative_nine nine = number_with (has_centre nine) (representative_eight (around nine))
 
 -- whether a neighbourhood's answer differs from that of its class's representative
 unfoldable pub differs : List Bool → ℕ → Bool
@@ -30,11 +35,7 @@ differs table nine = not (beq (answer table nine) (answer table (representative_
 
 -- the least neighbourhood whose answer does
 unfoldable pub uneven : List Bool → Option ℕ
-uneven table = find (differs table) (range_with_len 0 512)
-
--- the least from a number on
-unfoldable pub uneven_from : List Bool → ℕ → Option ℕ
-uneven_from table nine = find (differs table) (range_with_len nine (512 - nine))
+uneven table = find (differs table) (range_with_len 0 NEIGHBOURHOODS)
 
 -- the letters of a count at whose classes a side has this answer
 unfoldable pub letters_at : List Bool → Bool → ℕ → Bool → List (Option ℕ)
@@ -47,21 +48,25 @@ named [] = []
 named (None ∷ rest) = named rest
 named (Some letter ∷ rest) = letter ∷ named rest
 
--- the group of a digit by the letters that are in and those that are out
-abbrev pub grouped : ℕ → List (Option ℕ) → List (Option ℕ) → List ℕ
-grouped digit inside outside =
-    cond (length inside == 0) []
-    (cond (length outside == 0) (digit ∷ [])
-    (cond (nat_le (length inside) (length outside)) (digit ∷ named inside) (digit ∷ 45 ∷ named outside)))
+abbrev pub listing : ℕ → Bool → List ℕ → Group
+listing count minus letters = record { count = count; minus = minus; letters = letters }
 
--- the text of a count on a side
-unfoldable pub group_text : List Bool → Bool → ℕ → List ℕ
-group_text table survival count = grouped (48 + count) (letters_at table survival count true) (letters_at table survival count false)
+-- the group of a count by its letters that are in and those that are out: none, the digit alone, the fewer letters
+abbrev pub grouped : ℕ → List (Option ℕ) → List (Option ℕ) → List Group
+grouped count inside outside =
+    if length inside == 0 then [] else
+    if length outside == 0 then (listing count false [] ∷ []) else
+    if nat_le (length inside) (length outside) then (listing count false (named inside) ∷ []) else
+    (listing count true (named outside) ∷ [])
 
--- the text of a side
-unfoldable pub side_text : List Bool → Bool → List ℕ
-side_text table survival = flat_map (group_text table survival) (range_with_len 0 9)
+-- the group of a count on a side, where a class of it is in
+unfoldable pub canonical_group : List Bool → Bool → ℕ → List Group
+canonical_group table survival count = grouped count (letters_at table survival count true) (letters_at table survival count false)
+
+-- the groups of a side by ascending digit
+unfoldable pub canonical_side : List Bool → Bool → List Group
+canonical_side table survival = flat_map (canonical_group table survival) (range_with_len 0 (NEIGHBOURS + 1))
 
 -- the canonical text: `B`, the birth side, `/S`, the survival side
 unfoldable pub rule_text : List Bool → List ℕ
-rule_text table = 66 ∷ side_text table false ++ 47 ∷ 83 ∷ side_text table true
+rule_text table = text_of (BirthFirst false true false) (canonical_side table false) (canonical_side table true)

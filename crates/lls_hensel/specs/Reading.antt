@@ -1,24 +1,26 @@
--- The reading of a rule text into entries, or its first fault.
-use Rattle.std.specs.Prelude.{ℕ, ◌+◌, ◌-◌, ◌==◌, nat_le, Bool, true, false, cond, not, List, [], ◌∷◌, ◌++◌, length, drop, flat_map, Result, Ok, Err, ◌&&◌, ◌||◌}
+-- The reading of a rule text into entries, or its first fault, and what is true of it.
+use Rattle.std.specs.Prelude.{◌≡◌, ℕ, ◌+◌, ◌-◌, ◌==◌, nat_le, Bool, true, false, not, List, [], ◌∷◌, ◌++◌, length, drop, codes, slice_index, Result, Ok, Err, ◌&&◌, ◌||◌, if◌then◌else◌}
 use Rattle.std.specs.Char.{is_ascii_lowercase}
 use Rattle.std.specs.List.{take_while}
 use Rattle.lls_base.specs.Results.{and_then}
+use Rattle.lls_rule.specs.declared.rule.TheConstants.Rule.{NEIGHBOURS}
 use Rattle.lls_hensel.specs.Class.{letter_among}
-use Rattle.lls_hensel.specs.Entries.{Entry, Group, among, entries_of_group}
+use Rattle.lls_hensel.specs.Entries.{Entry, Group, among}
+use Rattle.lls_hensel.specs.Notation.{Form, IsSide, StandsFor, digit, text_of, entries_in, entries_of_side}
 use Rattle.lls_hensel.specs.declared.read.RuleError.{RuleError}
 use Rattle.lls_hensel.specs.declared.read.RuleError.TheVariants.{Empty, BadLetter, RepeatedDigit, RepeatedLetter, NoLetters, Stray}
 
 -- a digit `0` to `8`
 abbrev pub is_count : ℕ → Bool
-is_count byte = nat_le 48 byte && nat_le byte 56
+is_count byte = nat_le (digit 0) byte && nat_le byte (digit NEIGHBOURS)
 
 -- the letters of a group from a column on, after those before them: each a letter of the count, none twice
 abbrev pub letters_read : ℕ → ℕ → List ℕ → List ℕ → Result (Unit {0}) RuleError
 letters_read column count before [] = Ok tt
 letters_read column count before (byte ∷ rest) =
-    cond (not (is_ascii_lowercase byte)) (Err (Stray column))
-    (cond (not (letter_among count byte)) (Err (BadLetter column))
-    (cond (among before byte) (Err (RepeatedLetter column)) (letters_read (column + 1) count (before ++ byte ∷ []) rest)))
+    if not (is_ascii_lowercase byte) then Err (Stray column) else
+    if not (letter_among count byte) then Err (BadLetter column) else
+    if among before byte then Err (RepeatedLetter column) else letters_read (column + 1) count (before ++ byte ∷ []) rest
 
 -- whether a letter stands first
 abbrev pub letter_first : List ℕ → Bool
@@ -30,19 +32,23 @@ abbrev pub listed : ℕ → ℕ → Bool → List ℕ → Result Group RuleError
 listed column count minus letters =
     and_then (letters_read column count [] letters) (λ _. Ok (record { count = count; minus = minus; letters = letters }))
 
+-- `-`
+abbrev pub is_minus : ℕ → Bool
+is_minus byte = byte == slice_index (codes "-") 0
+
 -- the group of a count, from what stands between its digit and the next, which begins at a column
 abbrev pub tail_read : ℕ → ℕ → List ℕ → Result Group RuleError
 tail_read column count [] = Ok (record { count = count; minus = false; letters = [] })
 tail_read column count (byte ∷ rest) =
-    cond (byte == 45) (cond (letter_first rest) (listed (column + 1) count true rest) (Err (NoLetters column)))
-    (listed column count false (byte ∷ rest))
+    if is_minus byte then (if letter_first rest then listed (column + 1) count true rest else Err (NoLetters column)) else
+    listed column count false (byte ∷ rest)
 
 -- bytes, cut before each digit: what stands before the first, and each digit with what follows it
 abbrev pub Cut : Type 0
 Cut = List ℕ × List (ℕ × List ℕ)
 
 abbrev pub cut_before : Bool → ℕ → Cut → Cut
-cut_before digit byte rest = cond digit ([], (byte, rest.0) ∷ rest.1) (byte ∷ rest.0, rest.1)
+cut_before is_digit byte rest = if is_digit then ([], (byte, rest.0) ∷ rest.1) else (byte ∷ rest.0, rest.1)
 
 abbrev pub cut : List ℕ → Cut
 cut [] = ([], [])
@@ -54,19 +60,19 @@ before_digit bytes = (cut bytes).0
 
 -- the group of a digit at a column, after the bytes before it on its side: no digit stands twice
 abbrev pub group_read : ℕ → List ℕ → ℕ → List ℕ → Result Group RuleError
-group_read column before digit tail =
-    cond (among before digit) (Err (RepeatedDigit column)) (tail_read (column + 1) (digit - 48) tail)
+group_read column before byte tail =
+    if among before byte then Err (RepeatedDigit column) else tail_read (column + 1) (byte - digit 0) tail
 
 -- the groups of a side from a column on, after the bytes before them
 abbrev pub groups_read : ℕ → List ℕ → List (ℕ × List ℕ) → Result (List Group) RuleError
 groups_read column before [] = Ok []
-groups_read column before ((digit, tail) ∷ rest) =
-    and_then (group_read column before digit tail) (λ group.
-    and_then (groups_read (column + (1 + length tail)) (before ++ digit ∷ tail) rest) (λ groups. Ok (group ∷ groups)))
+groups_read column before ((byte, tail) ∷ rest) =
+    and_then (group_read column before byte tail) (λ group.
+    and_then (groups_read (column + (1 + length tail)) (before ++ byte ∷ tail) rest) (λ groups. Ok (group ∷ groups)))
 
 -- the fault of a byte that stands before the first digit of a side
 abbrev pub misplaced : ℕ → ℕ → RuleError
-misplaced byte column = cond (is_ascii_lowercase byte) (BadLetter column) (Stray column)
+misplaced byte column = if is_ascii_lowercase byte then BadLetter column else Stray column
 
 -- the groups of a side that begins at a column
 abbrev pub side_read : ℕ → Cut → Result (List Group) RuleError
@@ -76,24 +82,27 @@ side_read column (byte ∷ _, _) = Err (misplaced byte column)
 -- the entries of a side that begins at a column
 unfoldable pub side_entries : Bool → ℕ → List ℕ → Result (List Entry) RuleError
 side_entries survival column side =
-    and_then (side_read column (cut side)) (λ groups. Ok (flat_map (entries_of_group survival) groups))
+    and_then (side_read column (cut side)) (λ groups. Ok (entries_of_side survival groups))
 
--- `/`, and `S` or `s`
+-- the marks: `B` or `b`, `/`, `S` or `s`
+abbrev pub is_birth_mark : ℕ → Bool
+is_birth_mark byte = among (codes "Bb") byte
+
 abbrev pub is_slash : ℕ → Bool
-is_slash byte = byte == 47
+is_slash byte = among (codes "/") byte
 
 abbrev pub is_survival_mark : ℕ → Bool
-is_survival_mark byte = byte == 83 || byte == 115
+is_survival_mark byte = among (codes "Ss") byte
 
 -- what stands after a mark of the survival side, with its column
 abbrev pub after_mark : ℕ → List ℕ → Result (ℕ × List ℕ) RuleError
 after_mark column [] = Err (Stray column)
-after_mark column (byte ∷ rest) = cond (is_survival_mark byte) (Ok (column + 1, rest)) (Err (Stray column))
+after_mark column (byte ∷ rest) = if is_survival_mark byte then Ok (column + 1, rest) else Err (Stray column)
 
 -- the survival side behind the birth side, with its column: a `/` may stand before its mark
 abbrev pub survival_after : ℕ → List ℕ → Result (ℕ × List ℕ) RuleError
 survival_after column [] = Err (Stray column)
-survival_after column (byte ∷ rest) = cond (is_slash byte) (after_mark (column + 1) rest) (after_mark column (byte ∷ rest))
+survival_after column (byte ∷ rest) = if is_slash byte then after_mark (column + 1) rest else after_mark column (byte ∷ rest)
 
 -- the birth side behind the survival side, with its column
 abbrev pub birth_after : ℕ → List ℕ → Result (ℕ × List ℕ) RuleError
@@ -124,4 +133,14 @@ survival_first bytes =
 -- the entries for which a rule text stands, or its first fault
 abbrev pub entries_of : List ℕ → Result (List Entry) RuleError
 entries_of [] = Err Empty
-entries_of (byte ∷ rest) = cond (byte == 66 || byte == 98) (birth_first rest) (survival_first (byte ∷ rest))
+entries_of (byte ∷ rest) = if is_birth_mark byte then birth_first rest else survival_first (byte ∷ rest)
+
+-- the text of two sides is read as their entries
+abbrev pub ReadsEachText : Type 0
+ReadsEachText =
+    (form : Form) (birth survival : List Group) → IsSide birth → IsSide survival →
+    entries_of (text_of form birth survival) ≡ Ok (entries_in form birth survival)
+
+-- what is read is the text of two sides, and the entries are theirs
+abbrev pub ReadsTextsAlone : Type 0
+ReadsTextsAlone = (text : List ℕ) (entries : List Entry) → entries_of text ≡ Ok entries → StandsFor text entries

@@ -1,4 +1,4 @@
--- What contracts see of a side or a group that borrows its bytes.
+-- For private contracts alone: what they see of a side or a group that borrows its bytes.
 use Rattle.std.specs.Prelude.{ℕ, List, Result, Ok, Err}
 use Rattle.lls_hensel.specs.declared.group.Group as code
 use Rattle.lls_hensel.specs.declared.read.Side.{Side}

@@ -1,8 +1,13 @@
 // The classes of the eight neighbours of a cell.
-ghost use Rattle.std.specs.Prelude.{◌≡◌, ℕ, ◌≤◌, [], ◌∷◌, Some};
+ghost use Rattle.std.specs.Prelude.{◌≡◌, ℕ, ◌≤◌, [], ◌∷◌, Some, count_ones};
 ghost use Rattle.lls_hensel.specs.Class.{classes_of, same_letter};
 ghost use Rattle.lls_hensel.specs.Neighbours.{eight_of};
-ghost use Rattle.lls_hensel.specs.Numbers.{representatives_of, representative_by_number, letter_by_number, images_by_number, fewer_of, turned, mirrored};
+ghost use Rattle.lls_hensel.specs.Numbers.{representatives_of, representative_by_number, letter_by_number, images_by_number, fewer_of, turned, mirrored, flipped};
+
+use lls_rule::Rule;
+
+/// Half of the neighbours of a cell: with more live ones the dead ones are fewer.
+pub(crate) const HALF: u8 = 4;
 
 /// A class of eight neighbours: those that turns and the mirror of the square take to one another.
 #[derive(Clone, Copy, Debug, PartialEq, Eq)]
@@ -38,15 +43,15 @@ impl Representative {
 pub fn class_of(eight: u8) -> Class
     ensures { classes_of (eight_of eight) ≡ result ∷ [] }
 {
-    let count = eight.count_ones() as u8;
+    let count = live_count(eight);
     let letter = letter_of(count, fewer(eight));
     Class { count, letter }
 }
 
-/// The letter of a count whose class has these neighbours, of which at most four are live.
+/// The letter of a count whose class has these neighbours, of which at most half are live.
 #[tactic(auto, unfolding(crate::specs::Numbers::letter_by_number))]
 fn letter_of(count: u8, few: u8) -> Option<u8>
-    requires { count ≤ 8 }
+    requires { count ≤ Rule.NEIGHBOURS }
     ensures { result ≡ letter_by_number count few }
 {
     match representative_of(count, few) {
@@ -55,10 +60,10 @@ fn letter_of(count: u8, few: u8) -> Option<u8>
     }
 }
 
-/// The class of a count that has these neighbours, of which at most four are live.
+/// The class of a count that has these neighbours, of which at most half are live.
 #[tactic(auto, unfolding(crate::specs::Numbers::representative_by_number))]
 pub(crate) fn representative_of(count: u8, few: u8) -> Option<Representative>
-    requires { count ≤ 8 }
+    requires { count ≤ Rule.NEIGHBOURS }
     ensures { result ≡ representative_by_number count few }
 {
     representatives(count)
@@ -67,9 +72,9 @@ pub(crate) fn representative_of(count: u8, few: u8) -> Option<Representative>
         .find(|representative| are_images(representative.eight, few))
 }
 
-/// The classes of a count by their letters in alphabetical order, each with at most four live neighbours: above four, those of as many dead ones.
+/// The classes of a count by their letters in alphabetical order, each with at most half of the neighbours live: above half, those of as many dead ones.
 pub(crate) fn representatives(count: u8) -> &'static [Representative]
-    requires { count ≤ 8 }
+    requires { count ≤ Rule.NEIGHBOURS }
     ensures { result.now ≡ representatives_of count }
 {
     // Each letter with the number of a neighbourhood by the weights 256 128 64 / 32 16 8 / 4 2 1.
@@ -78,7 +83,7 @@ pub(crate) fn representatives(count: u8) -> &'static [Representative]
             &[$(Representative { letter: Some($letter), eight: ($nine / 32 * 16 + $nine % 16) as u8 }),*]
         };
     }
-    match count.min(8 - count) {
+    match count.min(Rule::NEIGHBOURS - count) {
         1 => table![b'c' 1, b'e' 2],
         2 => table![b'a' 3, b'c' 5, b'e' 10, b'i' 40, b'k' 33, b'n' 68],
         3 => table![
@@ -100,11 +105,26 @@ pub(crate) fn representatives(count: u8) -> &'static [Representative]
 pub(crate) fn fewer(eight: u8) -> u8
     ensures { result ≡ fewer_of eight }
 {
-    if eight.count_ones() > 4 {
-        !eight
+    if live_count(eight) > HALF {
+        flipped(eight)
     } else {
         eight
     }
+}
+
+/// The eight neighbours with the dead for the live.
+pub(crate) fn flipped(eight: u8) -> u8
+    ensures { result ≡ flipped eight }
+{
+    !eight
+}
+
+/// How many of the neighbours are live.
+pub(crate) fn live_count(eight: u8) -> u8
+    ensures live { result ≡ count_ones eight }
+    ensures most { result ≤ Rule.NEIGHBOURS }
+{
+    eight.count_ones() as u8
 }
 
 /// Whether turns and the mirror take the first eight neighbours to the second.

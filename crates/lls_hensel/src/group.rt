@@ -1,9 +1,10 @@
 // A group of a rule text, and what it adds to a rule.
-ghost use Rattle.std.specs.Prelude.{◌≡◌, ◌+◌, Some, cond, ℕ, ◌<◌, ◌≤◌, length};
+ghost use Rattle.std.specs.Prelude.{◌≡◌, ◌+◌, Some, ℕ, ◌<◌, ◌≤◌, length, if◌then◌else◌};
 ghost use Rattle.std.specs.List.{list_any};
 ghost use Rattle.lls_hensel.specs.Class.{letter_among, same_letter};
-ghost use Rattle.lls_hensel.specs.Entries.{next_of, with_entries, entries_of_group, stands_for};
+ghost use Rattle.lls_hensel.specs.Entries.{next_of, entries_of_group, stands_for};
 ghost use Rattle.lls_hensel.specs.Groups.{seen_group};
+ghost use Rattle.lls_hensel.specs.Sides.{with_entries};
 
 use crate::class::{Representative, class_of, representatives};
 use crate::nine::{CENTRE, around};
@@ -20,7 +21,7 @@ pub(crate) struct Group<'t> {
 impl Group<'_> {
     /// How many bytes the group takes in its text.
     pub(crate) fn len(&self) -> usize
-        ensures { result ≡ 1 + cond self.now.minus 1 0 + length self.now.letters.now }
+        ensures { result ≡ 1 + (if self.now.minus then 1 else 0) + length self.now.letters.now }
     {
         1 + usize::from(self.minus) + self.letters.len()
     }
@@ -40,7 +41,7 @@ impl Group<'_> {
 
     /// Whether the group says that the centre of a neighbourhood lives on.
     fn tells(&self, survival: bool, nine: u16) -> bool
-        requires { nine < 512 }
+        requires { nine < Rule.NEIGHBOURHOODS }
         ensures { result ≡ next_of (entries_of_group survival (seen_group self.now)) nine }
     {
         if (nine & CENTRE == 0) == survival {
@@ -52,11 +53,11 @@ impl Group<'_> {
 
     /// The rule with what the group says beside it.
     pub(crate) fn beside(&self, rule: Rule, survival: bool) -> Rule
-        requires { length rule ≡ 512 }
+        requires { length rule ≡ Rule.NEIGHBOURHOODS }
         ensures { result ≡ with_entries rule (entries_of_group survival (seen_group self.now)) }
     {
         let mut both = rule;
-        for nine in 0..512 {
+        for nine in 0..Rule::NEIGHBOURHOODS {
             if self.tells(survival, nine) {
                 both.set(nine, true);
             }
@@ -67,7 +68,7 @@ impl Group<'_> {
 
 /// Whether a byte is one of the letters of a count.
 pub(crate) fn is_letter_of(count: u8, byte: u8) -> bool
-    requires { count ≤ 8 }
+    requires { count ≤ Rule.NEIGHBOURS }
     ensures { result ≡ letter_among count byte }
 {
     has_letter(representatives(count), byte)

@@ -4,11 +4,14 @@ ghost use Rattle.lls_rule.specs.Rule.{table_of};
 ghost use Rattle.lls_hensel.specs.Entries.{next_of};
 ghost use Rattle.lls_hensel.specs.Numbers.{live_number, classes_by_number, representatives_of, letter_text, holds_by_number};
 ghost use Rattle.lls_hensel.specs.Isotropy.{IsIsotropic};
-ghost use Rattle.lls_hensel.specs.Printing.{representative_nine, uneven, group_text, side_text, rule_text};
+ghost use Rattle.lls_hensel.specs.Printing.{representative_nine, uneven, rule_text};
+ghost use Rattle.lls_hensel.specs.Texts.{group_text, side_text};
 ghost use Rattle.lls_hensel.specs.Reading.{entries_of};
 ghost use Rattle.lls_base.specs.Results.{and_then};
 
-use crate::class::{Representative, fewer, representative_of, representatives};
+use crate::class::{
+    HALF, Representative, fewer, flipped, live_count, representative_of, representatives,
+};
 use crate::nine::{CENTRE, around, with_centre};
 use lls_base::Memory;
 use lls_rule::Rule;
@@ -62,7 +65,7 @@ fn text_of(alloc: Global, rule: &Rule) -> Result<Vec<u8>, Memory>
 fn push_side(text: &mut Vec<u8>, rule: &Rule, survival: bool) -> Result<(), Memory>
     ensures { OnOk result (text.new.items ≡ text.old.items ++ side_text rule.now survival) }
 {
-    for count in 0..9 {
+    for count in 0..=Rule::NEIGHBOURS {
         push_group(text, rule, survival, count)?;
     }
     Ok(())
@@ -70,7 +73,7 @@ fn push_side(text: &mut Vec<u8>, rule: &Rule, survival: bool) -> Result<(), Memo
 
 /// Adds the text of a count on a side.
 fn push_group(text: &mut Vec<u8>, rule: &Rule, survival: bool, count: u8) -> Result<(), Memory>
-    requires { count ≤ 8 }
+    requires { count ≤ Rule.NEIGHBOURS }
     ensures { OnOk result (text.new.items ≡ text.old.items ++ group_text rule.now survival count) }
 {
     let inside = classes_at(rule, survival, count, true);
@@ -97,7 +100,7 @@ fn push_letters(
     count: u8,
     live: bool,
 ) -> Result<(), Memory>
-    requires { count ≤ 8 }
+    requires { count ≤ Rule.NEIGHBOURS }
     ensures { OnOk result (text.new.items ≡ text.old.items ++ flat_map (letter_text rule.now survival count live) (representatives_of count)) }
 {
     for representative in representatives(count) {
@@ -130,7 +133,7 @@ fn push_letter(
 #[tactic(auto, unfolding(crate::specs::Numbers::classes_by_number))]
 /// How many classes of a count have this answer on a side.
 fn classes_at(rule: &Rule, survival: bool, count: u8, live: bool) -> usize
-    requires { count ≤ 8 }
+    requires { count ≤ Rule.NEIGHBOURS }
     ensures { result ≡ length (classes_by_number rule.now survival count live) }
 {
     representatives(count)
@@ -147,20 +150,20 @@ fn holds_at(rule: &Rule, survival: bool, count: u8, representative: Representati
     rule.next(with_centre(live_of(count, representative.eight), survival))
 }
 
-/// The neighbours of a class of a count, by its representative's with at most four live ones.
+/// The neighbours of a class of a count, by its representative's with at most half live.
 #[tactic(auto, unfolding(crate::specs::Numbers::live_number))]
 fn live_of(count: u8, eight: u8) -> u8
     ensures { result ≡ live_number count eight }
 {
-    if count > 4 { !eight } else { eight }
+    if count > HALF { flipped(eight) } else { eight }
 }
 
 /// The least neighbourhood whose answer differs from that of its class's representative.
 fn first_uneven(rule: &Rule) -> Option<u16>
     ensures least { result ≡ uneven rule.now }
-    ensures whole { length rule.now ≡ 512 }
+    ensures whole { length rule.now ≡ Rule.NEIGHBOURHOODS }
 {
-    for nine in 0..512 {
+    for nine in 0..Rule::NEIGHBOURHOODS {
         if rule.next(nine) != rule.next(representative_nine(nine)) {
             return Some(nine);
         }
@@ -170,12 +173,12 @@ fn first_uneven(rule: &Rule) -> Option<u16>
 
 /// The neighbourhood with the same centre that stands for the class of another.
 fn representative_nine(nine: u16) -> u16
-    requires { nine < 512 }
+    requires { nine < Rule.NEIGHBOURHOODS }
     ensures number { result ≡ representative_nine nine }
-    ensures below { result < 512 }
+    ensures below { result < Rule.NEIGHBOURHOODS }
 {
     let eight = around(nine);
-    let count = eight.count_ones() as u8;
+    let count = live_count(eight);
     let few = fewer(eight);
     let least = match representative_of(count, few) {
         Some(representative) => representative.eight,

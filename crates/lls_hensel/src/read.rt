@@ -2,12 +2,12 @@
 ghost use Rattle.std.specs.Prelude.{◌≡◌, ◌==◌, ◌||◌, ℕ, ◌+◌, ◌^◌, ◌<◌, ◌≤◌, [], Ok, IfOk, IsTrue, length, not, take, drop, slice_index};
 ghost use Rattle.std.specs.List.{take_while};
 ghost use Rattle.lls_rule.specs.Rule.{table_of};
-ghost use Rattle.lls_hensel.specs.Entries.{next_of, with_entries};
+ghost use Rattle.lls_hensel.specs.Entries.{next_of};
 ghost use Rattle.lls_hensel.specs.Isotropy.{IsIsotropic};
-ghost use Rattle.lls_hensel.specs.Reading.{entries_of, birth_first, survival_first, is_slash, is_survival_mark, survival_after, after_mark, birth_after, side_before, side_entries, misplaced, before_digit, group_read, tail_read, listed, letters_read, is_count};
+ghost use Rattle.lls_hensel.specs.Reading.{entries_of, birth_first, survival_first, is_slash, is_survival_mark, survival_after, after_mark, birth_after, side_before, side_entries, misplaced, before_digit, group_read, tail_read, listed, letters_read, is_count, ReadsEachText, ReadsTextsAlone};
 ghost use Rattle.lls_base.specs.Results.{and_then};
 ghost use Rattle.lls_hensel.specs.Seen.{seen_side, seen_result};
-ghost use Rattle.lls_hensel.specs.Sides.{groups_at, table_read};
+ghost use Rattle.lls_hensel.specs.Sides.{groups_at, table_read, with_entries};
 
 use crate::group::{Group, is_letter_of};
 use lls_rule::Rule;
@@ -39,6 +39,8 @@ struct Side<'t> {
 /// The rule of a text in Hensel notation, as `B3/S23`, `b2-a/s12` or `23/3`.
 pub fn read_rule(text: &[u8]) -> Result<Rule, RuleError>
     ensures exact { result ≡ and_then (entries_of text.now) (λ entries. Ok (table_of (next_of entries))) }
+    ensures texts { ReadsEachText }
+    ensures texts_alone { ReadsTextsAlone }
     ensures isotropic { IfOk result IsIsotropic }
 {
     match text {
@@ -140,7 +142,7 @@ fn birth_after(column: u64, bytes: &[u8]) -> Result<Side<'_>, RuleError>
 
 /// The rule with what the groups of a side say beside it.
 fn read_side(rule: Rule, survival: bool, side: Side) -> Result<Rule, RuleError>
-    requires whole { length rule ≡ 512 }
+    requires whole { length rule ≡ Rule.NEIGHBOURHOODS }
     requires column_in { side.column + length side.bytes.now < 2 ^ 64 }
     ensures { result ≡ and_then (side_entries survival side.entry.column side.entry.bytes.now) (λ entries. Ok (with_entries rule entries)) }
 {
@@ -155,7 +157,7 @@ fn read_side(rule: Rule, survival: bool, side: Side) -> Result<Rule, RuleError>
 
 /// The rule with what the groups of a side say beside it, where the side begins with a digit.
 fn read_groups(rule: Rule, survival: bool, side: Side) -> Result<Rule, RuleError>
-    requires whole { length rule ≡ 512 }
+    requires whole { length rule ≡ Rule.NEIGHBOURHOODS }
     requires digit { before_digit side.bytes.now ≡ [] }
     requires column_in { side.column + length side.bytes.now < 2 ^ 64 }
     ensures { result ≡ table_read survival rule (groups_at side.entry.column side.entry.bytes.now 0) }
@@ -188,7 +190,7 @@ fn read_group(side: Side<'_>, at: usize) -> Result<Group<'_>, RuleError>
 
 /// The group of a count by what stands behind its digit.
 fn read_tail(column: u64, count: u8, tail: &[u8]) -> Result<Group<'_>, RuleError>
-    requires count_in { count ≤ 8 }
+    requires count_in { count ≤ Rule.NEIGHBOURS }
     requires column_in { column + length tail.now < 2 ^ 64 }
     ensures { seen_result result ≡ tail_read column count tail.now }
 {
@@ -208,7 +210,7 @@ fn read_tail(column: u64, count: u8, tail: &[u8]) -> Result<Group<'_>, RuleError
 
 /// The group of a count with the letters that stand in it, from a column on.
 fn listed(column: u64, count: u8, minus: bool, letters: &[u8]) -> Result<Group<'_>, RuleError>
-    requires count_in { count ≤ 8 }
+    requires count_in { count ≤ Rule.NEIGHBOURS }
     requires column_in { column + length letters.now < 2 ^ 64 }
     ensures { seen_result result ≡ listed column count minus letters.now }
 {
@@ -222,7 +224,7 @@ fn listed(column: u64, count: u8, minus: bool, letters: &[u8]) -> Result<Group<'
 
 /// Refuses letters that aren't those of a count, each once.
 fn check_letters(column: u64, count: u8, letters: &[u8]) -> Result<(), RuleError>
-    requires count_in { count ≤ 8 }
+    requires count_in { count ≤ Rule.NEIGHBOURS }
     requires column_in { column + length letters.now < 2 ^ 64 }
     ensures { result ≡ letters_read column count [] letters.now }
 {

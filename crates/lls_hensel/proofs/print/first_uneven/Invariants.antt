@@ -1,5 +1,6 @@
 use Rattle.std.proofs.Common.{◌≡◌, ◌<◌, length}
-use Rattle.lls_hensel.specs.Printing.{uneven, uneven_from}
+use Rattle.lls_hensel.specs.Printing.{uneven}
+use Rattle.lls_hensel.specs.Texts.{uneven_from}
 use Rattle.lls_hensel.proofs.print.first_uneven.Given as goal
 
 abbrev pub invariant-loop-nine : goal.invariant-loop-nine

@@ -2,7 +2,7 @@ use Rattle.std.proofs.Common.{◌≡◌, ℕ, ◌+◌, ◌-◌, ◌∙◌, ◌||
 use Rattle.std.proofs.lemmas.List.{take_rest}
 use Rattle.std.proofs.lemmas.Result.{err_from_is_err_and}
 use Rattle.lls_rule.proofs.Tables.{length-table_of}
-use Rattle.lls_hensel.specs.Entries.{with_entries}
+use Rattle.lls_hensel.specs.Sides.{with_entries}
 use Rattle.lls_hensel.specs.Reading.{birth_first, side_before, side_entries, survival_after, is_slash, is_survival_mark}
 use Rattle.lls_base.specs.Results.{and_then}
 use Rattle.lls_hensel.proofs.Both.{both_sides-fault, both_sides-fault_behind, length-first_side, both_sides-tables}

@@ -1,5 +1,5 @@
 use Rattle.std.proofs.Common.{◌∙◌, sym, ap, Ok, Err}
-use Rattle.lls_hensel.specs.Entries.{with_entries}
+use Rattle.lls_hensel.specs.Sides.{with_entries}
 use Rattle.lls_base.specs.Results.{and_then}
 use Rattle.lls_hensel.proofs.Sides.{side_entries-groups, side_entries-misplaced, side_entries-none, before_digit-at_digit}
 use Rattle.lls_hensel.proofs.With.{with_entries-none}

@@ -1,6 +1,6 @@
 use Rattle.lls_rule.proofs.Tables.{same_table_of}
 use Rattle.std.proofs.Common.{arith}
-use Rattle.lls_hensel.specs.Entries.{with_entries}
+use Rattle.lls_hensel.specs.Sides.{with_entries}
 use Rattle.lls_hensel.proofs.group.Group.beside.Goals as goal
 
 pub returns : goal.returns
