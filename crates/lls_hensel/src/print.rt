@@ -16,15 +16,33 @@ use crate::nine::{CENTRE, around, with_centre};
 use lls_base::Memory;
 use lls_rule::Rule;
 use std::alloc::Global;
+use std::error::Error;
+use std::fmt;
 
 /// Why a rule has no text.
 #[derive(Clone, Copy, Debug, PartialEq, Eq)]
 pub enum PrintRuleError {
     /// The least neighbourhood whose answer differs from that of its class's representative with the same centre.
     NotIsotropic(u64),
-    /// There is no memory for the text.
+    /// An allocation was refused.
     Memory,
 }
+
+impl fmt::Display for PrintRuleError {
+    ghost use Rattle.std.specs.Prelude.{Some};
+    ghost use Rattle.lls_hensel.specs.Faults.{print_rule_error_text};
+
+    ghost output = { λ fault. Some (print_rule_error_text fault) };
+
+    fn fmt<W: fmt::Write>(&self, f: &mut fmt::Formatter<W>) -> fmt::Result {
+        match self {
+            PrintRuleError::NotIsotropic(nine) => write!(f, "NotIsotropic {nine}"),
+            PrintRuleError::Memory => write!(f, "Memory"),
+        }
+    }
+}
+
+impl Error for PrintRuleError {}
 
 impl From<Memory> for PrintRuleError {
     ghost use Rattle.lls_hensel.specs.declared.print.PrintRuleError.{PrintRuleError};

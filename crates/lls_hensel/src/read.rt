@@ -3,6 +3,7 @@ ghost use Rattle.std.specs.Prelude.{◌≡◌, ◌==◌, ◌||◌, ℕ, ◌+◌,
 ghost use Rattle.std.specs.List.{take_while};
 ghost use Rattle.lls_rule.specs.Rule.{table_of};
 ghost use Rattle.lls_hensel.specs.Entries.{next_of};
+ghost use Rattle.lls_hensel.specs.Faults.{fault_name, fault_column};
 ghost use Rattle.lls_hensel.specs.Isotropy.{IsIsotropic};
 ghost use Rattle.lls_hensel.specs.Reading.{entries_of, birth_first, survival_first, is_slash, is_survival_mark, survival_after, after_mark, birth_after, side_before, side_entries, misplaced, before_digit, group_read, tail_read, listed, letters_read, is_count, ReadsEachText, ReadsTextsAlone};
 ghost use Rattle.lls_base.specs.Results.{and_then};
@@ -11,6 +12,8 @@ ghost use Rattle.lls_hensel.specs.Sides.{groups_at, table_read, with_entries};
 
 use crate::group::{Group, is_letter_of};
 use lls_rule::Rule;
+use std::error::Error;
+use std::fmt;
 
 /// Why a text is no rule; columns count bytes from 1.
 #[derive(Clone, Copy, Debug, PartialEq, Eq)]
@@ -28,6 +31,53 @@ pub enum RuleError {
     /// Any other byte that doesn't belong there, or the column after the last where the text ends too early.
     Stray(u64),
 }
+
+impl RuleError {
+    /// The fault's name.
+    pub fn name(&self) -> &'static str
+        ensures { result.now ≡ fault_name self.now }
+    {
+        match self {
+            RuleError::Empty => "Empty",
+            RuleError::BadLetter(_) => "BadLetter",
+            RuleError::RepeatedDigit(_) => "RepeatedDigit",
+            RuleError::RepeatedLetter(_) => "RepeatedLetter",
+            RuleError::NoLetters(_) => "NoLetters",
+            RuleError::Stray(_) => "Stray",
+        }
+    }
+
+    /// The column at which the fault stands, counted in bytes from 1; none for an empty text.
+    pub fn column(&self) -> Option<u64>
+        ensures { result ≡ fault_column self.now }
+    {
+        match *self {
+            RuleError::Empty => None,
+            RuleError::BadLetter(column)
+            | RuleError::RepeatedDigit(column)
+            | RuleError::RepeatedLetter(column)
+            | RuleError::NoLetters(column)
+            | RuleError::Stray(column) => Some(column),
+        }
+    }
+}
+
+impl fmt::Display for RuleError {
+    ghost use Rattle.std.specs.Prelude.{Some};
+    ghost use Rattle.lls_hensel.specs.Faults.{rule_error_text};
+
+    ghost output = { λ fault. Some (rule_error_text fault) };
+
+    fn fmt<W: fmt::Write>(&self, f: &mut fmt::Formatter<W>) -> fmt::Result {
+        let name = self.name();
+        match self.column() {
+            Some(column) => write!(f, "{name} {column}"),
+            None => write!(f, "{name}"),
+        }
+    }
+}
+
+impl Error for RuleError {}
 
 /// The bytes of one side of a rule text, and the column at which they begin.
 #[derive(Clone, Copy)]
