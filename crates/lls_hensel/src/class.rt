@@ -1,5 +1,5 @@
 // The classes of the eight neighbours of a cell.
-ghost use Rattle.std.specs.Prelude.{◌≡◌, ℕ, ◌≤◌, [], ◌∷◌, Some, count_ones};
+ghost use Rattle.std.specs.Prelude.{◌≡◌, ◌≤◌, [], ◌∷◌, Some, count_ones};
 ghost use Rattle.lls_hensel.specs.Class.{classes_of, same_letter};
 ghost use Rattle.lls_hensel.specs.Neighbours.{eight_of};
 ghost use Rattle.lls_hensel.specs.Numbers.{representatives_of, representative_by_number, letter_by_number, images_by_number, fewer_of, turned, mirrored, flipped};

@@ -1,5 +1,5 @@
 // A group of a rule text, and what it adds to a rule.
-ghost use Rattle.std.specs.Prelude.{◌≡◌, ◌+◌, Some, ℕ, ◌<◌, ◌≤◌, length, if◌then◌else◌};
+ghost use Rattle.std.specs.Prelude.{◌≡◌, ◌+◌, Some, ◌<◌, ◌≤◌, length, if◌then◌else◌};
 ghost use Rattle.std.specs.List.{list_any};
 ghost use Rattle.lls_hensel.specs.Class.{letter_among, same_letter};
 ghost use Rattle.lls_hensel.specs.Entries.{next_of, entries_of_group, stands_for};

@@ -1,5 +1,5 @@
 // The reading of rule texts.
-ghost use Rattle.std.specs.Prelude.{◌≡◌, ◌==◌, ◌||◌, ℕ, ◌+◌, ◌^◌, ◌<◌, ◌≤◌, [], Ok, IfOk, IsTrue, length, not, take, drop, slice_index};
+ghost use Rattle.std.specs.Prelude.{◌≡◌, ◌||◌, ◌+◌, ◌^◌, ◌<◌, ◌≤◌, [], Ok, IfOk, IsTrue, length, not, take, drop, slice_index};
 ghost use Rattle.std.specs.List.{take_while};
 ghost use Rattle.lls_rule.specs.Rule.{table_of};
 ghost use Rattle.lls_hensel.specs.Entries.{next_of};

@@ -77,7 +77,7 @@ fn successors_worked_by_hand(rt: HostRuntime) {
         ("B7e/S", 0b111_101_110, false),
     ] {
         let rule = read_rule(text.as_bytes()).expect(&rt, text);
-        assert!(rt; nine < 512);
+        assert!(rt; nine < Rule::NEIGHBOURHOODS);
         assert!(rt; rule.next(nine) == live, "{text} {nine}");
     }
 }
@@ -156,7 +156,7 @@ fn each_class_is_printed_and_read(rt: HostRuntime) {
 fn a_rule_that_is_not_isotropic(rt: HostRuntime) {
     for (nine, least) in [(2, 8), (8, 8), (16 + 4, 16 + 4), (16 + 1, 16 + 4)] {
         let mut rule = Rule::from_counts(0b1000, 0b1100);
-        assert!(rt; nine < 512);
+        assert!(rt; nine < Rule::NEIGHBOURHOODS);
         let live = rule.next(nine);
         rule.set(nine, !live);
         assert!(rt;

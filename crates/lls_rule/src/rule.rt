@@ -1,5 +1,5 @@
 // A rule: what a cell becomes, by the number of its neighbourhood.
-ghost use Rattle.std.specs.Prelude.{◌≡◌, ℕ, ◌+◌, ◌<◌, ◌^◌, false, length, slice_set};
+ghost use Rattle.std.specs.Prelude.{◌≡◌, ◌+◌, ◌<◌, ◌^◌, false, length, slice_set};
 ghost use Rattle.lls_rule.specs.Rule.{answer, background, by_counts, has_bit, table_of};
 ghost use Rattle.lls_rule.specs.Words.{bits_of_word};
 
@@ -43,7 +43,6 @@ impl Model for Rule {
 }
 
 impl PartialEq for Rule {
-    ghost use Rattle.std.specs.Cmp.{bool_eq_equiv};
     ghost use Rattle.std.specs.Cmp.Rules.{comparing};
     ghost use Rattle.std.specs.Cmp.Lexicographic.{pointwise};
     ghost use Rattle.std.proofs.Common.{rules};
