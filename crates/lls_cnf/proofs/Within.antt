@@ -6,6 +6,7 @@ use Rattle.std.proofs.lemmas.List.{length_push}
 use Rattle.std.proofs.lemmas.List.Folds.{list_all-append}
 use Rattle.std.proofs.lemmas.Option.{same_Some}
 use Rattle.lls_lit.specs.Formula.{Clause, is_within}
+use Rattle.lls_cnf.specs.declared.formula.TheConstants.Formula.{MOST_CLAUSES}
 use Rattle.lls_cnf.specs.Formula.{IsFormula}
 
 both_true : (a b : Bool) → (a && b) ≡ true → (a ≡ true) × (b ≡ true)
@@ -19,7 +20,7 @@ passes_at p (y ∷ ys) zero x h e = let same : y ≡ x = same_Some y x e in rw (
 passes_at p (y ∷ ys) (suc k) x h e = passes_at p ys k x ((both_true (p y) (list_all p ys) h).1) e
 
 -- one more clause
-pub IsFormula-push : (vars : ℕ) (clauses : List Clause) (more : Clause) → IsFormula vars clauses → is_within vars more ≡ true → length clauses < 1000000000 → IsFormula vars (clauses ++ more ∷ [])
+pub IsFormula-push : (vars : ℕ) (clauses : List Clause) (more : Clause) → IsFormula vars clauses → is_within vars more ≡ true → length clauses < MOST_CLAUSES → IsFormula vars (clauses ++ more ∷ [])
 IsFormula-push vars clauses more h w lt = record {
   vars_fit = h.vars_fit;
   clauses_fit = omega (arith, length_push clauses more);

@@ -10,7 +10,7 @@ use std::test::Fail;
 fn are_within(lits: &[Lit], vars: u32) -> bool
     ensures { result ≡ is_within vars lits.now }
 {
-    lits.iter().all(|lit| lit.var().number() <= vars)
+    lits.iter().all(|lit| lit.is_of(vars))
 }
 
 fn put(rt: &impl Abort, formula: &mut Formula, clause: &[Lit]) {

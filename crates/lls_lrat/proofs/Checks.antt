@@ -7,7 +7,7 @@ use Rattle.std.proofs.lemmas.Bool.{le-leb}
 use Rattle.std.proofs.lemmas.Bool.Decides.{nat_tests}
 use Rattle.std.proofs.lemmas.List.Folds.{list_all-append, list_all_more}
 use Rattle.lls_lit.specs.Literal.{variable_of}
-use Rattle.lls_lit.specs.Formula.{Clause, Cnf, is_within}
+use Rattle.lls_lit.specs.Formula.{Clause, Cnf, is_literal_of, is_within}
 use Rattle.lls_prooflog.specs.declared.step.Step.TheVariants.{Add, Del}
 use Rattle.lls_prooflog.specs.Steps.{Live, numbered, find_clause, unit_walk, fault_of, after, is_empty_addition}
 use Rattle.lls_prooflog.proofs.Soundness.{IsEntailed-numbered, IsEntailed-after, unsatisfiable_at_empty}
@@ -19,14 +19,15 @@ use Rattle.lls_lrat.proofs.Booleans.{both_true}
 pub is_within-more : (v w : ℕ) (clause : Clause) → v ≤ w → is_within v clause ≡ true → is_within w clause ≡ true
 is_within-more v w [] le e = refl
 is_within-more v w (l ∷ ls) le e =
-    let both = both_true (leb (variable_of l) v) (is_within v ls) e in
-    let first : leb (variable_of l) w ≡ true = le-leb (variable_of l) w (omega (arith, leb-true (variable_of l) v both.0)) in
-    rw (first, is_within-more v w ls le both.1) refl
+    let both = both_true (is_literal_of v l) (is_within v ls) e in
+    let parts = both_true (leb 1 (variable_of l)) (leb (variable_of l) v) both.0 in
+    let first : leb (variable_of l) w ≡ true = le-leb (variable_of l) w (omega (arith, leb-true (variable_of l) v parts.1)) in
+    rw (parts.0, first, is_within-more v w ls le both.1) refl
 
 -- a literal more
-pub is_within-push : (v : ℕ) (clause : Clause) (i : ℕ) (d : ℤ) → i < length clause → is_within v (take i clause) ≡ true → variable_of (get_or clause i d) ≤ v → is_within v (take (i + 1) clause) ≡ true
-is_within-push v clause i d lt e le =
-    list_all_more (λ l. leb (variable_of l) v) clause i d lt ∙ rw (e, le-leb (variable_of (get_or clause i d)) v le) refl
+pub is_within-push : (v : ℕ) (clause : Clause) (i : ℕ) (d : ℤ) → i < length clause → is_within v (take i clause) ≡ true → (1 ≤ variable_of (get_or clause i d)) × (variable_of (get_or clause i d) ≤ v) → is_within v (take (i + 1) clause) ≡ true
+is_within-push v clause i d lt e h =
+    list_all_more (is_literal_of v) clause i d lt ∙ rw (e, le-leb 1 (variable_of (get_or clause i d)) h.0, le-leb (variable_of (get_or clause i d)) v h.1) refl
 
 are_within-more : (v w : ℕ) (live : Live) → v ≤ w → are_within v live ≡ true → are_within w live ≡ true
 are_within-more v w [] le e = refl
