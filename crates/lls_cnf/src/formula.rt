@@ -1,5 +1,5 @@
 // A formula: variables and clauses over them.
-ghost use Rattle.std.specs.Prelude.{◌≡◌, ◌<◌, ◌≤◌, ◌↔◌, true, [], ◌∷◌, ◌++◌, length, IsTrue, OnOk, OnErr, slice_get};
+ghost use Rattle.std.specs.Prelude.{◌≡◌, ◌+◌, ◌<◌, ◌≤◌, ◌↔◌, true, [], ◌∷◌, ◌++◌, length, take, IsTrue, OnOk, OnErr, slice_get};
 ghost use Rattle.std.specs.List.{list_all};
 ghost use Rattle.lls_lit.specs.Formula.{is_within};
 
@@ -85,5 +85,27 @@ impl Formula {
     {
         self.clauses.push(lits)?;
         Ok(())
+    }
+
+    /// Adds variables, and answers how many there were before.
+    pub fn more_vars(&mut self, n: u32) -> u32
+        requires { self.old.vars + n ≤ Var.MOST }
+        ensures before { result ≡ self.old.vars }
+        ensures more { self.new ≡ record self.old { vars = self.old.vars + n } }
+    {
+        let before = self.vars;
+        self.vars = before + n;
+        before
+    }
+
+    /// Keeps the first clauses, and the variables up to `vars`.
+    pub fn cut(&mut self, clauses: usize, vars: u32)
+        requires clauses { clauses ≤ length self.old.clauses }
+        requires vars { vars ≤ self.old.vars }
+        requires within { list_all (is_within vars) (take clauses self.old.clauses) ≡ true }
+        ensures { self.new ≡ record { vars = vars; clauses = take clauses self.old.clauses } }
+    {
+        self.clauses.cut(clauses);
+        self.vars = vars;
     }
 }

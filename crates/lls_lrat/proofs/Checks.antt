@@ -1,5 +1,5 @@
 -- What holds of a checker's parts, after its marks reach further and after a good step.
-use Rattle.std.proofs.Common.{◌≡◌, ℕ, ◌+◌, ◌<◌, ◌≤◌, Bool, true, false, cond, eqb, leb, leb-true, List, [], ◌∷◌, ◌++◌, length, get_or, take, Option, Some, None, refl, sym, ◌∙◌, arith, Bor}
+use Rattle.std.proofs.Common.{◌≡◌, ℕ, ◌+◌, ◌<◌, ◌≤◌, Bool, true, false, cond, eqb, List, [], ◌∷◌, ◌++◌, length, get_or, take, Option, Some, None, refl, sym, ◌∙◌, arith, Bor}
 use Rattle.std.specs.Prelude.{ℤ, filter, is_some, is_none}
 use Rattle.std.specs.List.{list_all, enumerate_from}
 use Rattle.std.specs.Option.{option_copied}
@@ -8,21 +8,13 @@ use Rattle.std.proofs.lemmas.Bool.Decides.{nat_tests}
 use Rattle.std.proofs.lemmas.List.Folds.{list_all-append, list_all_more}
 use Rattle.lls_lit.specs.Literal.{variable_of}
 use Rattle.lls_lit.specs.Formula.{Clause, Cnf, is_literal_of, is_within}
+use Rattle.lls_cnf.proofs.Within.{is_within-more}
 use Rattle.lls_prooflog.specs.declared.step.Step.TheVariants.{Add, Del}
 use Rattle.lls_prooflog.specs.Steps.{Live, numbered, find_clause, unit_walk, fault_of, after, is_empty_addition}
 use Rattle.lls_prooflog.proofs.Soundness.{KeepsSatisfiable-numbered, KeepsSatisfiable-after, unsatisfiable_at_empty}
 use Rattle.lls_lrat.specs.Hinted.{are_within}
 use Rattle.lls_lrat.specs.Checking.{IsChecking}
 use Rattle.lls_lrat.proofs.Booleans.{both_true}
-
--- what is within the variables is within more
-pub is_within-more : (v w : ℕ) (clause : Clause) → v ≤ w → is_within v clause ≡ true → is_within w clause ≡ true
-is_within-more v w [] le e = refl
-is_within-more v w (l ∷ ls) le e =
-    let both = both_true (is_literal_of v l) (is_within v ls) e in
-    let parts = both_true (leb 1 (variable_of l)) (leb (variable_of l) v) both.0 in
-    let first : leb (variable_of l) w ≡ true = le-leb (variable_of l) w (omega (arith, leb-true (variable_of l) v parts.1)) in
-    rw (parts.0, first, is_within-more v w ls le both.1) refl
 
 -- a literal more
 pub is_within-push : (v : ℕ) (clause : Clause) (i : ℕ) (d : ℤ) → i < length clause → is_within v (take i clause) ≡ true → (1 ≤ variable_of (get_or clause i d)) × (variable_of (get_or clause i d) ≤ v) → is_within v (take (i + 1) clause) ≡ true

@@ -4,7 +4,7 @@ use Rattle.std.specs.Prelude.{ℤ, pos, negsuc}
 use Rattle.std.proofs.lemmas.Option.{same_Some, slice_get-get_or}
 use Rattle.lls_lit.specs.Literal.{variable_of, negation}
 use Rattle.lls_lit.specs.Formula.{Clause, is_literal_of, is_within}
-use Rattle.lls_cnf.proofs.Within.{passes_at}
+use Rattle.lls_cnf.proofs.Elements.{passes_at}
 use Rattle.lls_prooflog.specs.UnitWalk.{Live, find_clause}
 use Rattle.lls_lrat.specs.Hinted.{are_within, hinted_clause}
 use Rattle.lls_lrat.proofs.Booleans.{both_true}

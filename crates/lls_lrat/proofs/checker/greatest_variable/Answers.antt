@@ -2,7 +2,8 @@ use Rattle.std.proofs.Common.{◌≤◌, take, get_or, arith}
 use Rattle.std.proofs.lemmas.Grind.{common_steps}
 use Rattle.lls_lit.specs.Literal.{variable_of}
 use Rattle.lls_lit.specs.declared.var.TheConstants.Var.{MOST}
-use Rattle.lls_lrat.proofs.Checks.{is_within-more, is_within-push}
+use Rattle.lls_cnf.proofs.Within.{is_within-more}
+use Rattle.lls_lrat.proofs.Checks.{is_within-push}
 use Rattle.lls_lrat.proofs.checker.greatest_variable.Goals as goal
 
 pub loop-lit-preserved : goal.loop-lit-preserved
