@@ -1,5 +1,5 @@
 -- Tests of each element of a list, by the element at a place.
-use Rattle.std.proofs.Common.{◌≡◌, ℕ, zero, suc, ◌+◌, Bool, true, false, ◌&&◌, List, [], ◌∷◌, take, Some, refl, arith}
+use Rattle.std.proofs.Common.{◌≡◌, ℕ, zero, suc, ◌+◌, Bool, true, false, ◌&&◌, List, [], ◌∷◌, ◌++◌, take, Some, refl, ap, arith}
 use Rattle.std.specs.Prelude.{slice_get}
 use Rattle.std.specs.List.{list_all}
 use Rattle.std.proofs.lemmas.Bool.{and_parts}
@@ -33,3 +33,11 @@ list_all-next p (y ∷ ys) (suc k) x e h =
     let next : suc k + 1 ≡ suc (k + 1) = omega arith in
     let parts = and_parts (p y) (list_all p (take k ys)) h in
     rw (next, parts.0) (list_all-next p ys k x e parts.1)
+
+-- the first elements, and the one at the place behind them
+pub take-next : {X : Type 0} (xs : List X) (k : ℕ) (x : X) → slice_get xs k ≡ Some x → take (k + 1) xs ≡ take k xs ++ x ∷ []
+take-next [] k x e = absurd cc
+take-next (y ∷ ys) zero x e = ap (λ (z : _). z ∷ []) (same_Some y x e)
+take-next (y ∷ ys) (suc k) x e =
+    let next : suc k + 1 ≡ suc (k + 1) = omega arith in
+    rw next (ap (λ (zs : List _). y ∷ zs) (take-next ys k x e))
