@@ -1,7 +1,7 @@
 -- The pieces of a buffer: how many they are, the one at a place, and one more.
-use Rattle.std.proofs.Common.{◌≡◌, ℕ, zero, suc, ◌+◌, ◌-◌, ◌<◌, ◌≤◌, List, [], ◌∷◌, ◌++◌, length, get_or, take, drop, Some, refl, sym, ap, arith}
+use Rattle.std.proofs.Common.{◌≡◌, ℕ, zero, suc, ◌+◌, ◌-◌, ◌<◌, ◌≤◌, List, [], ◌∷◌, ◌++◌, length, get_or, take, drop, Some, refl, sym, ap, ◌∙◌, arith}
 use Rattle.std.specs.Prelude.{ℤ, slice_get}
-use Rattle.std.proofs.lemmas.List.{take-append-le, drop-append-le, drop_at, take_all, length-drop}
+use Rattle.std.proofs.lemmas.List.{take-append-le, drop-append-le, drop_at, drop-take, take_all, take-take, length-drop}
 use Rattle.lls_cnf.specs.Pieces.{pieces, AreEnds}
 
 pub length-pieces : (from : ℕ) (ends : List ℕ) (buffer : List ℤ) → length (pieces from ends buffer) ≡ length ends
@@ -42,3 +42,33 @@ pieces-push from (e ∷ es) buffer more h =
 pub AreEnds-push : (from : ℕ) (ends : List ℕ) (total more : ℕ) → AreEnds from ends total → AreEnds from (ends ++ (total + more) ∷ []) (total + more)
 AreEnds-push from [] total more h = (omega arith, refl)
 AreEnds-push from (e ∷ es) total more h = (h.0, AreEnds-push e es total more h.1)
+
+-- the first pieces, of a buffer that ends with them
+kept_front : (from e end : ℕ) (buffer : List ℤ) → from ≤ e → e ≤ end → take (e - from) (drop from (take end buffer)) ≡ take (e - from) (drop from buffer)
+kept_front from e end buffer le lt =
+    let whole : end ≡ from + (end - from) = omega arith in
+    let rest : drop from (take end buffer) ≡ take (end - from) (drop from buffer) = ap (λ n. drop from (take n buffer)) whole ∙ drop-take from (end - from) buffer in
+    let less : e - from ≤ end - from = omega arith in
+    rw rest (take-take (e - from) (end - from) (drop from buffer) less)
+
+from_le_end : (from : ℕ) (ends : List ℕ) (total n : ℕ) → AreEnds from ends total → n ≤ length ends → from ≤ get_or (from ∷ ends) n 0
+from_le_end from ends total zero h le = omega arith
+from_le_end from [] total (suc n) h le = absurd (omega arith)
+from_le_end from (e ∷ es) total (suc n) h le = omega (arith, h.0, from_le_end e es total n h.1 (omega arith))
+
+pub end_within : (from : ℕ) (ends : List ℕ) (total n : ℕ) → AreEnds from ends total → n ≤ length ends → get_or (from ∷ ends) n 0 ≤ total
+end_within from ends total zero h le = from_le from ends total h
+end_within from [] total (suc n) h le = absurd (omega arith)
+end_within from (e ∷ es) total (suc n) h le = end_within e es total n h.1 (omega arith)
+
+pub pieces-take : (from : ℕ) (ends : List ℕ) (buffer : List ℤ) (total n : ℕ) → AreEnds from ends total → n ≤ length ends → pieces from (take n ends) (take (get_or (from ∷ ends) n 0) buffer) ≡ take n (pieces from ends buffer)
+pieces-take from ends buffer total zero h le = refl
+pieces-take from [] buffer total (suc n) h le = absurd (omega arith)
+pieces-take from (e ∷ es) buffer total (suc n) h le =
+    let within : e ≤ get_or (e ∷ es) n 0 = from_le_end e es total n h.1 (omega arith) in
+    rw (kept_front from e (get_or (e ∷ es) n 0) buffer h.0 within, pieces-take e es buffer total n h.1 (omega arith)) refl
+
+pub AreEnds-take : (from : ℕ) (ends : List ℕ) (total n : ℕ) → AreEnds from ends total → n ≤ length ends → AreEnds from (take n ends) (get_or (from ∷ ends) n 0)
+AreEnds-take from ends total zero h le = refl
+AreEnds-take from [] total (suc n) h le = absurd (omega arith)
+AreEnds-take from (e ∷ es) total (suc n) h le = (h.0, AreEnds-take e es total n h.1 (omega arith))

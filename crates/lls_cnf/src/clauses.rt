@@ -69,11 +69,19 @@ impl Clauses {
         append(&mut self.lits, &mut self.ends, lits)?;
         Ok(())
     }
+
+    /// Keeps the first clauses.
+    pub fn cut(&mut self, clauses: usize)
+        requires { clauses ≤ length self.old }
+        ensures { self.new ≡ take clauses self.old }
+    {
+        keep(&mut self.lits, &mut self.ends, clauses);
+    }
 }
 
-// Where the piece of that number begins.
+// Where the piece of that number begins, or the buffer ends.
 fn start(ends: &[usize], k: usize) -> usize
-    requires { k < length ends.now }
+    requires { k ≤ length ends.now }
     ensures { result ≡ slice_index (0 ∷ ends.now) k }
 {
     if k == 0 { 0 } else { ends[k - 1] }
@@ -112,4 +120,14 @@ fn append(buffer: &mut Vec<Lit>, ends: &mut Vec<usize>, lits: &[Lit]) -> Result<
         return Err(Memory);
     }
     Ok(())
+}
+
+// Keeps the first pieces.
+fn keep(buffer: &mut Vec<Lit>, ends: &mut Vec<usize>, pieces: usize)
+    requires { pieces ≤ length ends.old.items }
+    ensures buffer { buffer.new.items ≡ take (slice_index (0 ∷ ends.old.items) pieces) buffer.old.items }
+    ensures ends { ends.new.items ≡ take pieces ends.old.items }
+{
+    buffer.truncate(start(ends, pieces));
+    ends.truncate(pieces);
 }

@@ -1,5 +1,5 @@
 -- Clauses, formulas and assignments (DIMACS CNF), and what it means that an assignment satisfies them.
-use Rattle.std.specs.Prelude.{◌≡◌, ℕ, zero, suc, ℤ, pos, negsuc, Bool, false, not, nat_le, List, length, slice_index_or}
+use Rattle.std.specs.Prelude.{◌≡◌, ℕ, zero, suc, ℤ, pos, negsuc, Bool, false, not, ◌&&◌, nat_le, List, length, slice_index_or}
 use Rattle.std.specs.List.{list_any, list_all}
 use Rattle.lls_lit.specs.Literal.{variable_of}
 
@@ -34,6 +34,10 @@ satisfies values clauses = list_all (satisfies_clause values) clauses
 abbrev pub IsUnsatisfiable : Cnf → Type 0
 IsUnsatisfiable formula = (values : List Bool) → length values ≡ formula.vars → satisfies values formula.clauses ≡ false
 
--- no literal is beyond the variables
+-- a literal of a variable from 1 to vars, so not 0
+abbrev pub is_literal_of : ℕ → ℤ → Bool
+is_literal_of vars l = nat_le 1 (variable_of l) && nat_le (variable_of l) vars
+
+-- each literal is one of the variables from 1 to vars
 abbrev pub is_within : ℕ → Clause → Bool
-is_within vars clause = list_all (λ l. nat_le (variable_of l) vars) clause
+is_within vars clause = list_all (is_literal_of vars) clause

@@ -1,9 +1,10 @@
 -- A literal is a whole number that isn't 0: v for a variable, -v for its negation, as DIMACS CNF writes them.
 use Rattle.std.specs.Prelude.{◌≤◌, ℕ, zero, suc, ◌+◌, ◌-◌, ◌*◌, ℤ, pos, negsuc}
+use Rattle.lls_lit.specs.declared.var.TheConstants.Var.{MOST}
 
 -- a variable's number
 abbrev pub IsVariable : ℕ → Type 0
-IsVariable n = (1 ≤ n) × (n ≤ 16777216)
+IsVariable n = (1 ≤ n) × (n ≤ MOST)
 
 -- the variable of a literal; 0, which is no literal, has none
 abbrev pub variable_of : ℤ → ℕ

@@ -3,6 +3,7 @@ use Rattle.std.specs.Prelude.{◌≡◌, ℕ, ◌+◌, ◌*◌, ◌/◌, ◌%◌
 use Rattle.std.specs.Ordering.{int_cmp}
 use Rattle.std.specs.FinSet as set
 use Rattle.std.specs.Coded.{Coded, code_by, coded×, coded_ℕ, coded_ℤ}
+use Rattle.lls_lit.specs.declared.var.TheConstants.Var.{MOST}
 
 -- the greatest variable, and the literals that are marked
 pub record Marked : Type 0 where
@@ -28,6 +29,6 @@ marked vars stamps stamp = record { vars = vars; lits = set.from_list (stamped 0
 
 -- what holds of the parts of marks
 pub record AreStamps (vars : ℕ) (stamps : List ℕ) (stamp : ℕ) : Type 0 where
-  pub vars_fit : vars ≤ 16777216
+  pub vars_fit : vars ≤ MOST
   pub two_each : length stamps ≡ 2 * vars
   pub none_above : All (λ s. s ≤ stamp) stamps

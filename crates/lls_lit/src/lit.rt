@@ -1,6 +1,7 @@
 // A literal.
 ghost use Rattle.std.specs.Prelude.{◌≡◌, SomeIff};
 ghost use Rattle.lls_lit.specs.Literal.{IsLiteral, IsVariable, negation, variable_of, index_of};
+ghost use Rattle.lls_lit.specs.Formula.{is_literal_of};
 
 use crate::Var;
 use std::marker::Model;
@@ -56,6 +57,13 @@ impl Lit {
         ensures variable { IsVariable result }
     {
         Var::from_number(self.number.unsigned_abs()).unwrap()
+    }
+
+    /// Whether the literal's variable is at most `vars`.
+    pub fn is_of(self, vars: u32) -> bool
+        ensures { result ≡ is_literal_of vars self }
+    {
+        self.number.unsigned_abs() <= vars
     }
 
     /// Where the literal stands in a table of two entries a variable: 2(v-1) for v, 2(v-1)+1 for -v.

@@ -3,7 +3,7 @@ ghost use Rattle.std.specs.Prelude.{◌≡◌, ◌<◌, ◌≤◌, IfOk, All, le
 ghost use Rattle.std.specs.FinSet as set;
 ghost use Rattle.lls_lit.specs.Literal.{variable_of};
 
-use crate::Lit;
+use crate::{Lit, Var};
 use lls_base::Memory;
 use std::alloc::Global;
 use std::marker::Model;
@@ -33,7 +33,7 @@ impl Model for Marks {
 impl Marks {
     /// The empty set.
     pub fn new(alloc: Global, vars: u32) -> Result<Marks, Memory>
-        requires { vars ≤ 16777216 }
+        requires { vars ≤ Var.MOST }
         ensures { IfOk result (λ m. m ≡ record { vars = vars; lits = set.empty }) }
     {
         let stamps = vec![in alloc; 0; 2 * vars as usize]?;
@@ -47,7 +47,7 @@ impl Marks {
     /// The greatest variable.
     pub fn vars(&self) -> u32
         ensures vars { result ≡ self.now.vars }
-        ensures most { result ≤ 16777216 }
+        ensures most { result ≤ Var.MOST }
     {
         self.vars
     }

@@ -1,5 +1,5 @@
 -- What holds of a checker's parts, after its marks reach further and after a good step.
-use Rattle.std.proofs.Common.{◌≡◌, ℕ, ◌+◌, ◌<◌, ◌≤◌, Bool, true, false, cond, eqb, leb, leb-true, List, [], ◌∷◌, ◌++◌, length, get_or, take, Option, Some, None, refl, sym, ◌∙◌, arith, Bor}
+use Rattle.std.proofs.Common.{◌≡◌, ℕ, ◌+◌, ◌<◌, ◌≤◌, Bool, true, false, cond, eqb, List, [], ◌∷◌, ◌++◌, length, get_or, take, Option, Some, None, refl, sym, ◌∙◌, arith, Bor}
 use Rattle.std.specs.Prelude.{ℤ, filter, is_some, is_none}
 use Rattle.std.specs.List.{list_all, enumerate_from}
 use Rattle.std.specs.Option.{option_copied}
@@ -7,26 +7,19 @@ use Rattle.std.proofs.lemmas.Bool.{le-leb}
 use Rattle.std.proofs.lemmas.Bool.Decides.{nat_tests}
 use Rattle.std.proofs.lemmas.List.Folds.{list_all-append, list_all_more}
 use Rattle.lls_lit.specs.Literal.{variable_of}
-use Rattle.lls_lit.specs.Formula.{Clause, Cnf, is_within}
+use Rattle.lls_lit.specs.Formula.{Clause, Cnf, is_literal_of, is_within}
+use Rattle.lls_cnf.proofs.Within.{is_within-more}
 use Rattle.lls_prooflog.specs.declared.step.Step.TheVariants.{Add, Del}
 use Rattle.lls_prooflog.specs.Steps.{Live, numbered, find_clause, unit_walk, fault_of, after, is_empty_addition}
-use Rattle.lls_prooflog.proofs.Soundness.{IsEntailed-numbered, IsEntailed-after, unsatisfiable_at_empty}
+use Rattle.lls_prooflog.proofs.Soundness.{KeepsSatisfiable-numbered, KeepsSatisfiable-after, unsatisfiable_at_empty}
 use Rattle.lls_lrat.specs.Hinted.{are_within}
 use Rattle.lls_lrat.specs.Checking.{IsChecking}
 use Rattle.lls_lrat.proofs.Booleans.{both_true}
 
--- what is within the variables is within more
-pub is_within-more : (v w : ℕ) (clause : Clause) → v ≤ w → is_within v clause ≡ true → is_within w clause ≡ true
-is_within-more v w [] le e = refl
-is_within-more v w (l ∷ ls) le e =
-    let both = both_true (leb (variable_of l) v) (is_within v ls) e in
-    let first : leb (variable_of l) w ≡ true = le-leb (variable_of l) w (omega (arith, leb-true (variable_of l) v both.0)) in
-    rw (first, is_within-more v w ls le both.1) refl
-
 -- a literal more
-pub is_within-push : (v : ℕ) (clause : Clause) (i : ℕ) (d : ℤ) → i < length clause → is_within v (take i clause) ≡ true → variable_of (get_or clause i d) ≤ v → is_within v (take (i + 1) clause) ≡ true
-is_within-push v clause i d lt e le =
-    list_all_more (λ l. leb (variable_of l) v) clause i d lt ∙ rw (e, le-leb (variable_of (get_or clause i d)) v le) refl
+pub is_within-push : (v : ℕ) (clause : Clause) (i : ℕ) (d : ℤ) → i < length clause → is_within v (take i clause) ≡ true → (1 ≤ variable_of (get_or clause i d)) × (variable_of (get_or clause i d) ≤ v) → is_within v (take (i + 1) clause) ≡ true
+is_within-push v clause i d lt e h =
+    list_all_more (is_literal_of v) clause i d lt ∙ rw (e, le-leb 1 (variable_of (get_or clause i d)) h.0, le-leb (variable_of (get_or clause i d)) v h.1) refl
 
 are_within-more : (v w : ℕ) (live : Live) → v ≤ w → are_within v live ≡ true → are_within w live ≡ true
 are_within-more v w [] le e = refl
@@ -54,11 +47,11 @@ differ : false ≡ true → ⊥
 differ e = cc
 
 pub IsChecking-start : (formula : Cnf) (v : ℕ) → list_all (is_within v) formula.clauses ≡ true → IsChecking formula (numbered formula.clauses) v false
-IsChecking-start formula v e = record { within = are_within-numbered v 1 formula.clauses e; entailed = IsEntailed-numbered formula; refuted = λ h. absurd (differ h) }
+IsChecking-start formula v e = record { within = are_within-numbered v 1 formula.clauses e; kept = KeepsSatisfiable-numbered formula; refuted = λ h. absurd (differ h) }
 
 -- the marks reach further
 pub IsChecking-reach : (formula : Cnf) (live : Live) (v w : ℕ) (done : Bool) → v ≤ w → IsChecking formula live v done → IsChecking formula live w done
-IsChecking-reach formula live v w done le h = record { within = are_within-more v w live le h.within; entailed = h.entailed; refuted = h.refuted }
+IsChecking-reach formula live v w done le h = record { within = are_within-more v w live le h.within; kept = h.kept; refuted = h.refuted }
 
 pub good_addition : (live : Live) (id : ℕ) (lits hints : List ℤ) → is_some (find_clause live id) ≡ false → is_none (unit_walk live lits hints) ≡ true → fault_of live (Add id lits hints) ≡ None
 good_addition live id lits hints free closes = rw free (none_is (unit_walk live lits hints) closes) where
@@ -70,15 +63,15 @@ good_addition live id lits hints free closes = rw free (none_is (unit_walk live 
 pub IsChecking-add : (formula : Cnf) (live : Live) (v : ℕ) (id : ℕ) (lits hints : List ℤ) (done : Bool) → IsChecking formula live v false → is_within v lits ≡ true → fault_of live (Add id lits hints) ≡ None → is_empty_addition (Add id lits hints) ≡ done → IsChecking formula (live ++ (id, lits) ∷ []) v done
 IsChecking-add formula live v id lits hints done h w good empty = record {
   within = list_all-append (λ (pair : ℕ × Clause). is_within v pair.1) live ((id, lits) ∷ []) ∙ rw (h.within, w) refl;
-  entailed = IsEntailed-after formula live (Add id lits hints) h.entailed good;
-  refuted = λ is. unsatisfiable_at_empty formula live (Add id lits hints) h.entailed good (empty ∙ is);
+  kept = KeepsSatisfiable-after formula live (Add id lits hints) h.kept good;
+  refuted = λ is. unsatisfiable_at_empty formula live (Add id lits hints) h.kept good (empty ∙ is);
 }
 
 -- clauses were taken out
 pub IsChecking-delete : (formula : Cnf) (live : Live) (v : ℕ) (ids : List ℕ) → IsChecking formula live v false → IsChecking formula (after live (Del ids)) v false
 IsChecking-delete formula live v ids h = record {
   within = are_within-filter v _ live h.within;
-  entailed = IsEntailed-after formula live (Del ids) h.entailed refl;
+  kept = KeepsSatisfiable-after formula live (Del ids) h.kept refl;
   refuted = λ is. absurd (differ is);
 }
 

@@ -3,8 +3,8 @@ use Rattle.std.proofs.Common.{◌≡◌, ℕ, zero, suc, ◌<◌, ◌≤◌, tru
 use Rattle.std.specs.Prelude.{ℤ, pos, negsuc}
 use Rattle.std.proofs.lemmas.Option.{same_Some, slice_get-get_or}
 use Rattle.lls_lit.specs.Literal.{variable_of, negation}
-use Rattle.lls_lit.specs.Formula.{Clause, is_within}
-use Rattle.lls_cnf.proofs.Within.{passes_at}
+use Rattle.lls_lit.specs.Formula.{Clause, is_literal_of, is_within}
+use Rattle.lls_cnf.proofs.Elements.{passes_at}
 use Rattle.lls_prooflog.specs.UnitWalk.{Live, find_clause}
 use Rattle.lls_lrat.specs.Hinted.{are_within, hinted_clause}
 use Rattle.lls_lrat.proofs.Booleans.{both_true}
@@ -25,7 +25,8 @@ hinted_within vars live (negsuc n) clause all e = absurd cc
 -- a literal of a clause that is within the variables
 pub literal_within : (vars : ℕ) (clause : Clause) (i : ℕ) (d : ℤ) → is_within vars clause ≡ true → i < length clause → variable_of (get_or clause i d) ≤ vars
 literal_within vars clause i d all lt =
-    leb-true (variable_of (get_or clause i d)) vars (passes_at (λ l. leb (variable_of l) vars) clause i (get_or clause i d) all (slice_get-get_or clause i d lt))
+    let v = variable_of (get_or clause i d) in
+    leb-true v vars (both_true (leb 1 v) (leb v vars) (passes_at (is_literal_of vars) clause i (get_or clause i d) all (slice_get-get_or clause i d lt))).1
 
 pub variable_of-negation : (l : ℤ) → variable_of (negation l) ≡ variable_of l
 variable_of-negation (pos zero) = refl

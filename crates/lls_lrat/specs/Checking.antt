@@ -2,7 +2,7 @@
 use Rattle.std.specs.Prelude.{◌≡◌, ℕ, Bool, true, false, Option, Some, None, is_none, if◌then◌else◌}
 use Rattle.lls_lit.specs.Formula.{Cnf, IsUnsatisfiable}
 use Rattle.lls_prooflog.specs.declared.step.Step.{Step}
-use Rattle.lls_prooflog.specs.Steps.{Live, fault_of, after, is_empty_addition, IsEntailed}
+use Rattle.lls_prooflog.specs.Steps.{Live, fault_of, after, is_empty_addition, KeepsSatisfiable}
 use Rattle.lls_lrat.specs.Hinted.{are_within}
 use Rattle.lls_lrat.specs.declared.checker.Progress.{Progress}
 use Rattle.lls_lrat.specs.declared.checker.Progress.TheVariants.{Going, Done}
@@ -27,5 +27,5 @@ progress_of false = Going
 -- what holds of the parts of a checker, whose marks reach to the variable
 pub record IsChecking (formula : Cnf) (live : Live) (vars : ℕ) (done : Bool) : Type 0 where
   pub within : are_within vars live ≡ true
-  pub entailed : IsEntailed formula live
+  pub kept : KeepsSatisfiable formula live
   pub refuted : done ≡ true → IsUnsatisfiable formula

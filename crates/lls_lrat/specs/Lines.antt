@@ -4,6 +4,7 @@ use Rattle.std.specs.List.{list_all}
 use Rattle.std.specs.Char.{is_ascii_digit}
 use Rattle.std.specs.Option.{option_map, option_and_then}
 use Rattle.lls_lit.specs.Literal.{negation}
+use Rattle.lls_lit.specs.declared.var.TheConstants.Var.{MOST}
 use Rattle.lls_prooflog.specs.declared.step.Step.{Step}
 use Rattle.lls_prooflog.specs.declared.step.Step.TheVariants.{Add}
 use Rattle.lls_lrat.specs.Texts.{words_of}
@@ -19,9 +20,9 @@ decimal digits = fold (λ n b. 10 * n + (b - 48)) 0 digits
 abbrev pub number_of : List ℕ → Option ℕ
 number_of word = if is_positive word then Some (decimal word) else None
 
--- a number from 1 to 16777216
+-- a variable's number
 abbrev pub variable_in : List ℕ → Option ℕ
-variable_in word = option_and_then (λ n. if nat_le 1 n && nat_le n 16777216 then Some n else None) (number_of word)
+variable_in word = option_and_then (λ n. if nat_le 1 n && nat_le n MOST then Some n else None) (number_of word)
 
 -- a variable, or - (45) and a variable
 abbrev pub literal_of : List ℕ → Option ℤ

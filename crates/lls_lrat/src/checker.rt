@@ -149,7 +149,7 @@ fn reach(alloc: Global, marks: &mut Marks, lits: &[Lit]) -> Result<(), Memory>
 
 fn greatest_variable(lits: &[Lit]) -> u32
     ensures within { is_within result lits.now ≡ true }
-    ensures most { result ≤ 16777216 }
+    ensures most { result ≤ Var.MOST }
 {
     let mut most = 0;
     for lit in lits {

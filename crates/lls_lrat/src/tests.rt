@@ -13,7 +13,7 @@ use std::test::Fail;
 fn are_within(lits: &[Lit], vars: u32) -> bool
     ensures { result ≡ is_within vars lits.now }
 {
-    lits.iter().all(|lit| lit.var().number() <= vars)
+    lits.iter().all(|lit| lit.is_of(vars))
 }
 
 fn literals(alloc: Global, numbers: &[i32]) -> Result<Vec<Lit>, Fail> {

@@ -1,5 +1,5 @@
--- A good step keeps what follows from the formula.
-use Rattle.std.proofs.Common.{◌≡◌, ℕ, zero, suc, ◌+◌, Bool, true, false, not, ◌&&◌, ◌||◌, cond, List, [], ◌∷◌, ◌++◌, map, Option, Some, None, refl, ap, arith, add-one, eqb}
+-- A good step keeps the live clauses satisfiable where the formula is.
+use Rattle.std.proofs.Common.{◌≡◌, ℕ, zero, suc, ◌+◌, Bool, true, false, not, ◌&&◌, ◌||◌, cond, List, [], ◌∷◌, ◌++◌, Option, Some, None, refl, ap, arith, add-one, eqb}
 use Rattle.std.specs.Prelude.{ℤ, pos, negsuc, filter, is_some, is_none}
 use Rattle.std.specs.List.{list_all, enumerate_from}
 use Rattle.std.specs.Ordering.{int_eq}
@@ -11,10 +11,7 @@ use Rattle.lls_lit.specs.Formula.{Clause, Cnf, is_true, value_at, satisfies_clau
 use Rattle.lls_prooflog.specs.declared.step.Step.{Step}
 use Rattle.lls_prooflog.specs.declared.step.Step.TheVariants.{Add, Del}
 use Rattle.lls_prooflog.specs.UnitWalk.{Fault, IdLive, NotUnit, Live, find_clause, is_among, remaining, at_clause, at_hint, unit_walk}
-use Rattle.lls_prooflog.specs.Steps.{numbered, fault_of, after, is_empty_addition, are_accepted, IsEntailed}
-
-abbrev pub clauses_of : Live → List Clause
-clauses_of live = map (λ pair. pair.1) live
+use Rattle.lls_prooflog.specs.Steps.{numbered, fault_of, after, is_empty_addition, are_accepted, clauses_of, AreSatisfiable, KeepsSatisfiable}
 
 -- every one of these literals is false
 abbrev pub are_false : List Bool → List ℤ → Bool
@@ -150,31 +147,37 @@ clauses_of-enumerate : (n : ℕ) (clauses : List Clause) → clauses_of (enumera
 clauses_of-enumerate n [] = refl
 clauses_of-enumerate n (c ∷ cs) = ap (λ (l : List Clause). c ∷ l) (clauses_of-enumerate (n + 1) cs)
 
--- a formula entails its own clauses
-pub IsEntailed-numbered : (formula : Cnf) → IsEntailed formula (numbered formula.clauses)
-IsEntailed-numbered formula values len all = rw (clauses_of-enumerate 1 formula.clauses) all
+pub KeepsSatisfiable-numbered : (formula : Cnf) → KeepsSatisfiable formula (numbered formula.clauses)
+KeepsSatisfiable-numbered formula values len all = (values, rw (clauses_of-enumerate 1 formula.clauses) all)
 
-pub IsEntailed-after : (formula : Cnf) (live : Live) (step : Step) → IsEntailed formula live → fault_of live step ≡ None → IsEntailed formula (after live step)
-IsEntailed-after formula live step entailed good values len all = good_step_satisfied values live step (entailed values len all) good
+AreSatisfiable-after : (live : Live) (step : Step) → AreSatisfiable (clauses_of live) → fault_of live step ≡ None → AreSatisfiable (clauses_of (after live step))
+AreSatisfiable-after live step some good = (some.0, good_step_satisfied some.0 live step some.1 good)
 
--- where the empty clause can be added, no assignment satisfies the formula
-pub unsatisfiable_at_empty : (formula : Cnf) (live : Live) (step : Step) → IsEntailed formula live → fault_of live step ≡ None → is_empty_addition step ≡ true → IsUnsatisfiable formula
-unsatisfiable_at_empty formula live (Add id [] hints) entailed good empty values len =
+pub KeepsSatisfiable-after : (formula : Cnf) (live : Live) (step : Step) → KeepsSatisfiable formula live → fault_of live step ≡ None → KeepsSatisfiable formula (after live step)
+KeepsSatisfiable-after formula live step kept good values len all = AreSatisfiable-after live step (kept values len all) good
+
+-- where the empty clause can be added, no list of bits satisfies the live clauses
+refuted_at_empty : (live : Live) (id : ℕ) (hints : List ℤ) → fault_of live (Add id [] hints) ≡ None → AreSatisfiable (clauses_of live) → ⊥
+refuted_at_empty live id hints good some = walk_refutes some.0 live [] hints some.1 refl (walk_is_good live id [] hints good)
+
+-- and so no assignment satisfies the formula
+pub unsatisfiable_at_empty : (formula : Cnf) (live : Live) (step : Step) → KeepsSatisfiable formula live → fault_of live step ≡ None → is_empty_addition step ≡ true → IsUnsatisfiable formula
+unsatisfiable_at_empty formula live (Add id [] hints) kept good empty values len =
     elim (satisfies values formula.clauses) as (λ b. satisfies values formula.clauses ≡ b → b ≡ false) [
-      | true ↦ λ all. absurd (walk_refutes values live [] hints (entailed values len all) refl (walk_is_good live id [] hints good))
+      | true ↦ λ all. absurd (refuted_at_empty live id hints good (kept values len all))
       | false ↦ λ _. refl
     ] refl
-unsatisfiable_at_empty formula live (Add id (l ∷ ls) hints) entailed good empty values len = absurd cc
-unsatisfiable_at_empty formula live (Del ids) entailed good empty values len = absurd cc
+unsatisfiable_at_empty formula live (Add id (l ∷ ls) hints) kept good empty values len = absurd cc
+unsatisfiable_at_empty formula live (Del ids) kept good empty values len = absurd cc
 
 -- no assignment satisfies a formula with an accepted proof
-pub unsatisfiable_if_accepted : (formula : Cnf) (live : Live) (steps : List Step) → IsEntailed formula live → are_accepted live steps ≡ true → IsUnsatisfiable formula
-unsatisfiable_if_accepted formula live [] entailed e = absurd cc
-unsatisfiable_if_accepted formula live (step ∷ steps) entailed e =
+pub unsatisfiable_if_accepted : (formula : Cnf) (live : Live) (steps : List Step) → KeepsSatisfiable formula live → are_accepted live steps ≡ true → IsUnsatisfiable formula
+unsatisfiable_if_accepted formula live [] kept e = absurd cc
+unsatisfiable_if_accepted formula live (step ∷ steps) kept e =
     elim (fault_of live step) as (λ o. fault_of live step ≡ o → cond (is_none o) (is_empty_addition step || are_accepted (after live step) steps) false ≡ true → IsUnsatisfiable formula) [
       | None ↦ λ good h. elim (is_empty_addition step) as (λ b. is_empty_addition step ≡ b → (b || are_accepted (after live step) steps) ≡ true → IsUnsatisfiable formula) [
-        | true ↦ λ empty _. unsatisfiable_at_empty formula live step entailed good empty
-        | false ↦ λ _ k. unsatisfiable_if_accepted formula (after live step) steps (IsEntailed-after formula live step entailed good) k
+        | true ↦ λ empty _. unsatisfiable_at_empty formula live step kept good empty
+        | false ↦ λ _ k. unsatisfiable_if_accepted formula (after live step) steps (KeepsSatisfiable-after formula live step kept good) k
       ] refl h
       | Some fault ↦ λ _ h. absurd cc
     ] refl e

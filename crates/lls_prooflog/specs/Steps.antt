@@ -3,7 +3,7 @@ use Rattle.std.specs.Prelude.{◌≡◌, Bool, true, false, not, ◌||◌, List,
 use Rattle.std.specs.List.{list_any}
 use Rattle.lls_prooflog.specs.declared.step.Step.{Step}
 use Rattle.lls_prooflog.specs.declared.step.Step.TheVariants.{Add, Del}
-use Rattle.lls_lit.specs.Formula.{Cnf, satisfies}
+use Rattle.lls_lit.specs.Formula.{Clause, Cnf, satisfies}
 pub use Rattle.lls_prooflog.specs.UnitWalk.{Fault, IdLive, NoClause, NotUnit, NoConflict, RatHint, Live, numbered, find_clause, unit_walk}
 
 -- what is wrong with a step: None where it is good. Every deletion is
@@ -27,6 +27,13 @@ are_accepted live [] = false
 are_accepted live (step ∷ steps) =
     if is_none (fault_of live step) then (is_empty_addition step || are_accepted (after live step) steps) else false
 
--- an assignment of the formula's variables that satisfies the formula satisfies each live clause
-abbrev pub IsEntailed : Cnf → Live → Type 0
-IsEntailed formula live = (values : List Bool) → length values ≡ formula.vars → satisfies values formula.clauses ≡ true → satisfies values (map (λ pair. pair.1) live) ≡ true
+abbrev pub clauses_of : Live → List Clause
+clauses_of live = map (λ pair. pair.1) live
+
+-- some list of bits, of any length, satisfies the clauses
+abbrev pub AreSatisfiable : List Clause → Type 0
+AreSatisfiable clauses = (values : List Bool) × (satisfies values clauses ≡ true)
+
+-- where an assignment of the formula's variables satisfies the formula, the live clauses are satisfiable
+abbrev pub KeepsSatisfiable : Cnf → Live → Type 0
+KeepsSatisfiable formula live = (values : List Bool) → length values ≡ formula.vars → satisfies values formula.clauses ≡ true → AreSatisfiable (clauses_of live)

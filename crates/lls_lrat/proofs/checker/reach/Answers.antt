@@ -1,6 +1,6 @@
 use Rattle.std.proofs.Common.{◌≤◌, arith}
 use Rattle.std.proofs.lemmas.Grind.{common_steps}
-use Rattle.lls_lrat.proofs.Checks.{is_within-more}
+use Rattle.lls_cnf.proofs.Within.{is_within-more}
 use Rattle.lls_lrat.proofs.checker.reach.Goals as goal
 
 pub returns-in_ok-marks-clause-ok : goal.returns-in_ok-marks-clause-ok

@@ -1,5 +1,5 @@
 use Rattle.lls_lit.specs.Formula.{is_within}
-use Rattle.lls_cnf.proofs.Within.{passes_at}
+use Rattle.lls_cnf.proofs.Elements.{passes_at}
 use Rattle.lls_cnf.proofs.formula.Formula.clause.Goals as goal
 
 pub returns-clause-within : goal.returns-clause-within
