@@ -1,5 +1,5 @@
 -- The first cells of the names, one cell more.
-use Rattle.std.proofs.Common.{◌≡◌, ◌≢◌, ◌<◌, ◌≤◌, ℕ, zero, suc, ◌+◌, ℤ, Bool, true, false, ◌&&◌, cond, leb, ltb, replicate, IfSome, List, [], ◌∷◌, ◌++◌, map, length, take, drop, set, refl, sym, ap, ◌∙◌, subst, arith, Option, None, Some, get_or, ◌==◌, eqb, drop-cons}
+use Rattle.std.proofs.Common.{◌≡◌, ◌≢◌, ◌<◌, ◌≤◌, ℕ, zero, suc, ◌+◌, ℤ, Bool, true, false, cond, ltb, replicate, IfSome, List, [], ◌∷◌, ◌++◌, map, length, take, drop, set, refl, sym, ap, ◌∙◌, subst, arith, Option, None, Some, get_or, ◌==◌, eqb, drop-cons}
 use Rattle.std.specs.Option.{option_map, option_map_or}
 use Rattle.std.specs.List.{range_with_len, position_from}
 use Rattle.std.proofs.lemmas.List.{take_more, get_or-set_same, get_or-set_other}
@@ -9,6 +9,7 @@ use Rattle.std.proofs.lemmas.Bool.{eqb-true, eq-eqb, and_from, le-leb, ltb-true}
 use Rattle.lls_search_file.specs.Posed.{are_numbered, names_after}
 use Rattle.std.proofs.lemmas.List.FromFn.{get_or-map-range_with_len, length-map-range_with_len, fill_by_all}
 use Rattle.lls_lit.specs.Literal.{variable_of}
+use Rattle.lls_lit.specs.Formula.{is_literal_of, is_within}
 use Rattle.lls_search_file.specs.declared.cell.Cell.{Cell}
 use Rattle.lls_search_file.specs.declared.cell.Kind.{Kind}
 use Rattle.lls_search_file.specs.declared.cell.Kind.TheVariants.{Dead, Live, Free, Named, Negated}
@@ -197,20 +198,24 @@ variable_of-name_literal k Free = refl
 variable_of-name_literal k (Named n) = refl
 variable_of-name_literal k (Negated n) = refl
 
+pub record IsCellLiteral (cells : List Cell) (l : ℤ) : Type 0 where
+  pub some : 1 ≤ variable_of l
+  pub within : variable_of l ≤ length cells
+
 within_of : (cells : List Cell) (k n : ℕ) (l : ℤ) → k < length cells → (o : Option ℕ) → position_from (has_name n) 0 (take k cells) ≡ o
-    → option_map (λ first. name_literal first (cell_number cells first).kind) o ≡ Some l → variable_of l ≤ length cells
+    → option_map (λ first. name_literal first (cell_number cells first).kind) o ≡ Some l → IsCellLiteral cells l
 within_of cells k n l k_in None e had = cc
 within_of cells k n l k_in (Some first) e had =
     let len : length (take k cells) ≡ k = length-take_within k cells (omega arith) in
     let before : first < k = omega (arith, position_in (has_name n) 0 (take k cells) first e) in
     let is : name_literal first (cell_number cells first).kind ≡ l = cc in
-    subst (λ m. variable_of m ≤ length cells) is (rw variable_of-name_literal (omega arith))
+    subst (λ m. IsCellLiteral cells m) is record { some = rw variable_of-name_literal (omega arith); within = rw variable_of-name_literal (omega arith) }
 
-pub within_first : (cells : List Cell) (k n : ℕ) (l : ℤ) → k < length cells → first_literal cells k n ≡ Some l → variable_of l ≤ length cells
+pub within_first : (cells : List Cell) (k n : ℕ) (l : ℤ) → k < length cells → first_literal cells k n ≡ Some l → IsCellLiteral cells l
 within_first cells k n l k_in had = within_of cells k n l k_in (position_from (has_name n) 0 (take k cells)) refl had
 
-pub within_own : (cells : List Cell) (k : ℕ) → k < length cells → variable_of (name_literal k (cell_number cells k).kind) ≤ length cells
-within_own cells k k_in = rw variable_of-name_literal (omega arith)
+pub within_own : (cells : List Cell) (k : ℕ) → k < length cells → IsCellLiteral cells (name_literal k (cell_number cells k).kind)
+within_own cells k k_in = record { some = rw variable_of-name_literal (omega arith); within = rw variable_of-name_literal (omega arith) }
 
 -- what stands at a cell's name among the first literals
 pub first_literal_at : (cells : List Cell) (k n : ℕ) (firsts : List (Option ℤ)) (d o : Option ℤ) → firsts ≡ first_literals cells k (length firsts)
@@ -221,11 +226,12 @@ first_literal_at cells k n firsts d o are known named at =
 
 -- so both literals are within the cells' variables
 pub is_within-names : (cells : List Cell) (vars k n : ℕ) (l own : ℤ) → vars ≡ length cells → k < length cells → first_literal cells k n ≡ Some l
-    → own ≡ name_literal k (cell_number cells k).kind → (leb (variable_of l) vars && (leb (variable_of own) vars && true)) ≡ true
+    → own ≡ name_literal k (cell_number cells k).kind → is_within vars (l ∷ own ∷ []) ≡ true
 is_within-names cells vars k n l own count k_in had is =
-    let first : leb (variable_of l) vars ≡ true = le-leb _ _ (omega (arith, within_first cells k n l k_in had)) in
-    let second : leb (variable_of own) vars ≡ true = le-leb _ _ (rw is (omega (arith, within_own cells k k_in))) in
-    and_from _ _ first (and_from _ _ second refl)
+    let one = within_first cells k n l k_in had in
+    let two = within_own cells k k_in in
+    let second : is_literal_of vars own ≡ true = rw is (and_from _ _ (le-leb _ _ two.some) (le-leb _ _ (omega (arith, count, two.within)))) in
+    and_from _ _ (and_from _ _ (le-leb _ _ one.some) (le-leb _ _ (omega (arith, count, one.within)))) (and_from _ _ second refl)
 
 -- a number of names covers those of the cells
 numbered_none : (cells : List Cell) (count : ℕ) → are_numbered cells count None ≡ false

@@ -1,5 +1,5 @@
 -- The clause of a row, input by input, and its variables.
-use Rattle.std.proofs.Common.{◌≡◌, ◌<◌, ℕ, zero, suc, ◌+◌, ◌-◌, ℤ, pos, negsuc, Bool, true, false, not, cond, leb, List, [], ◌∷◌, ◌++◌, length, drop, refl, sym, ap, ◌∙◌, subst, arith, Option, None, Some, get_or, append_assoc, ◌==◌, add-one, drop-cons}
+use Rattle.std.proofs.Common.{◌≡◌, ◌<◌, ℕ, zero, suc, ◌+◌, ◌-◌, ℤ, pos, negsuc, Bool, true, false, not, cond, List, [], ◌∷◌, ◌++◌, length, drop, refl, sym, ap, ◌∙◌, subst, arith, Option, None, Some, get_or, append_assoc, ◌==◌, add-one, drop-cons}
 use Rattle.std.proofs.Math.Bool.{beq}
 use Rattle.std.specs.Option.{option_map}
 use Rattle.std.specs.List.{list_all}
@@ -8,7 +8,7 @@ use Rattle.std.proofs.lemmas.List.{get_or_default}
 use Rattle.std.proofs.lemmas.Bool.{and_parts, and_from}
 use Rattle.std.proofs.lemmas.List.FromFn.{get_or-map-range_with_len}
 use Rattle.lls_lit.specs.Literal.{negation, variable_of}
-use Rattle.lls_lit.specs.Formula.{Clause, is_within}
+use Rattle.lls_lit.specs.Formula.{Clause, is_literal_of, is_within}
 use Rattle.lls_encode.specs.declared.place.Place.{Place}
 use Rattle.lls_encode.specs.declared.place.Place.TheVariants.{Known, Of}
 use Rattle.lls_encode.specs.Place.{differs, place_within}
@@ -62,7 +62,7 @@ variable_of-negation (pos zero) = refl
 variable_of-negation (pos (suc n)) = omega arith
 variable_of-negation (negsuc n) = refl
 
-within_some : (vars : ℕ) (l : ℤ) (o : Option Clause) (clause : Clause) → leb (variable_of l) vars ≡ true
+within_some : (vars : ℕ) (l : ℤ) (o : Option Clause) (clause : Clause) → is_literal_of vars l ≡ true
     → ((rest : Clause) → o ≡ Some rest → is_within vars rest ≡ true) → option_map (λ rest. l ∷ rest) o ≡ Some clause → is_within vars clause ≡ true
 within_some vars l None clause l_in rest_in e = cc
 within_some vars l (Some rest) clause l_in rest_in e =

@@ -1,8 +1,8 @@
 -- What a transition reads at a place: a cell's variable, or a known value.
-use Rattle.std.specs.Prelude.{ℕ, ◌+◌, ℤ, pos, ◌+ℤ◌, ◌-ℤ◌, Bool, true, false, nat_le, List, [], ◌∷◌, Option, None, Some}
+use Rattle.std.specs.Prelude.{ℕ, ◌+◌, ℤ, pos, ◌+ℤ◌, ◌-ℤ◌, Bool, true, false, List, [], ◌∷◌, Option, None, Some}
 use Rattle.std.specs.Option.{option_map}
-use Rattle.lls_lit.specs.Literal.{negation, variable_of}
-use Rattle.lls_lit.specs.Formula.{Clause}
+use Rattle.lls_lit.specs.Literal.{negation}
+use Rattle.lls_lit.specs.Formula.{Clause, is_literal_of}
 use Rattle.lls_rule.specs.Rule.{background}
 use Rattle.lls_grid.specs.Place.{inside}
 use Rattle.lls_problem.specs.Problem.{PosedProblem}
@@ -43,4 +43,4 @@ differs (Of literal ∷ places) (false ∷ bits) = option_map (λ clause. litera
 -- a literal at a place is one of `cells` variables
 abbrev pub place_within : ℕ → Place → Bool
 place_within cells (Known value) = true
-place_within cells (Of literal) = nat_le (variable_of literal) cells
+place_within cells (Of literal) = is_literal_of cells literal
