@@ -1,3 +1,4 @@
-pub mod Lists
-pub mod Scans
-pub mod Sinks
+pub mod Consequences
+pub mod Ending
+pub mod Stopped
+pub mod Written

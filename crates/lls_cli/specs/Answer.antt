@@ -1,13 +1,72 @@
--- An answer as its status and its text.
-use Rattle.std.specs.Prelude.{Result, Ok, Err}
-use Rattle.lls_cli.specs.declared.answer.Answer.{Answer}
-use Rattle.lls_cli.specs.declared.fault.Fault.{Fault}
-use Rattle.lls_cli.specs.Decided.{Decision, Outcome, Answers, Stands}
+-- Which answers to a question are right.
+use Rattle.std.specs.Prelude.{◌≡◌, ℕ, ◌++◌, List, codes, Option, None, Result, Ok, Err, IsErr}
+use Rattle.lls_hensel.specs.Printing.{rule_text}
+use Rattle.lls_problem.specs.declared.judgement.Judgement.{Judgement}
+use Rattle.lls_problem.specs.declared.judgement.Judgement.TheVariants as judgements
+use Rattle.lls_problem.specs.Judgement.{IsJudgement}
+use Rattle.lls_problem.specs.Solution.{IsSolution, IsAbsent}
+use Rattle.lls_encode.specs.Formula.{formula_of}
+use Rattle.lls_lrat.specs.declared.error.CheckError.{CheckError}
+use Rattle.lls_lrat.specs.declared.error.CheckError.TheVariants as proof
+use Rattle.lls_lrat.specs.Verdict.{verdict}
+use Rattle.lls_cli.specs.declared.status.Status.{Status}
+use Rattle.lls_cli.specs.declared.status.Status.TheVariants as statuses
+use Rattle.lls_cli.specs.Interim.{judgement_text}
+use Rattle.lls_cli.specs.Question.{Question, checks, judges, prints}
 
-abbrev pub answer_seen : Answer → Decision
-answer_seen answer = record { status = answer.status; text = answer.text.items }
+-- a file that is written: its name and its bytes
+pub record NamedFile : Type 0 where
+  pub name : List ℕ
+  pub bytes : List ℕ
 
--- an answer has the status and the text of what is decided
-abbrev pub SettlesOutcome : Result Answer Fault → Result Outcome Fault → Type 0
-SettlesOutcome (Ok answer) decided = Answers (Ok (answer_seen answer)) decided
-SettlesOutcome (Err fault) decided = Stands fault decided
+-- the status, the text for the standard output, and the file that is written before it, if any
+pub record GivenAnswer : Type 0 where
+  pub status : Status
+  pub text : List ℕ
+  pub file : Option NamedFile
+
+-- a status and a line, and no file
+abbrev pub said : Status → List ℕ → GivenAnswer
+said status text = record { status = status; text = text ++ codes "\n"; file = None }
+
+-- the answer of a proof that is accepted or refused
+abbrev pub check_answer : Result (Unit {0}) CheckError → GivenAnswer
+check_answer (Ok accepted) = said statuses.Done (codes "accepted")
+check_answer (Err proof.Unbuilt) = said statuses.Refused (codes "refused: Unbuilt")
+check_answer (Err proof.NotGood) = said statuses.Refused (codes "refused: NotGood")
+check_answer (Err proof.NoEmpty) = said statuses.Refused (codes "refused: NoEmpty")
+check_answer (Err proof.Memory) = said statuses.Refused (codes "refused: Memory")
+
+-- the answer of a history that is judged: the first demand that it breaks, and where
+abbrev pub judge_answer : Judgement → GivenAnswer
+judge_answer judgements.Meets = said statuses.Done (codes "meets")
+judge_answer judgement = said statuses.Refused (codes "broken: " ++ judgement_text judgement)
+
+-- what the yes of a question says: of a check that the proof is accepted and that there is no solution, of a judging that the pattern is one
+abbrev pub YesHolds : Question → Type 0
+YesHolds (checks problem proof) = (verdict (formula_of problem) proof ≡ Ok tt) × IsAbsent problem
+YesHolds (judges problem history) = IsSolution problem history
+YesHolds (prints rule) = Unit {0}
+
+-- what its no says: of a check that the proof isn't accepted, of a judging that the pattern is no solution
+abbrev pub NoHolds : Question → Type 0
+NoHolds (checks problem proof) = IsErr (verdict (formula_of problem) proof)
+NoHolds (judges problem history) = IsSolution problem history → ⊥
+NoHolds (prints rule) = ⊥
+
+-- what a status says of a question: a yes or a no
+abbrev pub Holds : Question → Status → Type 0
+Holds question statuses.Done = YesHolds question
+Holds question statuses.Refused = NoHolds question
+Holds question status = ⊥
+
+-- the status, the text and the file that answer a question
+abbrev pub Answers : Question → GivenAnswer → Type 0
+Answers (checks problem bytes) answer = answer ≡ check_answer (verdict (formula_of problem) bytes)
+Answers (judges problem history) answer = (judgement : Judgement) × IsJudgement problem history judgement × (answer ≡ judge_answer judgement)
+Answers (prints rule) answer = answer ≡ said statuses.Done (rule_text rule)
+
+-- an answer is right, and what its status says holds
+pub record IsAnswer (question : Question) (answer : GivenAnswer) : Type 0 where
+  pub answers : Answers question answer
+  pub holds : Holds question answer.status

@@ -1,33 +1,27 @@
--- Operands, options and words as contracts see them: without where their bytes lie in memory.
-use Rattle.std.specs.Prelude.{List, map, Result, Ok, Err}
-use Rattle.lls_cli.specs.declared.command.Setting.{Setting}
-use Rattle.lls_cli.specs.declared.scan.Operand as operands
-use Rattle.lls_cli.specs.declared.scan.Given as givens
-use Rattle.lls_cli.specs.declared.scan.Scan as code
-use Rattle.lls_cli.specs.declared.token.Token as words
-use Rattle.lls_cli.specs.declared.token.Token.TheVariants as tokens
-use Rattle.lls_cli.specs.declared.words_error.WordsError.{WordsError}
-use Rattle.lls_cli.specs.Token.{Token, plain, inline, spaced}
-use Rattle.lls_cli.specs.Scan.{Operand, Given, Scanned}
+-- For private contracts alone: questions and answers as contracts see them.
+use Rattle.std.specs.Prelude.{◌≡◌, Option}
+use Rattle.std.specs.Option.{option_map}
+use Rattle.lls_hensel.specs.Isotropy.{IsIsotropic}
+use Rattle.lls_cli.specs.declared.question.Question as code
+use Rattle.lls_cli.specs.declared.question.Question.TheVariants as asked
+use Rattle.lls_cli.specs.declared.answer.Answer as answers
+use Rattle.lls_cli.specs.declared.answer.AnswerFile as files
+use Rattle.lls_cli.specs.Question.{Question, checks, judges, prints}
+use Rattle.lls_cli.specs.Answer.{GivenAnswer, NamedFile}
 
-abbrev pub seen_token : words.Token → Token
-seen_token tokens.Operand = plain
-seen_token (tokens.Inline setting value) = inline setting value.now
-seen_token (tokens.Spaced setting value) = spaced setting value.now
+abbrev pub seen_question : code.Question → Question
+seen_question (asked.Check problem proof) = checks problem proof.items
+seen_question (asked.Judge problem history) = judges problem history
+seen_question (asked.Print rule) = prints rule
 
-abbrev pub seen_word : Result words.Token WordsError → Result Token WordsError
-seen_word (Ok token) = Ok (seen_token token)
-seen_word (Err error) = Err error
+-- a rule that is to be printed is isotropic
+abbrev pub CanPrint : code.Question → Type 0
+CanPrint (asked.Check problem proof) = Unit {0}
+CanPrint (asked.Judge problem history) = Unit {0}
+CanPrint (asked.Print rule) = IsIsotropic rule
 
-abbrev pub seen_operand : operands.Operand → Operand
-seen_operand operand = record { place = operand.place; word = operand.word.now }
+abbrev pub seen_file : files.AnswerFile → NamedFile
+seen_file file = record { name = file.name; bytes = file.bytes.items }
 
-abbrev pub seen_given : givens.Given → Given
-seen_given given = record { place = given.place; setting = given.setting; value = given.value.now }
-
-abbrev pub seen_scan : code.Scan → Scanned
-seen_scan scan = record { operands = map seen_operand scan.operands.items; givens = map seen_given scan.givens.items }
-
--- the options that were given
-abbrev pub settings_of : List givens.Given → List Setting
-settings_of given = map (λ g. g.setting) (map seen_given given)
+abbrev pub seen_answer : answers.Answer → GivenAnswer
+seen_answer answer = record { status = answer.status; text = answer.text.items; file = option_map seen_file answer.file }

@@ -1,12 +1,15 @@
 // Why a command line has no answer.
-ghost use Rattle.std.specs.Prelude.{◌≡◌};
-ghost use Rattle.lls_cli.specs.Status.{status_of, posed_status};
+ghost use Rattle.std.specs.Prelude.{◌≡◌, IfOk, string_bytes};
+ghost use Rattle.lls_cli.specs.Fault.{status_of, fault_line};
 
+use crate::interim::PosedText;
 use crate::status::Status;
-use crate::words_error::WordsError;
-use lls_base::{Memory, ReadError};
+use lls_base::Memory;
 use lls_search_file::PosedError;
-use std::alloc::{AllocError, AllocFailed};
+use lls_words::WordsError;
+use std::alloc::{AllocError, AllocFailed, Global};
+use std::error::Error;
+use std::fmt;
 
 /// A failure of the outside.
 #[derive(Clone, Copy, Debug, PartialEq, Eq)]
@@ -17,13 +20,55 @@ pub enum OutsideFault {
     OpenFailed,
     /// A read of an input failed.
     ReadFailed,
+    /// The file of an answer wasn't made.
+    CreateFailed,
+    /// A write to the file of an answer failed.
+    WriteFailed,
     /// The output failed.
     OutFailed,
+}
+
+impl fmt::Display for OutsideFault {
+    ghost use Rattle.std.specs.Prelude.{Some};
+    ghost use Rattle.lls_cli.specs.Fault.{outside_text};
+
+    ghost output = { λ fault. Some (outside_text fault) };
+
+    fn fmt<W: fmt::Write>(&self, f: &mut fmt::Formatter<W>) -> fmt::Result {
+        match self {
+            OutsideFault::NoFile => write!(f, "NoFile"),
+            OutsideFault::OpenFailed => write!(f, "OpenFailed"),
+            OutsideFault::ReadFailed => write!(f, "ReadFailed"),
+            OutsideFault::CreateFailed => write!(f, "CreateFailed"),
+            OutsideFault::WriteFailed => write!(f, "WriteFailed"),
+            OutsideFault::OutFailed => write!(f, "OutFailed"),
+        }
+    }
+}
+
+impl OutsideFault {
+    ghost use Rattle.lls_cli.specs.Fault.{fault_line};
+    ghost use Rattle.lls_cli.specs.declared.fault.Fault.TheVariants.{Outside};
+
+    /// The line of the standard error that says the failure.
+    pub fn line(self) -> &'static [u8]
+        ensures { result.now ≡ fault_line (Outside self) }
+    {
+        match self {
+            OutsideFault::NoFile => b"lls: outside: NoFile\n",
+            OutsideFault::OpenFailed => b"lls: outside: OpenFailed\n",
+            OutsideFault::ReadFailed => b"lls: outside: ReadFailed\n",
+            OutsideFault::CreateFailed => b"lls: outside: CreateFailed\n",
+            OutsideFault::WriteFailed => b"lls: outside: WriteFailed\n",
+            OutsideFault::OutFailed => b"lls: outside: OutFailed\n",
+        }
+    }
 }
 
 /// Why a command line has no answer.
 #[derive(Clone, Copy, Debug, PartialEq, Eq)]
 pub enum Fault {
+    /// The words are no command line.
     Words(WordsError),
     /// The search file isn't in its grammar, or is too large.
     Posed(PosedError),
@@ -35,6 +80,77 @@ pub enum Fault {
     TooLong(u64),
     /// An allocation was refused.
     Memory,
+}
+
+impl fmt::Display for Fault {
+    ghost use Rattle.std.specs.Prelude.{Some};
+    ghost use Rattle.lls_cli.specs.Fault.{fault_text};
+
+    ghost output = { λ fault. Some (fault_text fault) };
+
+    fn fmt<W: fmt::Write>(&self, f: &mut fmt::Formatter<W>) -> fmt::Result {
+        match self {
+            Fault::Words(error) => write!(f, "words: {error}"),
+            Fault::Posed(error) => {
+                let text = PosedText(*error);
+                if text.is_limit() {
+                    write!(f, "limit: {text}")
+                } else {
+                    write!(f, "content: {text}")
+                }
+            }
+            Fault::NotPlain(t, y, x) => write!(f, "content: NotPlain {t} {y} {x}"),
+            Fault::Outside(fault) => write!(f, "outside: {fault}"),
+            Fault::TooLong(limit) => write!(f, "limit: TooLong {limit}"),
+            Fault::Memory => write!(f, "memory"),
+        }
+    }
+}
+
+impl Error for Fault {}
+
+impl Fault {
+    pub fn status(self) -> Status
+        ensures { result ≡ status_of self }
+    {
+        match self {
+            Fault::Words(WordsError::Memory) => Status::Memory,
+            Fault::Words(_) => Status::Words,
+            Fault::Posed(PosedError::Memory) => Status::Memory,
+            Fault::Posed(error) => {
+                if PosedText(error).is_limit() {
+                    Status::Limit
+                } else {
+                    Status::Content
+                }
+            }
+            Fault::NotPlain(_, _, _) => Status::Content,
+            Fault::Outside(_) => Status::Outside,
+            Fault::TooLong(_) => Status::Limit,
+            Fault::Memory => Status::Memory,
+        }
+    }
+
+    /// The line of the standard error that says the fault.
+    pub fn line(self, alloc: Global) -> Result<String, AllocError>
+        ensures { IfOk result (λ line. string_bytes line ≡ fault_line self) }
+    {
+        format!(in alloc; "lls: {self}\n")
+    }
+}
+
+impl From<WordsError> for Fault {
+    ghost use Rattle.std.specs.Prelude.{◌≡◌};
+    ghost use Rattle.lls_cli.specs.Fault.{words_fault};
+
+    ghost from_gives = { λ error fault. fault ≡ words_fault error };
+
+    fn from(error: WordsError) -> Self {
+        match error {
+            WordsError::Memory => Fault::Memory,
+            _ => Fault::Words(error),
+        }
+    }
 }
 
 impl From<Memory> for Fault {
@@ -67,35 +183,5 @@ impl<T: Drop> From<AllocFailed<T>> for Fault {
 
     fn from(_: AllocFailed<T>) -> Self {
         Fault::Memory
-    }
-}
-
-impl Fault {
-    pub fn status(self) -> Status
-        ensures { result ≡ status_of self }
-    {
-        match self {
-            Fault::Words(WordsError::Memory) => Status::Memory,
-            Fault::Words(_) => Status::Words,
-            Fault::Posed(error) => posed_status(error),
-            Fault::NotPlain(_, _, _) => Status::Content,
-            Fault::Outside(_) => Status::Outside,
-            Fault::TooLong(_) => Status::Limit,
-            Fault::Memory => Status::Memory,
-        }
-    }
-}
-
-/// The status of a fault in a search file: a size that passes its limit is no fault of grammar.
-fn posed_status(error: PosedError) -> Status
-    ensures { result ≡ posed_status error }
-{
-    match error {
-        PosedError::TooWide(_)
-        | PosedError::TooHigh(_)
-        | PosedError::TooMany(_)
-        | PosedError::TooManyCells(_) => Status::Limit,
-        PosedError::Memory => Status::Memory,
-        _ => Status::Content,
     }
 }

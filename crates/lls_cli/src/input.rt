@@ -1,12 +1,10 @@
 // The inputs of a job.
-ghost use Rattle.std.specs.Prelude.{◌≡◌, IfErr, IfSome, OnOk};
-ghost use Rattle.lls_base.specs.Faults.{Counts};
-ghost use Rattle.lls_base.specs.Shelf.{known_files};
-ghost use Rattle.lls_cli.specs.Decided.{input_of, problem_of, posed_in, plain_in, history_of, HasRisen, IfTold, Settles, IsInside};
+ghost use Rattle.std.specs.Prelude.{◌≡◌};
+ghost use Rattle.lls_base.specs.Results.{and_then, Gives};
 ghost use Rattle.lls_search_file.specs.Reading.{posed_of};
-ghost use Rattle.lls_search_file.specs.Plain.{plain_of};
-ghost use Rattle.lls_cli.specs.Inputs.{input_fault};
-ghost use Rattle.lls_cli.specs.Run.{IsBehindWords};
+ghost use Rattle.lls_cli.specs.Moment.{shelf_moment, files_at};
+ghost use Rattle.lls_cli.specs.Question.{IsInput, posed_in, problem_in, history_in};
+ghost use Rattle.lls_cli.specs.Steps.{Reads, OneInput, input_fault};
 
 use crate::fault::{Fault, OutsideFault};
 use lls_base::{Name, ReadError, Shelf, read_all};
@@ -16,8 +14,11 @@ use lls_rule::Rule;
 use lls_search_file::{HistoryError, Posed, PosedError, read_history, read_posed};
 use std::alloc::Global;
 
-/// The longest search file in bytes.
+/// The longest search file, and the longest pattern file, in bytes.
 pub const SEARCH_LIMIT: u64 = 1_048_576;
+
+/// The longest proof in bytes.
+pub const PROOF_LIMIT: u64 = 1_073_741_824;
 
 /// The fault of an input that wasn't read.
 fn input_fault(error: ReadError) -> Fault
@@ -39,13 +40,9 @@ pub fn read_input<S: Shelf>(
     name: &Name,
     limit: u64,
 ) -> Result<Vec<u8>, Fault>
-    ensures input { IfTold (S.told shelf.old) (λ files.
-        Settles (λ bytes. bytes.items) result (input_of files name.now limit)) }
-    ensures behind_words { IfErr result IsBehindWords }
-    ensures failed { IfErr result (λ fault. HasRisen fault (S.faults shelf.old) (S.faults shelf.new)) }
-    ensures counts { Counts (S.faults shelf.old) (S.faults shelf.new) }
-    ensures no_fault { OnOk result (S.faults shelf.new ≡ S.faults shelf.old) }
-    ensures files { known_files (S.told shelf.new) ≡ known_files (S.told shelf.old) }
+    ensures { Reads (λ bytes. bytes.items) (IsInput (files_at (shelf_moment (S.told shelf.old) (S.has_output shelf.old) (S.faults shelf.old))) name.now limit) result
+        (shelf_moment (S.told shelf.old) (S.has_output shelf.old) (S.faults shelf.old))
+        (shelf_moment (S.told shelf.new) (S.has_output shelf.new) (S.faults shelf.new)) }
 {
     let mut bytes = Vec::new(alloc);
     match read_all(shelf, name, limit, &mut bytes) {
@@ -56,15 +53,21 @@ pub fn read_input<S: Shelf>(
 
 /// The posed file of a search file's bytes.
 fn posed_input(alloc: Global, bytes: &[u8]) -> Result<Posed, Fault>
-    ensures posed { Settles (λ posed. posed) result (posed_in (posed_of bytes.now)) }
-    ensures inside { IfErr result IsInside }
-    ensures behind_words { IfErr result IsBehindWords }
+    ensures { Gives Fault.Memory (λ posed. posed) result (posed_in (posed_of bytes.now)) }
 {
     match read_posed(alloc, bytes) {
         Ok(posed) => Ok(posed),
         Err(PosedError::Memory) => Err(Fault::Memory),
         Err(error) => Err(Fault::Posed(error)),
     }
+}
+
+/// The problem that the bytes of a search file pose.
+fn problem_input(alloc: Global, bytes: &[u8], rule: Rule, demands: Demands) -> Result<Problem, Fault>
+    ensures { Gives Fault.Memory (λ problem. problem) result (problem_in rule demands bytes.now) }
+{
+    let posed = posed_input(alloc, bytes)?;
+    Ok(make_problem(posed, rule, demands).unwrap())
 }
 
 /// The problem of a search file.
@@ -75,24 +78,18 @@ pub fn read_problem<S: Shelf>(
     rule: Rule,
     demands: Demands,
 ) -> Result<Problem, Fault>
-    ensures problem { IfTold (S.told shelf.old) (λ files.
-        Settles (λ problem. problem) result (problem_of files search.now rule demands)) }
-    ensures behind_words { IfErr result IsBehindWords }
-    ensures failed { IfErr result (λ fault. HasRisen fault (S.faults shelf.old) (S.faults shelf.new)) }
-    ensures counts { Counts (S.faults shelf.old) (S.faults shelf.new) }
-    ensures no_fault { OnOk result (S.faults shelf.new ≡ S.faults shelf.old) }
-    ensures files { known_files (S.told shelf.new) ≡ known_files (S.told shelf.old) }
+    ensures { Reads (λ problem. problem) (OneInput (files_at (shelf_moment (S.told shelf.old) (S.has_output shelf.old) (S.faults shelf.old))) search.now SEARCH_LIMIT
+        (λ first. and_then first (problem_in rule demands))) result
+        (shelf_moment (S.told shelf.old) (S.has_output shelf.old) (S.faults shelf.old))
+        (shelf_moment (S.told shelf.new) (S.has_output shelf.new) (S.faults shelf.new)) }
 {
     let bytes = read_input(alloc, shelf, search, SEARCH_LIMIT)?;
-    let posed = posed_input(alloc, &bytes)?;
-    Ok(make_problem(posed, rule, demands).unwrap())
+    problem_input(alloc, &bytes, rule, demands)
 }
 
 /// The history of a pattern's bytes.
-fn pattern_input(alloc: Global, bytes: &[u8]) -> Result<History, Fault>
-    ensures history { Settles (λ history. history) result (plain_in (plain_of bytes.now)) }
-    ensures inside { IfErr result IsInside }
-    ensures behind_words { IfErr result IsBehindWords }
+fn history_input(alloc: Global, bytes: &[u8]) -> Result<History, Fault>
+    ensures { Gives Fault.Memory (λ history. history) result (history_in bytes.now) }
 {
     match read_history(alloc, bytes) {
         Ok(history) => Ok(history),
@@ -108,14 +105,11 @@ pub fn read_pattern<S: Shelf>(
     shelf: &mut S,
     pattern: &Name,
 ) -> Result<History, Fault>
-    ensures history { IfTold (S.told shelf.old) (λ files.
-        Settles (λ history. history) result (history_of files pattern.now)) }
-    ensures behind_words { IfErr result IsBehindWords }
-    ensures failed { IfErr result (λ fault. HasRisen fault (S.faults shelf.old) (S.faults shelf.new)) }
-    ensures counts { Counts (S.faults shelf.old) (S.faults shelf.new) }
-    ensures no_fault { OnOk result (S.faults shelf.new ≡ S.faults shelf.old) }
-    ensures files { known_files (S.told shelf.new) ≡ known_files (S.told shelf.old) }
+    ensures { Reads (λ history. history) (OneInput (files_at (shelf_moment (S.told shelf.old) (S.has_output shelf.old) (S.faults shelf.old))) pattern.now SEARCH_LIMIT
+        (λ second. and_then second history_in)) result
+        (shelf_moment (S.told shelf.old) (S.has_output shelf.old) (S.faults shelf.old))
+        (shelf_moment (S.told shelf.new) (S.has_output shelf.new) (S.faults shelf.new)) }
 {
     let bytes = read_input(alloc, shelf, pattern, SEARCH_LIMIT)?;
-    pattern_input(alloc, &bytes)
+    history_input(alloc, &bytes)
 }

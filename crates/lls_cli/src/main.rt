@@ -2,20 +2,19 @@
 #![tactic(auto)]
 
 mod answer;
-mod command;
+mod ask;
+mod check;
+mod deliver;
 mod fault;
 mod input;
-mod job;
+mod interim;
+mod judge;
+mod print;
+mod question;
 mod run;
-mod scan;
-mod settings;
 mod status;
 #[cfg(test)]
 mod tests;
-mod text;
-mod token;
-mod words;
-mod words_error;
 
 use lls_base::{DiskShelf, StdSink};
 use std::env;

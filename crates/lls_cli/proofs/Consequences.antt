@@ -1,0 +1,339 @@
+-- What follows from how a run ends.
+use Rattle.std.proofs.Common.{◌≡◌, ◌≢◌, ◌<◌, ◌≤◌, ◌^◌, ℕ, Bool, List, Option, None, Some, Result, Ok, Err, refl, ap, sym, subst, ◌∙◌, inl, inr, arith, ◌⊎◌, cond, true, false}
+use Rattle.std.specs.Prelude.{IsErr}
+use Rattle.std.specs.Option.{option_map}
+use Rattle.lls_base.specs.Faults.{Counts, Rose}
+use Rattle.lls_base.specs.Results.{and_then}
+use Rattle.lls_base.specs.Shelf.{Files}
+use Rattle.lls_lrat.specs.declared.error.CheckError.{CheckError}
+use Rattle.lls_lrat.specs.declared.error.CheckError.TheVariants as proof
+use Rattle.lls_search_file.specs.declared.error.PosedError.{PosedError}
+use Rattle.lls_search_file.specs.declared.error.PosedError.TheVariants as posed
+use Rattle.lls_problem.specs.declared.judgement.Judgement.{Judgement}
+use Rattle.lls_problem.specs.declared.judgement.Judgement.TheVariants as judgements
+use Rattle.lls_words.specs.declared.error.WordsError.{WordsError}
+use Rattle.lls_words.specs.declared.error.WordsError.TheVariants as words
+use Rattle.lls_words.specs.declared.job.Job.{Job}
+use Rattle.lls_words.specs.declared.job.Job.TheVariants as jobs
+use Rattle.lls_cli.specs.declared.fault.Fault.{Fault}
+use Rattle.lls_cli.specs.declared.fault.Fault.TheVariants as faults
+use Rattle.lls_cli.specs.declared.fault.OutsideFault.{OutsideFault}
+use Rattle.lls_cli.specs.declared.fault.OutsideFault.TheVariants as outside
+use Rattle.lls_cli.specs.declared.status.Status.{Status}
+use Rattle.lls_cli.specs.declared.status.Status.TheVariants as statuses
+use Rattle.lls_cli.specs.Fault.{status_of, words_status, posed_status}
+use Rattle.lls_cli.specs.Answer.{GivenAnswer, NamedFile, check_answer, judge_answer, Answers, IsAnswer, Holds, YesHolds, NoHolds}
+use Rattle.lls_cli.specs.Question.{Question, checks, judges, prints, MadeOf, check_question, judge_question, question_of, Asks}
+use Rattle.lls_cli.specs.Moment.{ShelfMoment, SinkMoment, Moment, moment, files_at}
+use Rattle.lls_cli.specs.Ends.{GrewBy, KeepsFiles, Refused, LacksMemory, InputFailed, WroteFile, Delivered, FileFailed, OutputFailed, IsDecided, with_file, End, refused, lacked, input_failed, answered, file_failed, output_failed, IsEnd}
+use Rattle.lls_cli.specs.Claims.{OfQuestion, IsSilent, IsYesOrNo, MissesFile, HasCause, NothingFailed, CountsNeverFall}
+
+-- the statuses of faults
+abbrev IsFaultStatus : Status → Type 0
+IsFaultStatus statuses.Words = Unit {0}
+IsFaultStatus statuses.Content = Unit {0}
+IsFaultStatus statuses.Outside = Unit {0}
+IsFaultStatus statuses.Memory = Unit {0}
+IsFaultStatus statuses.Limit = Unit {0}
+IsFaultStatus status = ⊥
+
+words_status-is : (error : WordsError) → IsFaultStatus (words_status error)
+words_status-is words.Memory = tt
+words_status-is words.NoCommand = tt
+words_status-is words.UnknownCommand = tt
+words_status-is (words.BadWord place) = tt
+words_status-is (words.UnknownOption place) = tt
+words_status-is (words.RepeatedOption place) = tt
+words_status-is (words.MissingValue place) = tt
+words_status-is (words.BadValue place) = tt
+words_status-is (words.BadRule place fault) = tt
+words_status-is (words.Operands expected found) = tt
+
+-- words are refused with their own status, or for want of memory
+words_status-cases : (error : WordsError) → (words_status error ≡ statuses.Words) ⊎ (words_status error ≡ statuses.Memory)
+words_status-cases words.Memory = inr refl
+words_status-cases words.NoCommand = inl refl
+words_status-cases words.UnknownCommand = inl refl
+words_status-cases (words.BadWord place) = inl refl
+words_status-cases (words.UnknownOption place) = inl refl
+words_status-cases (words.RepeatedOption place) = inl refl
+words_status-cases (words.MissingValue place) = inl refl
+words_status-cases (words.BadValue place) = inl refl
+words_status-cases (words.BadRule place fault) = inl refl
+words_status-cases (words.Operands expected found) = inl refl
+
+-- the status of a posed file's fault
+abbrev IsPosedStatus : Status → Type 0
+IsPosedStatus statuses.Content = Unit {0}
+IsPosedStatus statuses.Memory = Unit {0}
+IsPosedStatus statuses.Limit = Unit {0}
+IsPosedStatus status = ⊥
+
+posed_status-is : (error : PosedError) → IsPosedStatus (posed_status error)
+posed_status-is posed.Memory = tt
+posed_status-is posed.Empty = tt
+posed_status-is (posed.BadCell line column) = tt
+posed_status-is (posed.Ragged line expected found) = tt
+posed_status-is (posed.Sizes generation expected found) = tt
+posed_status-is (posed.TooWide n) = tt
+posed_status-is (posed.TooHigh n) = tt
+posed_status-is (posed.TooMany n) = tt
+posed_status-is (posed.TooManyCells n) = tt
+posed_status-is (posed.NotAscii line column) = tt
+
+posed_fault : (status : Status) → IsPosedStatus status → IsFaultStatus status
+posed_fault statuses.Content is = tt
+posed_fault statuses.Memory is = tt
+posed_fault statuses.Limit is = tt
+posed_fault statuses.Done is = absurd is
+posed_fault statuses.Refused is = absurd is
+posed_fault statuses.Words is = absurd is
+posed_fault statuses.Outside is = absurd is
+posed_fault statuses.Pattern is = absurd is
+posed_fault statuses.NoPattern is = absurd is
+posed_fault statuses.Undecided is = absurd is
+
+status_of-is : (fault : Fault) → IsFaultStatus (status_of fault)
+status_of-is (faults.Words error) = words_status-is error
+status_of-is (faults.Posed error) = posed_fault (posed_status error) (posed_status-is error)
+status_of-is (faults.NotPlain t y x) = tt
+status_of-is (faults.Outside fault) = tt
+status_of-is (faults.TooLong limit) = tt
+status_of-is faults.Memory = tt
+
+-- a yes or a no is no fault's status
+no_fault_status : (status : Status) → IsFaultStatus status → IsYesOrNo status → ⊥
+no_fault_status status is (inl done) = subst IsFaultStatus done is
+no_fault_status status is (inr refusal) = subst IsFaultStatus refusal is
+
+-- inputs are refused with no status of words
+decided_words : (fault : Fault) → IsDecided fault → status_of fault ≡ statuses.Words → ⊥
+decided_words (faults.Words error) decided is = decided
+decided_words faults.Memory decided is = decided
+decided_words (faults.Posed error) decided is = subst IsPosedStatus is (posed_status-is error)
+decided_words (faults.NotPlain t y x) decided is = cc
+decided_words (faults.Outside fault) decided is = cc
+decided_words (faults.TooLong limit) decided is = cc
+
+-- of the outside they are refused for the absence of a file alone
+decided_outside : (fault : Fault) → IsDecided fault → status_of fault ≡ statuses.Outside → fault ≡ faults.Outside outside.NoFile
+decided_outside (faults.Words error) decided is = absurd decided
+decided_outside faults.Memory decided is = absurd decided
+decided_outside (faults.Posed error) decided is = absurd (subst IsPosedStatus is (posed_status-is error))
+decided_outside (faults.NotPlain t y x) decided is = absurd cc
+decided_outside (faults.TooLong limit) decided is = absurd cc
+decided_outside (faults.Outside outside.NoFile) decided is = refl
+decided_outside (faults.Outside outside.OpenFailed) decided is = absurd decided
+decided_outside (faults.Outside outside.ReadFailed) decided is = absurd decided
+decided_outside (faults.Outside outside.CreateFailed) decided is = absurd decided
+decided_outside (faults.Outside outside.WriteFailed) decided is = absurd decided
+decided_outside (faults.Outside outside.OutFailed) decided is = absurd decided
+
+-- a right answer is a yes or a no
+holds_status : (question : Question) (status : Status) → Holds question status → IsYesOrNo status
+holds_status question statuses.Done holds = inl refl
+holds_status question statuses.Refused holds = inr refl
+holds_status question statuses.Words holds = absurd holds
+holds_status question statuses.Content holds = absurd holds
+holds_status question statuses.Outside holds = absurd holds
+holds_status question statuses.Memory holds = absurd holds
+holds_status question statuses.Limit holds = absurd holds
+holds_status question statuses.Pattern holds = absurd holds
+holds_status question statuses.NoPattern holds = absurd holds
+holds_status question statuses.Undecided holds = absurd holds
+
+yes_or_no : (question : Question) (answer : GivenAnswer) (status : Status) → IsAnswer question answer → status ≡ answer.status → IsYesOrNo status
+yes_or_no question answer status right is = subst IsYesOrNo (sym is) (holds_status question answer.status right.holds)
+
+check_answer-no_file : (verdict : Result (Unit {0}) CheckError) → (check_answer verdict).file ≡ None
+check_answer-no_file (Ok accepted) = refl
+check_answer-no_file (Err proof.Unbuilt) = refl
+check_answer-no_file (Err proof.NotGood) = refl
+check_answer-no_file (Err proof.NoEmpty) = refl
+check_answer-no_file (Err proof.Memory) = refl
+
+judge_answer-no_file : (judgement : Judgement) → (judge_answer judgement).file ≡ None
+judge_answer-no_file judgements.Meets = refl
+judge_answer-no_file judgements.Size = refl
+judge_answer-no_file (judgements.Cell t y x) = refl
+judge_answer-no_file (judgements.Name t y x) = refl
+judge_answer-no_file (judgements.Symmetry t y x) = refl
+judge_answer-no_file (judgements.Background t) = refl
+judge_answer-no_file (judgements.Moved t y x) = refl
+judge_answer-no_file (judgements.Rule t y x) = refl
+judge_answer-no_file (judgements.Population t n) = refl
+judge_answer-no_file judgements.Same = refl
+
+no_file : (question : Question) (answer : GivenAnswer) → Answers question answer → answer.file ≡ None
+no_file (checks problem bytes) answer right = ap (λ (a : GivenAnswer). a.file) right ∙ check_answer-no_file _
+no_file (judges problem history) answer right = ap (λ (a : GivenAnswer). a.file) right.2 ∙ judge_answer-no_file right.0
+no_file (prints rule) answer right = ap (λ (a : GivenAnswer). a.file) right
+
+option_map-none : (files : Option Files) → option_map (with_file None) files ≡ files
+option_map-none None = refl
+option_map-none (Some files) = refl
+
+wrote_none : (file : Option NamedFile) (before after : ShelfMoment) → file ≡ None → WroteFile file before after → files_at after ≡ files_at before
+wrote_none file before after none wrote = wrote.files ∙ ap (λ f. option_map (with_file f) (files_at before)) none ∙ option_map-none (files_at before)
+
+-- no file changes
+pub files_stay : (job : Result Job WordsError) (before after : Moment) (status : Status) → (end : End) × IsEnd job before after status end → files_at after.shelf ≡ files_at before.shelf
+files_stay (Ok job) before after status (refused fault, ended) = ended.1.2.shelf.files
+files_stay (Ok job) before after status (lacked, ended) = ended.1.shelf.files
+files_stay (Ok job) before after status (input_failed fault, ended) = ended.1.1.shelf.files
+files_stay (Ok job) before after status (answered answer, ended) = wrote_none answer.file before.shelf after.shelf (no_file ended.1.0 answer ended.1.2.0.answers) ended.1.2.1.shelf
+files_stay (Ok job) before after status (file_failed answer fault, ended) =
+    let none : answer.file ≡ None = no_file ended.1.0 answer ended.1.2.0.answers in
+    let some = ended.1.2.1.file_is in
+    absurd cc
+files_stay (Ok job) before after status (output_failed answer, ended) = wrote_none answer.file before.shelf after.shelf (no_file ended.1.0 answer ended.1.2.0.answers) ended.1.2.1.shelf
+files_stay (Err error) before after status (refused fault, ended) = ap files_at ended.1
+files_stay (Err error) before after status (lacked, ended) = ap files_at ended.0
+files_stay (Err error) before after status (input_failed fault, ended) = absurd ended
+files_stay (Err error) before after status (answered answer, ended) = absurd ended
+files_stay (Err error) before after status (file_failed answer fault, ended) = absurd ended
+files_stay (Err error) before after status (output_failed answer, ended) = absurd ended
+
+silent_yes_or_no : (status : Status) → IsYesOrNo status → IsSilent status → ⊥
+silent_yes_or_no status (inl done) silent = subst IsSilent done silent
+silent_yes_or_no status (inr refusal) silent = subst IsSilent refusal silent
+
+-- the standard output has nothing new
+pub stays_silent : (job : Result Job WordsError) (before after : Moment) (status : Status) → (end : End) × IsEnd job before after status end → IsSilent status → after.out ≡ before.out
+stays_silent (Ok job) before after status (refused fault, ended) silent = ended.1.2.out
+stays_silent (Ok job) before after status (lacked, ended) silent = ended.1.out
+stays_silent (Ok job) before after status (input_failed fault, ended) silent = ended.1.1.out
+stays_silent (Ok job) before after status (answered answer, ended) silent = absurd (silent_yes_or_no status (yes_or_no ended.1.0 answer status ended.1.2.0 ended.1.2.1.status_is) silent)
+stays_silent (Ok job) before after status (file_failed answer fault, ended) silent = ended.1.2.1.out
+stays_silent (Ok job) before after status (output_failed answer, ended) silent = absurd (subst IsSilent ended.1.2.1.status_is silent)
+stays_silent (Err error) before after status (refused fault, ended) silent = ended.2.out
+stays_silent (Err error) before after status (lacked, ended) silent = ended.1.out
+stays_silent (Err error) before after status (input_failed fault, ended) silent = absurd ended
+stays_silent (Err error) before after status (answered answer, ended) silent = absurd ended
+stays_silent (Err error) before after status (file_failed answer fault, ended) silent = absurd ended
+stays_silent (Err error) before after status (output_failed answer, ended) silent = absurd ended
+
+asks-question_of : (job : Job) (files : Files) (question : Result Question Fault) → Asks job (Some files) question → question_of job files ≡ question
+asks-question_of (jobs.Check one two rule demands) files question asked = rw (← asked.first_is, ← asked.second_is) (sym asked.made)
+asks-question_of (jobs.Judge one two rule demands) files question asked = rw (← asked.first_is, ← asked.second_is) (sym asked.made)
+asks-question_of (jobs.Rule rule) files question asked = sym asked
+
+misses : (job : Job) (files : Option Files) (fault : Fault) → Asks job files (Err fault) → fault ≡ faults.Outside outside.NoFile → MissesFile (Ok job) files
+misses job None fault asked is = tt
+misses job (Some files) fault asked is = asks-question_of job files (Err fault) asked ∙ ap Err is
+
+-- a failure of the outside has a cause
+pub caused : (job : Result Job WordsError) (before after : Moment) (status : Status) → (end : End) × IsEnd job before after status end → status ≡ statuses.Outside → HasCause job before after
+caused (Ok job) before after status (refused fault, ended) is =
+    inr (inr (misses job (files_at before.shelf) fault ended.1.1 (decided_outside fault ended.1.0 (sym ended.1.2.status_is ∙ is))))
+caused (Ok job) before after status (lacked, ended) is = let memory = ended.1.status_is in absurd cc
+caused (Ok job) before after status (input_failed fault, ended) is = inl ended.1.1.shelf_rose
+caused (Ok job) before after status (answered answer, ended) is =
+    absurd (no_fault_status statuses.Outside tt (subst IsYesOrNo is (yes_or_no ended.1.0 answer status ended.1.2.0 ended.1.2.1.status_is)))
+caused (Ok job) before after status (file_failed answer fault, ended) is = inl ended.1.2.1.shelf_rose
+caused (Ok job) before after status (output_failed answer, ended) is = inr (inl ended.1.2.1.out_rose)
+caused (Err error) before after status (refused fault, ended) is =
+    let other : words_status error ≡ statuses.Outside = sym (ap status_of ended.0) ∙ (sym ended.2.status_is ∙ is) in
+    absurd (elim (words_status-cases error) [ inl w ↦ cc | inr m ↦ cc ])
+caused (Err error) before after status (lacked, ended) is = let memory = ended.1.status_is in absurd cc
+caused (Err error) before after status (input_failed fault, ended) is = absurd ended
+caused (Err error) before after status (answered answer, ended) is = absurd ended
+caused (Err error) before after status (file_failed answer fault, ended) is = absurd ended
+caused (Err error) before after status (output_failed answer, ended) is = absurd ended
+
+-- the words are refused where they are no command line
+pub words_alone : (job : Result Job WordsError) (before after : Moment) (status : Status) → (end : End) × IsEnd job before after status end → status ≡ statuses.Words → IsErr job
+words_alone (Err error) before after status ended is = refl
+words_alone (Ok job) before after status (refused fault, ended) is = absurd (decided_words fault ended.1.0 (sym ended.1.2.status_is ∙ is))
+words_alone (Ok job) before after status (lacked, ended) is = let memory = ended.1.status_is in absurd cc
+words_alone (Ok job) before after status (input_failed fault, ended) is = let outside_is = ended.1.1.status_is in absurd cc
+words_alone (Ok job) before after status (answered answer, ended) is =
+    absurd (no_fault_status statuses.Words tt (subst IsYesOrNo is (yes_or_no ended.1.0 answer status ended.1.2.0 ended.1.2.1.status_is)))
+words_alone (Ok job) before after status (file_failed answer fault, ended) is = let outside_is = ended.1.2.1.status_is in absurd cc
+words_alone (Ok job) before after status (output_failed answer, ended) is = let outside_is = ended.1.2.1.status_is in absurd cc
+
+pub words_all : (job : Result Job WordsError) (before after : Moment) (status : Status) → (end : End) × IsEnd job before after status end → IsErr job → (status ≡ statuses.Words) ⊎ (status ≡ statuses.Memory)
+words_all (Ok job) before after status ended is = absurd cc
+words_all (Err error) before after status (refused fault, ended) is =
+    elim (words_status-cases error) [
+      | inl w ↦ inl (ended.2.status_is ∙ ap status_of ended.0 ∙ w)
+      | inr m ↦ inr (ended.2.status_is ∙ ap status_of ended.0 ∙ m)
+    ]
+words_all (Err error) before after status (lacked, ended) is = inr ended.1.status_is
+words_all (Err error) before after status (input_failed fault, ended) is = absurd ended
+words_all (Err error) before after status (answered answer, ended) is = absurd ended
+words_all (Err error) before after status (file_failed answer fault, ended) is = absurd ended
+words_all (Err error) before after status (output_failed answer, ended) is = absurd ended
+
+of_question : (Fact : Question → Type 0) (job : Job) (files : Option Files) (question : Question) → Asks job files (Ok question) → Fact question → OfQuestion Fact (Ok job) files
+of_question Fact job None question asked fact = tt
+of_question Fact job (Some files) question asked fact = (question, asks-question_of job files (Ok question) asked, fact)
+
+of_this : (Fact : Question → Type 0) (question : Question) (job : Result Job WordsError) (files : Option Files) → OfQuestion (λ q. question ≡ q) job files → Fact question → OfQuestion Fact job files
+of_this Fact question (Ok job) None asked fact = tt
+of_this Fact question (Ok job) (Some files) asked fact = (asked.0, asked.1, subst Fact asked.2 fact)
+of_this Fact question (Err error) files asked fact = absurd asked
+
+-- an end at a yes or a no is an answer that was given
+abbrev pub Meant : Result Job WordsError → Moment → Moment → Status → Type 0
+Meant job before after status = (question : Question) × (answer : GivenAnswer) × (status ≡ answer.status) × IsAnswer question answer × NothingFailed before after
+    × OfQuestion (λ q. question ≡ q) job (files_at before.shelf)
+
+pub meant : (job : Result Job WordsError) (before after : Moment) (status : Status) → (end : End) × IsEnd job before after status end → IsYesOrNo status → Meant job before after status
+meant (Ok job) before after status (answered answer, ended) is =
+    let given = ended.1.2.1 in
+    (ended.1.0, answer, given.status_is, ended.1.2.0, record { shelf = given.shelf.faults; out = given.out_faults; err = given.err },
+    of_question (λ q. ended.1.0 ≡ q) job (files_at before.shelf) ended.1.0 ended.1.1 refl)
+meant (Ok job) before after status (refused fault, ended) is = absurd (no_fault_status status (subst IsFaultStatus (sym ended.1.2.status_is) (status_of-is fault)) is)
+meant (Ok job) before after status (lacked, ended) is = absurd (no_fault_status status (subst IsFaultStatus (sym ended.1.status_is) tt) is)
+meant (Ok job) before after status (input_failed fault, ended) is = absurd (no_fault_status status (subst IsFaultStatus (sym ended.1.1.status_is) tt) is)
+meant (Ok job) before after status (file_failed answer fault, ended) is = absurd (no_fault_status status (subst IsFaultStatus (sym ended.1.2.1.status_is) tt) is)
+meant (Ok job) before after status (output_failed answer, ended) is = absurd (no_fault_status status (subst IsFaultStatus (sym ended.1.2.1.status_is) tt) is)
+meant (Err error) before after status (refused fault, ended) is = absurd (no_fault_status status (subst IsFaultStatus (sym ended.2.status_is) (status_of-is fault)) is)
+meant (Err error) before after status (lacked, ended) is = absurd (no_fault_status status (subst IsFaultStatus (sym ended.1.status_is) tt) is)
+meant (Err error) before after status (input_failed fault, ended) is = absurd ended
+meant (Err error) before after status (answered answer, ended) is = absurd ended
+meant (Err error) before after status (file_failed answer fault, ended) is = absurd ended
+meant (Err error) before after status (output_failed answer, ended) is = absurd ended
+
+pub yes_means : (job : Result Job WordsError) (before after : Moment) (status : Status) → (end : End) × IsEnd job before after status end → status ≡ statuses.Done → OfQuestion YesHolds job (files_at before.shelf)
+yes_means job before after status ended is =
+    let given = meant job before after status ended (inl is) in
+    of_this YesHolds given.0 job (files_at before.shelf) given.5 (subst (Holds given.0) (sym given.2 ∙ is) given.3.holds)
+
+pub no_means : (job : Result Job WordsError) (before after : Moment) (status : Status) → (end : End) × IsEnd job before after status end → status ≡ statuses.Refused → OfQuestion NoHolds job (files_at before.shelf)
+no_means job before after status ended is =
+    let given = meant job before after status ended (inr is) in
+    of_this NoHolds given.0 job (files_at before.shelf) given.5 (subst (Holds given.0) (sym given.2 ∙ is) given.3.holds)
+
+same-≤ : (m n : ℕ) → n ≡ m → m ≤ n
+same-≤ m n e = omega (arith, e)
+
+same_count : (before after : SinkMoment) → after ≡ before → before.faults ≤ after.faults
+same_count before after e = same-≤ before.faults after.faults (ap (λ (s : SinkMoment). s.faults) e)
+
+same_shelf : (before after : ShelfMoment) → after ≡ before → before.faults ≤ after.faults
+same_shelf before after e = same-≤ before.faults after.faults (ap (λ (s : ShelfMoment). s.faults) e)
+
+-- no count of faults falls
+pub counts_stay : (job : Result Job WordsError) (before after : Moment) (status : Status) → (end : End) × IsEnd job before after status end → CountsNeverFall before after
+counts_stay (Ok job) before after status (refused fault, ended) =
+    let r = ended.1.2 in record { shelf = same-≤ _ _ r.shelf_faults; out = same_count _ _ r.out; err = r.err.counts.never_falls }
+counts_stay (Ok job) before after status (lacked, ended) =
+    let r = ended.1 in record { shelf = r.shelf_counts.never_falls; out = same_count _ _ r.out; err = r.err.counts.never_falls }
+counts_stay (Ok job) before after status (input_failed fault, ended) =
+    let r = ended.1.1 in record { shelf = r.shelf_counts.never_falls; out = same_count _ _ r.out; err = r.err.counts.never_falls }
+counts_stay (Ok job) before after status (answered answer, ended) =
+    let r = ended.1.2.1 in record { shelf = same-≤ _ _ r.shelf.faults; out = same-≤ _ _ r.out_faults; err = same_count _ _ r.err }
+counts_stay (Ok job) before after status (file_failed answer fault, ended) =
+    let r = ended.1.2.1 in record { shelf = r.shelf_counts.never_falls; out = same_count _ _ r.out; err = r.err.counts.never_falls }
+counts_stay (Ok job) before after status (output_failed answer, ended) =
+    let r = ended.1.2.1 in record { shelf = same-≤ _ _ r.shelf.faults; out = r.out_counts.never_falls; err = r.err.counts.never_falls }
+counts_stay (Err error) before after status (refused fault, ended) =
+    let r = ended.2 in record { shelf = same_shelf _ _ ended.1; out = same_count _ _ r.out; err = r.err.counts.never_falls }
+counts_stay (Err error) before after status (lacked, ended) =
+    let r = ended.1 in record { shelf = same_shelf _ _ ended.0; out = same_count _ _ r.out; err = r.err.counts.never_falls }
+counts_stay (Err error) before after status (input_failed fault, ended) = absurd ended
+counts_stay (Err error) before after status (answered answer, ended) = absurd ended
+counts_stay (Err error) before after status (file_failed answer fault, ended) = absurd ended
+counts_stay (Err error) before after status (output_failed answer, ended) = absurd ended

@@ -1,0 +1,262 @@
+-- How a run ends by how its steps ended.
+use Rattle.std.proofs.Common.{◌≡◌, ◌≢◌, ◌<◌, ◌^◌, ℕ, Bool, List, Option, None, Some, Result, Ok, Err, refl, ap, sym, subst, ◌∙◌, inl, inr}
+use Rattle.std.specs.Option.{option_map}
+use Rattle.lls_base.specs.Faults.{Counts, Rose}
+use Rattle.lls_base.specs.Shelf.{Files}
+use Rattle.lls_base.proofs.Faults.{Counts-refl}
+use Rattle.lls_grid.specs.History.{History}
+use Rattle.lls_problem.specs.declared.judgement.Judgement.{Judgement}
+use Rattle.lls_problem.specs.declared.judgement.Judgement.TheVariants as judgements
+use Rattle.lls_problem.specs.Problem.{PosedProblem}
+use Rattle.lls_problem.specs.Judgement.{IsJudgement}
+use Rattle.lls_problem.specs.Solution.{IsSolution}
+use Rattle.lls_words.specs.declared.error.WordsError.{WordsError}
+use Rattle.lls_words.specs.declared.error.WordsError.TheVariants as words
+use Rattle.lls_words.specs.declared.job.Job.{Job}
+use Rattle.lls_words.specs.declared.job.Job.TheVariants as jobs
+use Rattle.lls_cli.specs.declared.fault.Fault.{Fault}
+use Rattle.lls_cli.specs.declared.fault.Fault.TheVariants as faults
+use Rattle.lls_cli.specs.declared.fault.OutsideFault.{OutsideFault}
+use Rattle.lls_cli.specs.declared.fault.OutsideFault.TheVariants as outside
+use Rattle.lls_cli.specs.declared.status.Status.{Status}
+use Rattle.lls_cli.specs.declared.status.Status.TheVariants as statuses
+use Rattle.lls_cli.specs.Fault.{fault_line, status_of, words_fault}
+use Rattle.lls_cli.specs.Answer.{GivenAnswer, NamedFile, judge_answer, Holds, IsAnswer}
+use Rattle.lls_cli.specs.Question.{Question, checks, judges, prints, Asks}
+use Rattle.lls_cli.specs.Moment.{ShelfMoment, SinkMoment, Moment, moment, files_at}
+use Rattle.lls_cli.specs.Ends.{GrewBy, KeepsFiles, KeepsOutput, Refused, LacksMemory, InputFailed, IsOfInput, WroteFile, Delivered, FileFailed, OutputFailed, LeavesPart, LeavesShelf, HasInputs, IsDecided, with_file, End, refused, lacked, input_failed, answered, file_failed, output_failed, IsEndOf, IsEndOfJob, IsEnd}
+use Rattle.lls_cli.specs.Steps.{Stops, Says, Gave, IsDelivery, LeavesPrinting}
+
+-- a right answer that was delivered
+pub delivered : (question : Question) (answer : GivenAnswer) (before after : Moment) (status : Status) → IsAnswer question answer
+    → (end : End) × IsDelivery answer before after status end → (end : End) × IsEndOf question before after status end
+delivered question answer before after status right (answered given, d) = (answered given, (subst (IsAnswer question) (sym d.0) right, d.1))
+delivered question answer before after status right (file_failed given fault, d) = (file_failed given fault, (subst (IsAnswer question) (sym d.0) right, d.1))
+delivered question answer before after status right (output_failed given, d) = (output_failed given, (subst (IsAnswer question) (sym d.0) right, d.1))
+delivered question answer before after status right (lacked, d) = absurd d
+delivered question answer before after status right (refused fault, d) = absurd d
+delivered question answer before after status right (input_failed fault, d) = absurd d
+
+holds_judged : (problem : PosedProblem) (history : History) (judgement : Judgement) → (judgement ≡ judgements.Meets → IsSolution problem history)
+    → (judgement ≢ judgements.Meets → IsSolution problem history → ⊥) → Holds (judges problem history) (judge_answer judgement).status
+holds_judged problem history judgements.Meets meets broken = meets refl
+holds_judged problem history judgements.Size meets broken = broken (λ is. cc)
+holds_judged problem history (judgements.Cell t y x) meets broken = broken (λ is. cc)
+holds_judged problem history (judgements.Name t y x) meets broken = broken (λ is. cc)
+holds_judged problem history (judgements.Symmetry t y x) meets broken = broken (λ is. cc)
+holds_judged problem history (judgements.Background t) meets broken = broken (λ is. cc)
+holds_judged problem history (judgements.Moved t y x) meets broken = broken (λ is. cc)
+holds_judged problem history (judgements.Rule t y x) meets broken = broken (λ is. cc)
+holds_judged problem history (judgements.Population t n) meets broken = broken (λ is. cc)
+holds_judged problem history judgements.Same meets broken = broken (λ is. cc)
+
+-- the answer of a judgement is right
+pub judged_answer : (problem : PosedProblem) (history : History) (judgement : Judgement) (answer : GivenAnswer) → IsJudgement problem history judgement
+    → (judgement ≡ judgements.Meets → IsSolution problem history) → (judgement ≢ judgements.Meets → IsSolution problem history → ⊥)
+    → answer ≡ judge_answer judgement → IsAnswer (judges problem history) answer
+judged_answer problem history judgement answer is meets broken made = record {
+  answers = (judgement, is, made);
+  holds = subst (λ (a : GivenAnswer). Holds (judges problem history) a.status) (sym made) (holds_judged problem history judgement meets broken);
+}
+
+option_map-none : (files : Option Files) → files ≡ option_map (with_file None) files
+option_map-none None = refl
+option_map-none (Some files) = refl
+
+KeepsFiles-refl : (shelf : ShelfMoment) → KeepsFiles shelf shelf
+KeepsFiles-refl shelf = record { files = refl; target = refl; has_output = refl }
+
+-- no file was to be written
+WroteFile-none : (shelf : ShelfMoment) → WroteFile None shelf shelf
+WroteFile-none shelf = record { files = option_map-none (files_at shelf); output = (refl, refl); faults = refl }
+
+-- a text without a file
+pub gave : (question : Question) (answer : GivenAnswer) (shelf : ShelfMoment) (out_before out_after err_before err_after : SinkMoment) (status : Status)
+    → IsAnswer question answer → answer.file ≡ None → Gave answer.status answer.text out_before out_after err_before err_after status
+    → (end : End) × IsEndOf question (moment shelf out_before err_before) (moment shelf out_after err_after) status end
+gave question answer shelf out_before out_after err_before err_after status right none (inl whole) =
+    (answered answer, (right, record {
+      status_is = whole.status_is;
+      shelf = subst (λ file. WroteFile file shelf shelf) (sym none) (WroteFile-none shelf);
+      out = whole.out;
+      out_faults = whole.out_faults;
+      err = whole.err;
+    }))
+gave question answer shelf out_before out_after err_before err_after status right none (inr part) =
+    (output_failed answer, (right, record {
+      status_is = part.status_is;
+      shelf = subst (λ file. WroteFile file shelf shelf) (sym none) (WroteFile-none shelf);
+      out = part.out;
+      out_counts = part.out_counts;
+      out_rose = part.out_rose;
+      err = part.err;
+    }))
+
+-- want of memory, with the shelf and the output as they were
+pub lacks : (shelf : ShelfMoment) (out err_before err_after : SinkMoment) (status : Status) → shelf.faults < 2 ^ 64 → status ≡ statuses.Memory
+    → GrewBy (fault_line faults.Memory) err_before err_after → LacksMemory (moment shelf out err_before) (moment shelf out err_after) status
+lacks shelf out err_before err_after status fits is line =
+    record { status_is = is; shelf = KeepsFiles-refl shelf; shelf_counts = Counts-refl shelf.faults fits; out = refl; err = line }
+
+-- words that are refused, or lack memory
+words_refused : (error : WordsError) (shelf : ShelfMoment) (out err_before err_after : SinkMoment) (status : Status) → shelf.faults < 2 ^ 64
+    → Says (faults.Words error) status err_before err_after → (end : End) × IsEnd (Err error) (moment shelf out err_before) (moment shelf out err_after) status end
+words_refused error shelf out err_before err_after status fits (inl said) =
+    (refused (faults.Words error), (refl, refl, record { status_is = said.0; shelf = KeepsFiles-refl shelf; shelf_faults = refl; out = refl; err = said.1 }))
+words_refused error shelf out err_before err_after status fits (inr said) = (lacked, (refl, lacks shelf out err_before err_after status fits said.0 said.1))
+
+LeavesShelf-refl : (job : Job) (shelf : ShelfMoment) → LeavesShelf job shelf shelf
+LeavesShelf-refl (jobs.Rule rule) shelf = refl
+LeavesShelf-refl (jobs.Check one two rule demands) shelf = tt
+LeavesShelf-refl (jobs.Judge one two rule demands) shelf = tt
+
+-- want of memory while the words are read
+words_lack : (job : Result Job WordsError) (shelf : ShelfMoment) (out err_before err_after : SinkMoment) (status : Status) → shelf.faults < 2 ^ 64
+    → Says faults.Memory status err_before err_after → (end : End) × IsEnd job (moment shelf out err_before) (moment shelf out err_after) status end
+words_lack (Ok job) shelf out err_before err_after status fits (inl said) = (lacked, (LeavesShelf-refl job shelf, lacks shelf out err_before err_after status fits said.0 said.1))
+words_lack (Ok job) shelf out err_before err_after status fits (inr said) = (lacked, (LeavesShelf-refl job shelf, lacks shelf out err_before err_after status fits said.0 said.1))
+words_lack (Err error) shelf out err_before err_after status fits (inl said) = (lacked, (refl, lacks shelf out err_before err_after status fits said.0 said.1))
+words_lack (Err error) shelf out err_before err_after status fits (inr said) = (lacked, (refl, lacks shelf out err_before err_after status fits said.0 said.1))
+
+-- a job whose reading stopped for want of memory, or where the line of a fault lacked it
+stopped_lacking : (job : Job) (before after : ShelfMoment) (out err_before err_after : SinkMoment) (status : Status)
+    → LeavesShelf job before after → KeepsFiles before after → Counts before.faults after.faults → status ≡ statuses.Memory → GrewBy (fault_line faults.Memory) err_before err_after
+    → (end : End) × IsEnd (Ok job) (moment before out err_before) (moment after out err_after) status end
+stopped_lacking job before after out err_before err_after status leaves kept counts is line =
+    (lacked, (leaves, record { status_is = is; shelf = kept; shelf_counts = counts; out = refl; err = line }))
+
+-- a job whose inputs were refused
+stopped_refused : (job : Job) (fault : Fault) (before after : ShelfMoment) (out err_before err_after : SinkMoment) (status : Status)
+    → IsDecided fault → LeavesShelf job before after → KeepsFiles before after → Counts before.faults after.faults
+    → Asks job (files_at before) (Err fault) × (after.faults ≡ before.faults) → Says fault status err_before err_after
+    → (end : End) × IsEnd (Ok job) (moment before out err_before) (moment after out err_after) status end
+stopped_refused job fault before after out err_before err_after status decided leaves kept counts asked (inl said) =
+    (refused fault, (leaves, (decided, asked.0, record { status_is = said.0; shelf = kept; shelf_faults = asked.1; out = refl; err = said.1 })))
+stopped_refused job fault before after out err_before err_after status decided leaves kept counts asked (inr said) =
+    stopped_lacking job before after out err_before err_after status leaves kept counts said.0 said.1
+
+-- a job whose input failed
+stopped_failing : (job : Job) (fault : OutsideFault) (before after : ShelfMoment) (out err_before err_after : SinkMoment) (status : Status)
+    → LeavesShelf job before after → KeepsFiles before after → Counts before.faults after.faults → HasInputs job → IsOfInput (faults.Outside fault)
+    → Rose before.faults after.faults → Says (faults.Outside fault) status err_before err_after
+    → (end : End) × IsEnd (Ok job) (moment before out err_before) (moment after out err_after) status end
+stopped_failing job fault before after out err_before err_after status leaves kept counts inputs of_input rose (inl said) =
+    (input_failed (faults.Outside fault), (leaves, (inputs, record {
+      of_input = of_input;
+      status_is = said.0;
+      shelf = kept;
+      shelf_counts = counts;
+      shelf_rose = rose;
+      out = refl;
+      err = said.1;
+    })))
+stopped_failing job fault before after out err_before err_after status leaves kept counts inputs of_input rose (inr said) =
+    stopped_lacking job before after out err_before err_after status leaves kept counts said.0 said.1
+
+-- a job whose reading stopped, and the fault was said
+pub stopped : (job : Job) (fault : Fault) (before after : ShelfMoment) (out err_before err_after : SinkMoment) (status : Status)
+    → LeavesShelf job before after → KeepsFiles before after → Counts before.faults after.faults → HasInputs job
+    → Stops fault (λ f. Asks job (files_at before) (Err f)) before after → Says fault status err_before err_after
+    → (end : End) × IsEnd (Ok job) (moment before out err_before) (moment after out err_after) status end
+stopped job faults.Memory before after out err_before err_after status leaves kept counts inputs stops (inl said) =
+    stopped_lacking job before after out err_before err_after status leaves kept counts said.0 said.1
+stopped job faults.Memory before after out err_before err_after status leaves kept counts inputs stops (inr said) =
+    stopped_lacking job before after out err_before err_after status leaves kept counts said.0 said.1
+stopped job (faults.Outside outside.OpenFailed) before after out err_before err_after status leaves kept counts inputs stops said =
+    stopped_failing job outside.OpenFailed before after out err_before err_after status leaves kept counts inputs tt stops said
+stopped job (faults.Outside outside.ReadFailed) before after out err_before err_after status leaves kept counts inputs stops said =
+    stopped_failing job outside.ReadFailed before after out err_before err_after status leaves kept counts inputs tt stops said
+stopped job (faults.Outside outside.NoFile) before after out err_before err_after status leaves kept counts inputs stops said =
+    stopped_refused job (faults.Outside outside.NoFile) before after out err_before err_after status tt leaves kept counts stops said
+stopped job (faults.Outside outside.CreateFailed) before after out err_before err_after status leaves kept counts inputs stops said = absurd stops
+stopped job (faults.Outside outside.WriteFailed) before after out err_before err_after status leaves kept counts inputs stops said = absurd stops
+stopped job (faults.Outside outside.OutFailed) before after out err_before err_after status leaves kept counts inputs stops said = absurd stops
+stopped job (faults.Words error) before after out err_before err_after status leaves kept counts inputs stops said = absurd stops
+stopped job (faults.Posed error) before after out err_before err_after status leaves kept counts inputs stops said =
+    stopped_refused job (faults.Posed error) before after out err_before err_after status tt leaves kept counts stops said
+stopped job (faults.NotPlain t y x) before after out err_before err_after status leaves kept counts inputs stops said =
+    stopped_refused job (faults.NotPlain t y x) before after out err_before err_after status tt leaves kept counts stops said
+stopped job (faults.TooLong limit) before after out err_before err_after status leaves kept counts inputs stops said =
+    stopped_refused job (faults.TooLong limit) before after out err_before err_after status tt leaves kept counts stops said
+
+-- words that are no command line, or lack memory
+pub words_ended : (error : WordsError) (job : Result Job WordsError) (shelf : ShelfMoment) (out err_before err_after : SinkMoment) (status : Status) → shelf.faults < 2 ^ 64
+    → (error ≢ words.Memory → job ≡ Err error) → Says (words_fault error) status err_before err_after
+    → (end : End) × IsEnd job (moment shelf out err_before) (moment shelf out err_after) status end
+words_ended words.Memory job shelf out err_before err_after status fits read said = words_lack job shelf out err_before err_after status fits said
+words_ended words.NoCommand job shelf out err_before err_after status fits read said = rw (read (λ is. cc)) (words_refused words.NoCommand shelf out err_before err_after status fits said)
+words_ended words.UnknownCommand job shelf out err_before err_after status fits read said = rw (read (λ is. cc)) (words_refused words.UnknownCommand shelf out err_before err_after status fits said)
+words_ended (words.BadWord place) job shelf out err_before err_after status fits read said = rw (read (λ is. cc)) (words_refused (words.BadWord place) shelf out err_before err_after status fits said)
+words_ended (words.UnknownOption place) job shelf out err_before err_after status fits read said = rw (read (λ is. cc)) (words_refused (words.UnknownOption place) shelf out err_before err_after status fits said)
+words_ended (words.RepeatedOption place) job shelf out err_before err_after status fits read said = rw (read (λ is. cc)) (words_refused (words.RepeatedOption place) shelf out err_before err_after status fits said)
+words_ended (words.MissingValue place) job shelf out err_before err_after status fits read said = rw (read (λ is. cc)) (words_refused (words.MissingValue place) shelf out err_before err_after status fits said)
+words_ended (words.BadValue place) job shelf out err_before err_after status fits read said = rw (read (λ is. cc)) (words_refused (words.BadValue place) shelf out err_before err_after status fits said)
+words_ended (words.BadRule place fault) job shelf out err_before err_after status fits read said = rw (read (λ is. cc)) (words_refused (words.BadRule place fault) shelf out err_before err_after status fits said)
+words_ended (words.Operands expected found) job shelf out err_before err_after status fits read said = rw (read (λ is. cc)) (words_refused (words.Operands expected found) shelf out err_before err_after status fits said)
+
+-- the shelf is left alone by a job and by the answer to its question
+leaves_both : (job : Job) (question : Question) (files : Option Files) (before mid after : ShelfMoment)
+    → Asks job files (Ok question) → LeavesShelf job before mid → LeavesPrinting question mid after → LeavesShelf job before after
+leaves_both (jobs.Rule rule) question files before mid after asked first second =
+    let same : question ≡ prints rule = cc in
+    let P : Question → Type 0 = λ q. LeavesPrinting q mid after in
+    let last : after ≡ mid = subst P same second in
+    last ∙ first
+leaves_both (jobs.Check one two rule demands) question files before mid after asked first second = tt
+leaves_both (jobs.Judge one two rule demands) question files before mid after asked first second = tt
+
+WroteFile-after : (file : Option NamedFile) (before mid after : ShelfMoment) → KeepsFiles before mid → mid.faults ≡ before.faults → WroteFile file mid after → WroteFile file before after
+WroteFile-after None before mid after kept same wrote = record {
+  files = wrote.files ∙ ap (option_map (with_file None)) kept.files;
+  output = (wrote.output.0 ∙ kept.target, wrote.output.1 ∙ kept.has_output);
+  faults = wrote.faults ∙ same;
+}
+WroteFile-after (Some file) before mid after kept same wrote = record {
+  files = wrote.files ∙ ap (option_map (with_file (Some file))) kept.files;
+  output = tt;
+  faults = wrote.faults ∙ same;
+}
+
+-- a question's end is that of the job that asked it
+pub job_ended : (job : Job) (question : Question) (before mid after : ShelfMoment) (out_before out_after err_before err_after : SinkMoment) (status : Status)
+    → Asks job (files_at before) (Ok question) → LeavesShelf job before mid → LeavesPrinting question mid after → KeepsFiles before mid → mid.faults ≡ before.faults
+    → (end : End) × IsEndOf question (moment mid out_before err_before) (moment after out_after err_after) status end
+    → (end : End) × IsEnd (Ok job) (moment before out_before err_before) (moment after out_after err_after) status end
+job_ended job question before mid after out_before out_after err_before err_after status asked leaves printing kept same (answered answer, ended) =
+    (answered answer, (leaves_both job question (files_at before) before mid after asked leaves printing, (question, asked, (ended.0, record {
+      status_is = ended.1.status_is;
+      shelf = WroteFile-after answer.file before mid after kept same ended.1.shelf;
+      out = ended.1.out;
+      out_faults = ended.1.out_faults;
+      err = ended.1.err;
+    }))))
+job_ended job question before mid after out_before out_after err_before err_after status asked leaves printing kept same (file_failed answer fault, ended) =
+    (file_failed answer fault, (leaves_both job question (files_at before) before mid after asked leaves printing, (question, asked, (ended.0, record {
+      file = ended.1.file;
+      file_is = ended.1.file_is;
+      part = subst (λ files. LeavesPart fault ended.1.file files (files_at after)) kept.files ended.1.part;
+      status_is = ended.1.status_is;
+      shelf_counts = subst (λ n. Counts n after.faults) same ended.1.shelf_counts;
+      shelf_rose = subst (λ n. Rose n after.faults) same ended.1.shelf_rose;
+      out = ended.1.out;
+      err = ended.1.err;
+    }))))
+job_ended job question before mid after out_before out_after err_before err_after status asked leaves printing kept same (output_failed answer, ended) =
+    (output_failed answer, (leaves_both job question (files_at before) before mid after asked leaves printing, (question, asked, (ended.0, record {
+      status_is = ended.1.status_is;
+      shelf = WroteFile-after answer.file before mid after kept same ended.1.shelf;
+      out = ended.1.out;
+      out_counts = ended.1.out_counts;
+      out_rose = ended.1.out_rose;
+      err = ended.1.err;
+    }))))
+job_ended job question before mid after out_before out_after err_before err_after status asked leaves printing kept same (lacked, ended) =
+    (lacked, (leaves_both job question (files_at before) before mid after asked leaves printing, record {
+      status_is = ended.status_is;
+      shelf = record { files = ended.shelf.files ∙ kept.files; target = ended.shelf.target ∙ kept.target; has_output = ended.shelf.has_output ∙ kept.has_output };
+      shelf_counts = subst (λ n. Counts n after.faults) same ended.shelf_counts;
+      out = ended.out;
+      err = ended.err;
+    }))
+job_ended job question before mid after out_before out_after err_before err_after status asked leaves printing kept same (refused fault, ended) = absurd ended
+job_ended job question before mid after out_before out_after err_before err_after status asked leaves printing kept same (input_failed fault, ended) = absurd ended

@@ -1,0 +1,54 @@
+-- What a whole write leaves on a sink, and the file of an answer that wasn't written.
+use Rattle.std.proofs.Common.{◌≡◌, ◌≤◌, ℕ, List, length, take, Result, Ok, Err, Option, None, Some, OnOk, OnErr, refl, ap, sym, ◌∙◌, arith, inl, inr}
+use Rattle.std.specs.Prelude.{IsErrOf}
+use Rattle.std.proofs.Math.Seq.{take-length}
+use Rattle.std.specs.Io.KnownBytes.{append_known}
+use Rattle.std.specs.Option.{option_map}
+use Rattle.std.specs.FinMap as map
+use Rattle.lls_base.specs.Faults.{Counts, Rose}
+use Rattle.lls_base.specs.Shelf.{Contents}
+use Rattle.lls_base.specs.Writing.{with_output, without_output}
+use Rattle.lls_base.specs.declared.sink.Failed.{Failed}
+use Rattle.lls_base.specs.declared.writing.FileFault.{FileFault}
+use Rattle.lls_base.specs.declared.writing.FileFault.TheVariants as writes
+use Rattle.lls_cli.specs.declared.fault.Fault.TheVariants.{Outside}
+use Rattle.lls_cli.specs.Answer.{NamedFile}
+use Rattle.lls_cli.specs.Moment.{SinkMoment, ShelfMoment, files_at}
+use Rattle.lls_cli.specs.Ends.{GrewBy, LeavesPart}
+use Rattle.lls_cli.specs.Steps.{Unwritten, file_fault}
+
+pub grew_by : (answer : Result (Unit {0}) Failed) (text : List ℕ) (before after : SinkMoment)
+    → OnOk answer (after.written ≡ append_known before.written text)
+    → OnErr answer ((n : ℕ) × (n ≤ length text) × (after.written ≡ append_known before.written (take n text)))
+    → OnErr answer (Rose before.faults after.faults) → Counts before.faults after.faults → GrewBy text before after
+grew_by (Ok done) text before after ok err failed counts =
+    record { taken = (length text, ok ∙ ap (append_known before.written) (sym (take-length text)), inl (omega arith)); counts = counts }
+grew_by (Err e) text before after ok err failed counts =
+    record { taken = (err.0, err.2, inr failed); counts = counts }
+
+-- the files where an output was given up, and where it has these bytes
+files_at-without_output : (told : Option Contents) → option_map (λ c. c.files) (option_map without_output told) ≡ option_map (λ c. c.files) told
+files_at-without_output None = refl
+files_at-without_output (Some c) = refl
+
+files_at-with_output : (name bytes : List ℕ) (told : Option Contents)
+    → option_map (λ c. c.files) (option_map (with_output name bytes) told) ≡ option_map (λ files. map.insert files name bytes) (option_map (λ c. c.files) told)
+files_at-with_output name bytes None = refl
+files_at-with_output name bytes (Some c) = refl
+
+pub unwritten : (fault : FileFault) (file : NamedFile) (before after : ShelfMoment)
+    → (fault ≡ writes.CreateFailed → after.told ≡ option_map without_output before.told)
+    → (fault ≡ writes.WriteFailed → (n : ℕ) × (n ≤ length file.bytes) × (after.told ≡ option_map (with_output file.name (take n file.bytes)) before.told))
+    → Counts before.faults after.faults → Rose before.faults after.faults → Unwritten (Some file) (file_fault fault) before after
+unwritten writes.CreateFailed file before after created written counts rose = record {
+  file_is = (file, refl, ap (option_map (λ c. c.files)) (created refl) ∙ files_at-without_output before.told);
+  counts = counts;
+  rose = rose;
+}
+unwritten writes.WriteFailed file before after created written counts rose =
+    let part = written refl in
+    record {
+      file_is = (file, refl, (part.0, part.1, ap (option_map (λ c. c.files)) part.2 ∙ files_at-with_output file.name (take part.0 file.bytes) before.told));
+      counts = counts;
+      rose = rose;
+    }

@@ -1,9 +1,0 @@
-use Rattle.std.proofs.Common.{◌≡◌, map, drop}
-use Rattle.lls_cli.specs.Job.{settled, defaults}
-use Rattle.lls_cli.specs.Seen.{seen_given}
-use Rattle.lls_cli.proofs.settings.settle.Given as goal
-
--- what the options left make of the settings is what all make
-abbrev pub invariant-loop-given : goal.invariant-loop-given
-invariant-loop-given l =
-    settled l.settings (map seen_given (drop l.given-index l.givens)) ≡ settled defaults (map seen_given l.givens)

@@ -1,0 +1,163 @@
+-- How a run ends: what relates the outside at its exit to the outside at its entry, by cases.
+use Rattle.std.specs.Prelude.{◌≡◌, ◌≤◌, ◌⊎◌, ℕ, Bool, List, length, take, Option, None, Some, Result, Ok, Err}
+use Rattle.std.specs.Io.KnownBytes.{append_known}
+use Rattle.std.specs.FinMap as map
+use Rattle.std.specs.Option.{option_map}
+use Rattle.lls_base.specs.Faults.{Counts, Rose}
+use Rattle.lls_base.specs.Shelf.{Files, known_target}
+use Rattle.lls_words.specs.declared.error.WordsError.{WordsError}
+use Rattle.lls_words.specs.declared.job.Job.{Job}
+use Rattle.lls_words.specs.declared.job.Job.TheVariants as jobs
+use Rattle.lls_cli.specs.declared.fault.Fault.{Fault}
+use Rattle.lls_cli.specs.declared.fault.Fault.TheVariants as faults
+use Rattle.lls_cli.specs.declared.fault.OutsideFault.TheVariants as outside
+use Rattle.lls_cli.specs.declared.status.Status.{Status}
+use Rattle.lls_cli.specs.declared.status.Status.TheVariants as statuses
+use Rattle.lls_cli.specs.Fault.{fault_line, status_of}
+use Rattle.lls_cli.specs.Question.{Question, Asks}
+use Rattle.lls_cli.specs.Answer.{GivenAnswer, NamedFile, IsAnswer}
+use Rattle.lls_cli.specs.Moment.{ShelfMoment, SinkMoment, Moment, files_at}
+
+-- a sink grew by some first bytes of a text, and by all of it but where its count of faults rose
+pub record GrewBy (text : List ℕ) (before after : SinkMoment) : Type 0 where
+  pub taken : (n : ℕ) × (after.written ≡ append_known before.written (take n text)) × ((length text ≤ n) ⊎ Rose before.faults after.faults)
+  pub counts : Counts before.faults after.faults
+
+-- the shelf's files and its current output are as before; what is left of an input may differ
+pub record KeepsFiles (before after : ShelfMoment) : Type 0 where
+  pub files : files_at after ≡ files_at before
+  pub target : known_target after.told ≡ known_target before.told
+  pub has_output : after.has_output ≡ before.has_output
+
+-- a fault that inputs decide: of the outside, the absence of a file alone
+abbrev pub IsDecided : Fault → Type 0
+IsDecided (faults.Outside outside.NoFile) = Unit {0}
+IsDecided (faults.Outside fault) = ⊥
+IsDecided (faults.Words error) = ⊥
+IsDecided faults.Memory = ⊥
+IsDecided fault = Unit {0}
+
+-- the words, the inputs or the demands were refused: nothing is given, and the standard error says why
+pub record Refused (fault : Fault) (before after : Moment) (status : Status) : Type 0 where
+  pub status_is : status ≡ status_of fault
+  pub shelf : KeepsFiles before.shelf after.shelf
+  pub shelf_faults : after.shelf.faults ≡ before.shelf.faults
+  pub out : after.out ≡ before.out
+  pub err : GrewBy (fault_line fault) before.err after.err
+
+-- an allocation was refused
+pub record LacksMemory (before after : Moment) (status : Status) : Type 0 where
+  pub status_is : status ≡ statuses.Memory
+  pub shelf : KeepsFiles before.shelf after.shelf
+  pub shelf_counts : Counts before.shelf.faults after.shelf.faults
+  pub out : after.out ≡ before.out
+  pub err : GrewBy (fault_line faults.Memory) before.err after.err
+
+-- a fault of opening or of reading
+abbrev pub IsOfInput : Fault → Type 0
+IsOfInput (faults.Outside outside.OpenFailed) = Unit {0}
+IsOfInput (faults.Outside outside.ReadFailed) = Unit {0}
+IsOfInput fault = ⊥
+
+-- an input failed: a call of the shelf did
+pub record InputFailed (fault : Fault) (before after : Moment) (status : Status) : Type 0 where
+  pub of_input : IsOfInput fault
+  pub status_is : status ≡ statuses.Outside
+  pub shelf : KeepsFiles before.shelf after.shelf
+  pub shelf_counts : Counts before.shelf.faults after.shelf.faults
+  pub shelf_rose : Rose before.shelf.faults after.shelf.faults
+  pub out : after.out ≡ before.out
+  pub err : GrewBy (fault_line fault) before.err after.err
+
+-- the files with the one of an answer
+abbrev pub with_file : Option NamedFile → Files → Files
+with_file None files = files
+with_file (Some file) files = map.insert files file.name file.bytes
+
+-- where an answer has no file, the current output is as before
+abbrev pub KeepsOutput : Option NamedFile → ShelfMoment → ShelfMoment → Type 0
+KeepsOutput None before after = (known_target after.told ≡ known_target before.told) × (after.has_output ≡ before.has_output)
+KeepsOutput (Some file) before after = Unit {0}
+
+-- the file of an answer stands whole, if it has one
+pub record WroteFile (file : Option NamedFile) (before after : ShelfMoment) : Type 0 where
+  pub files : files_at after ≡ option_map (with_file file) (files_at before)
+  pub output : KeepsOutput file before after
+  pub faults : after.faults ≡ before.faults
+
+-- an answer was given whole: its file, then its text
+pub record Delivered (answer : GivenAnswer) (before after : Moment) (status : Status) : Type 0 where
+  pub status_is : status ≡ answer.status
+  pub shelf : WroteFile answer.file before.shelf after.shelf
+  pub out : after.out.written ≡ append_known before.out.written answer.text
+  pub out_faults : after.out.faults ≡ before.out.faults
+  pub err : after.err ≡ before.err
+
+-- what a file stands for that wasn't made, or wasn't written whole: what it did, nothing or first bytes
+abbrev pub LeavesPart : Fault → NamedFile → Option Files → Option Files → Type 0
+LeavesPart (faults.Outside outside.CreateFailed) file before after = after ≡ before
+LeavesPart (faults.Outside outside.WriteFailed) file before after =
+    (n : ℕ) × (n ≤ length file.bytes) × (after ≡ option_map (λ files. map.insert files file.name (take n file.bytes)) before)
+LeavesPart fault file before after = ⊥
+
+-- the file of an answer failed: a call of the shelf did. The standard output has nothing of the answer
+pub record FileFailed (answer : GivenAnswer) (fault : Fault) (before after : Moment) (status : Status) : Type 0 where
+  pub file : NamedFile
+  pub file_is : answer.file ≡ Some file
+  pub part : LeavesPart fault file (files_at before.shelf) (files_at after.shelf)
+  pub status_is : status ≡ statuses.Outside
+  pub shelf_counts : Counts before.shelf.faults after.shelf.faults
+  pub shelf_rose : Rose before.shelf.faults after.shelf.faults
+  pub out : after.out ≡ before.out
+  pub err : GrewBy (fault_line fault) before.err after.err
+
+-- the standard output failed: its file stands whole, and the output has first bytes of the text
+pub record OutputFailed (answer : GivenAnswer) (before after : Moment) (status : Status) : Type 0 where
+  pub status_is : status ≡ statuses.Outside
+  pub shelf : WroteFile answer.file before.shelf after.shelf
+  pub out : (n : ℕ) × (n ≤ length answer.text) × (after.out.written ≡ append_known before.out.written (take n answer.text))
+  pub out_counts : Counts before.out.faults after.out.faults
+  pub out_rose : Rose before.out.faults after.out.faults
+  pub err : GrewBy (fault_line (faults.Outside outside.OutFailed)) before.err after.err
+
+-- the ways to end
+pub data End : Type 0 where
+  refused : Fault → End
+  lacked : End
+  input_failed : Fault → End
+  answered : GivenAnswer → End
+  file_failed : GivenAnswer → Fault → End
+  output_failed : GivenAnswer → End
+
+-- how a question ends: with a right answer that is given, or that the outside refuses, or for want of memory
+abbrev pub IsEndOf : Question → Moment → Moment → Status → End → Type 0
+IsEndOf question before after status (answered answer) = IsAnswer question answer × Delivered answer before after status
+IsEndOf question before after status (file_failed answer fault) = IsAnswer question answer × FileFailed answer fault before after status
+IsEndOf question before after status (output_failed answer) = IsAnswer question answer × OutputFailed answer before after status
+IsEndOf question before after status lacked = LacksMemory before after status
+IsEndOf question before after status (refused fault) = ⊥
+IsEndOf question before after status (input_failed fault) = ⊥
+
+-- a job that has no input leaves the shelf alone
+abbrev pub HasInputs : Job → Type 0
+HasInputs (jobs.Rule rule) = ⊥
+HasInputs job = Unit {0}
+
+abbrev pub LeavesShelf : Job → ShelfMoment → ShelfMoment → Type 0
+LeavesShelf (jobs.Rule rule) before after = after ≡ before
+LeavesShelf job before after = Unit {0}
+
+-- how a job ends
+abbrev pub IsEndOfJob : Job → Moment → Moment → Status → End → Type 0
+IsEndOfJob job before after status (refused fault) = IsDecided fault × Asks job (files_at before.shelf) (Err fault) × Refused fault before after status
+IsEndOfJob job before after status (input_failed fault) = HasInputs job × InputFailed fault before after status
+IsEndOfJob job before after status lacked = LacksMemory before after status
+IsEndOfJob job before after status end =
+    (question : Question) × Asks job (files_at before.shelf) (Ok question) × IsEndOf question before after status end
+
+-- how a command line ends
+abbrev pub IsEnd : Result Job WordsError → Moment → Moment → Status → End → Type 0
+IsEnd (Ok job) before after status end = LeavesShelf job before.shelf after.shelf × IsEndOfJob job before after status end
+IsEnd (Err error) before after status (refused fault) = (fault ≡ faults.Words error) × (after.shelf ≡ before.shelf) × Refused fault before after status
+IsEnd (Err error) before after status lacked = (after.shelf ≡ before.shelf) × LacksMemory before after status
+IsEnd (Err error) before after status end = ⊥

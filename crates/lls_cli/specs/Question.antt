@@ -1,0 +1,99 @@
+-- What a job asks, once its inputs are read, and the first refusal where they ask nothing. This file alone knows the
+-- order of refusals: the first input, its length, its grammar and its demands; then the second, its length and its grammar.
+use Rattle.std.specs.Prelude.{◌≡◌, ℕ, nat_lt, Bool, List, length, Option, None, Some, Result, Ok, Err, if◌then◌else◌}
+use Rattle.std.specs.FinMap as map
+use Rattle.lls_base.specs.Results.{and_then}
+use Rattle.lls_base.specs.Shelf.{Files}
+use Rattle.lls_grid.specs.History.{History}
+use Rattle.lls_search_file.specs.declared.error.PosedError.{PosedError}
+use Rattle.lls_search_file.specs.declared.plain.HistoryError.{HistoryError}
+use Rattle.lls_search_file.specs.declared.plain.HistoryError.TheVariants as plain
+use Rattle.lls_search_file.specs.Posed.{PosedFile}
+use Rattle.lls_search_file.specs.Reading.{posed_of}
+use Rattle.lls_search_file.specs.Plain.{plain_of}
+use Rattle.lls_problem.specs.declared.demands.Demands.{Demands}
+use Rattle.lls_problem.specs.Problem.{PosedProblem}
+use Rattle.lls_words.specs.declared.job.Job.{Job}
+use Rattle.lls_words.specs.declared.job.Job.TheVariants as jobs
+use Rattle.lls_cli.specs.declared.fault.Fault.{Fault}
+use Rattle.lls_cli.specs.declared.fault.Fault.TheVariants as faults
+use Rattle.lls_cli.specs.declared.fault.OutsideFault.TheVariants as outside
+use Rattle.lls_cli.specs.declared.input.TheConstants.{SEARCH_LIMIT, PROOF_LIMIT}
+
+-- check this proof's bytes against this problem; judge this history by this problem; print this rule
+pub data Question : Type 0 where
+  checks : PosedProblem → List ℕ → Question
+  judges : PosedProblem → History → Question
+  prints : List Bool → Question
+
+-- the bytes of an input of at most `limit` bytes
+abbrev pub input_from : ℕ → Option (List ℕ) → Result (List ℕ) Fault
+input_from limit None = Err (faults.Outside outside.NoFile)
+input_from limit (Some bytes) = if nat_lt limit (length bytes) then Err (faults.TooLong limit) else Ok bytes
+
+abbrev pub input_of : Files → List ℕ → ℕ → Result (List ℕ) Fault
+input_of files name limit = input_from limit (map.get files name)
+
+-- the file that is posed
+abbrev pub posed_in : Result PosedFile PosedError → Result PosedFile Fault
+posed_in (Ok posed) = Ok posed
+posed_in (Err error) = Err (faults.Posed error)
+
+-- the problem that the bytes of a search file pose
+abbrev pub problem_in : List Bool → Demands → List ℕ → Result PosedProblem Fault
+problem_in rule demands bytes = and_then (posed_in (posed_of bytes)) (λ posed. Ok (record { posed = posed; rule = rule; demands = demands }))
+
+-- the history of a pattern's bytes
+abbrev pub plain_in : Result History HistoryError → Result History Fault
+plain_in (Ok history) = Ok history
+plain_in (Err (plain.Text error)) = Err (faults.Posed error)
+plain_in (Err (plain.NotPlain t y x)) = Err (faults.NotPlain t y x)
+plain_in (Err plain.Memory) = Err faults.Memory
+
+abbrev pub history_in : List ℕ → Result History Fault
+history_in bytes = plain_in (plain_of bytes)
+
+-- a check by its two inputs, and a judging
+abbrev pub check_question : List Bool → Demands → Result (List ℕ) Fault → Result (List ℕ) Fault → Result Question Fault
+check_question rule demands first second =
+    and_then (and_then first (problem_in rule demands)) (λ problem. and_then second (λ proof. Ok (checks problem proof)))
+
+abbrev pub judge_question : List Bool → Demands → Result (List ℕ) Fault → Result (List ℕ) Fault → Result Question Fault
+judge_question rule demands first second =
+    and_then (and_then first (problem_in rule demands)) (λ problem. and_then (and_then second history_in) (λ history. Ok (judges problem history)))
+
+-- what a job asks of these files, or the first refusal
+abbrev pub question_of : Job → Files → Result Question Fault
+question_of (jobs.Check search_file proof rule demands) files =
+    check_question rule demands (input_of files search_file SEARCH_LIMIT) (input_of files proof PROOF_LIMIT)
+question_of (jobs.Judge search_file pattern rule demands) files =
+    judge_question rule demands (input_of files search_file SEARCH_LIMIT) (input_of files pattern SEARCH_LIMIT)
+question_of (jobs.Rule rule) files = Ok (prints rule)
+
+-- what an input can be read as, whatever its file says
+abbrev pub CanBeRead : ℕ → Result (List ℕ) Fault → Type 0
+CanBeRead limit (Ok bytes) = Unit {0}
+CanBeRead limit (Err (faults.Outside outside.NoFile)) = Unit {0}
+CanBeRead limit (Err (faults.TooLong n)) = n ≡ limit
+CanBeRead limit (Err fault) = ⊥
+
+-- what an input was read as: what its file says, where the shelf tells it
+abbrev pub IsInput : Option Files → List ℕ → ℕ → Result (List ℕ) Fault → Type 0
+IsInput None name limit read = CanBeRead limit read
+IsInput (Some files) name limit read = read ≡ input_of files name limit
+
+-- two inputs, and what they make
+pub record MadeOf (files : Option Files) (one : List ℕ) (one_limit : ℕ) (two : List ℕ) (two_limit : ℕ) (make : Result (List ℕ) Fault → Result (List ℕ) Fault → Result Question Fault) (question : Result Question Fault) : Type 0 where
+  pub first : Result (List ℕ) Fault
+  pub second : Result (List ℕ) Fault
+  pub first_is : IsInput files one one_limit first
+  pub second_is : IsInput files two two_limit second
+  pub made : question ≡ make first second
+
+-- what a job asks, by inputs that are those of the files, where the shelf tells them
+abbrev pub Asks : Job → Option Files → Result Question Fault → Type 0
+Asks (jobs.Check search_file proof rule demands) files question =
+    MadeOf files search_file SEARCH_LIMIT proof PROOF_LIMIT (check_question rule demands) question
+Asks (jobs.Judge search_file pattern rule demands) files question =
+    MadeOf files search_file SEARCH_LIMIT pattern SEARCH_LIMIT (judge_question rule demands) question
+Asks (jobs.Rule rule) files question = question ≡ Ok (prints rule)

@@ -1,0 +1,100 @@
+-- For private contracts alone: the steps of a run, from reading an input to giving an answer.
+use Rattle.std.specs.Prelude.{◌≡◌, ◌≤◌, ◌⊎◌, ℕ, Bool, List, length, take, Option, Some, Result, Ok, Err, IfOk, IfErr, OnOk}
+use Rattle.std.specs.Io.KnownBytes.{append_known}
+use Rattle.lls_base.specs.Faults.{Counts, Rose}
+use Rattle.lls_base.specs.Shelf.{Files}
+use Rattle.lls_base.specs.declared.reading.ReadError.{ReadError}
+use Rattle.lls_base.specs.declared.reading.ReadError.TheVariants as reads
+use Rattle.lls_base.specs.declared.writing.FileFault.{FileFault}
+use Rattle.lls_base.specs.declared.writing.FileFault.TheVariants as writes
+use Rattle.lls_cli.specs.declared.fault.Fault.{Fault}
+use Rattle.lls_cli.specs.declared.fault.Fault.TheVariants as faults
+use Rattle.lls_cli.specs.declared.fault.OutsideFault.{OutsideFault}
+use Rattle.lls_cli.specs.declared.fault.OutsideFault.TheVariants as outside
+use Rattle.lls_cli.specs.declared.status.Status.{Status}
+use Rattle.lls_cli.specs.declared.status.Status.TheVariants as statuses
+use Rattle.lls_cli.specs.Fault.{fault_line, status_of}
+use Rattle.lls_cli.specs.Question.{Question, checks, judges, prints, IsInput}
+use Rattle.lls_cli.specs.Answer.{GivenAnswer, NamedFile}
+use Rattle.lls_cli.specs.Moment.{ShelfMoment, SinkMoment, Moment, files_at}
+use Rattle.lls_cli.specs.Ends.{GrewBy, KeepsFiles, WroteFile, LeavesPart, LacksMemory, Delivered, FileFailed, OutputFailed, End, refused, lacked, input_failed, answered, file_failed, output_failed}
+
+-- why reading stopped: for want of memory; since a call of the shelf failed; or for what the inputs say, and no call failed
+abbrev pub Stops : Fault → (Fault → Type 0) → ShelfMoment → ShelfMoment → Type 0
+Stops faults.Memory Says before after = Unit {0}
+Stops (faults.Outside outside.OpenFailed) Says before after = Rose before.faults after.faults
+Stops (faults.Outside outside.ReadFailed) Says before after = Rose before.faults after.faults
+Stops (faults.Outside outside.CreateFailed) Says before after = ⊥
+Stops (faults.Outside outside.WriteFailed) Says before after = ⊥
+Stops (faults.Outside outside.OutFailed) Says before after = ⊥
+Stops (faults.Words error) Says before after = ⊥
+Stops fault Says before after = Says fault × (after.faults ≡ before.faults)
+
+-- what a reading of inputs answered and did to the shelf
+pub record Reads {X Y : Type 0} (view : X → Y) (Says : Result Y Fault → Type 0) (result : Result X Fault) (before after : ShelfMoment) : Type 0 where
+  pub kept : KeepsFiles before after
+  pub counts : Counts before.faults after.faults
+  pub ok : IfOk result (λ value. Says (Ok (view value)) × (after.faults ≡ before.faults))
+  pub err : IfErr result (λ fault. Stops fault (λ f. Says (Err f)) before after)
+
+-- one input, and what it makes
+pub record OneInput {Y : Type 0} (files : Option Files) (name : List ℕ) (limit : ℕ) (make : Result (List ℕ) Fault → Result Y Fault) (value : Result Y Fault) : Type 0 where
+  pub input : Result (List ℕ) Fault
+  pub input_is : IsInput files name limit input
+  pub made : value ≡ make input
+
+-- the fault of an input that wasn't read
+abbrev pub input_fault : ReadError → Fault
+input_fault reads.OpenFailed = faults.Outside outside.OpenFailed
+input_fault reads.ReadFailed = faults.Outside outside.ReadFailed
+input_fault (reads.TooLong limit) = faults.TooLong limit
+input_fault reads.Memory = faults.Memory
+input_fault reads.NoFile = faults.Outside outside.NoFile
+
+-- a fault is said on the standard error, or want of memory where there was none for its line
+abbrev pub Says : Fault → Status → SinkMoment → SinkMoment → Type 0
+Says fault status before after =
+    ((status ≡ status_of fault) × GrewBy (fault_line fault) before after) ⊎ ((status ≡ statuses.Memory) × GrewBy (fault_line faults.Memory) before after)
+
+abbrev pub file_fault : FileFault → OutsideFault
+file_fault writes.CreateFailed = outside.CreateFailed
+file_fault writes.WriteFailed = outside.WriteFailed
+
+-- the file of an answer wasn't written
+pub record Unwritten (file : Option NamedFile) (fault : OutsideFault) (before after : ShelfMoment) : Type 0 where
+  pub file_is : (named : NamedFile) × (file ≡ Some named) × LeavesPart (faults.Outside fault) named (files_at before) (files_at after)
+  pub counts : Counts before.faults after.faults
+  pub rose : Rose before.faults after.faults
+
+-- a text was given whole, or the standard output failed
+pub record GaveWhole (status : Status) (text : List ℕ) (out_before out_after err_before err_after : SinkMoment) (ended : Status) : Type 0 where
+  pub status_is : ended ≡ status
+  pub out : out_after.written ≡ append_known out_before.written text
+  pub out_faults : out_after.faults ≡ out_before.faults
+  pub err : err_after ≡ err_before
+
+pub record GavePart (text : List ℕ) (out_before out_after err_before err_after : SinkMoment) (ended : Status) : Type 0 where
+  pub status_is : ended ≡ statuses.Outside
+  pub out : (n : ℕ) × (n ≤ length text) × (out_after.written ≡ append_known out_before.written (take n text))
+  pub out_counts : Counts out_before.faults out_after.faults
+  pub out_rose : Rose out_before.faults out_after.faults
+  pub err : GrewBy (fault_line (faults.Outside outside.OutFailed)) err_before err_after
+
+abbrev pub Gave : Status → List ℕ → SinkMoment → SinkMoment → SinkMoment → SinkMoment → Status → Type 0
+Gave status text out_before out_after err_before err_after ended =
+    GaveWhole status text out_before out_after err_before err_after ended ⊎ GavePart text out_before out_after err_before err_after ended
+
+-- how an answer was given
+abbrev pub IsDelivery : GivenAnswer → Moment → Moment → Status → End → Type 0
+IsDelivery answer before after status (answered given) = (given ≡ answer) × Delivered given before after status
+IsDelivery answer before after status (file_failed given fault) = (given ≡ answer) × FileFailed given fault before after status
+IsDelivery answer before after status (output_failed given) = (given ≡ answer) × OutputFailed given before after status
+IsDelivery answer before after status lacked = ⊥
+IsDelivery answer before after status (refused fault) = ⊥
+IsDelivery answer before after status (input_failed fault) = ⊥
+
+-- printing a rule leaves the shelf alone
+abbrev pub LeavesPrinting : Question → ShelfMoment → ShelfMoment → Type 0
+LeavesPrinting (prints rule) before after = after ≡ before
+LeavesPrinting (checks problem proof) before after = Unit {0}
+LeavesPrinting (judges problem history) before after = Unit {0}

@@ -1,0 +1,52 @@
+// From a job to its question: the inputs are read in their order.
+ghost use Rattle.std.specs.Prelude.{IfOk, OnErr};
+ghost use Rattle.lls_words.specs.Job.{IsPrintable};
+ghost use Rattle.lls_cli.specs.Ends.{HasInputs, LeavesShelf};
+ghost use Rattle.lls_cli.specs.Moment.{shelf_moment, files_at};
+ghost use Rattle.lls_cli.specs.Question.{Asks};
+ghost use Rattle.lls_cli.specs.Seen.{seen_question, CanPrint};
+ghost use Rattle.lls_cli.specs.Steps.{Reads};
+
+use crate::fault::Fault;
+use crate::input::{PROOF_LIMIT, read_input, read_pattern, read_problem};
+use crate::question::Question;
+use lls_base::Shelf;
+use lls_words::Job;
+use std::alloc::Global;
+
+/// What a job asks, read from the shelf.
+pub fn ask<S: Shelf>(alloc: Global, shelf: &mut S, job: &Job) -> Result<Question, Fault>
+    requires { IsPrintable job.now }
+    ensures read { Reads seen_question (Asks job.now (files_at (shelf_moment (S.told shelf.old) (S.has_output shelf.old) (S.faults shelf.old)))) result
+        (shelf_moment (S.told shelf.old) (S.has_output shelf.old) (S.faults shelf.old))
+        (shelf_moment (S.told shelf.new) (S.has_output shelf.new) (S.faults shelf.new)) }
+    ensures leaves { LeavesShelf job.now
+        (shelf_moment (S.told shelf.old) (S.has_output shelf.old) (S.faults shelf.old))
+        (shelf_moment (S.told shelf.new) (S.has_output shelf.new) (S.faults shelf.new)) }
+    ensures printable { IfOk result CanPrint }
+    ensures inputs { OnErr result (HasInputs job.now) }
+{
+    match job {
+        Job::Check {
+            search,
+            proof,
+            rule,
+            demands,
+        } => {
+            let problem = read_problem(alloc, shelf, search, *rule, *demands)?;
+            let proof = read_input(alloc, shelf, proof, PROOF_LIMIT)?;
+            Ok(Question::Check { problem, proof })
+        }
+        Job::Judge {
+            search,
+            pattern,
+            rule,
+            demands,
+        } => {
+            let problem = read_problem(alloc, shelf, search, *rule, *demands)?;
+            let history = read_pattern(alloc, shelf, pattern)?;
+            Ok(Question::Judge { problem, history })
+        }
+        Job::Rule { rule } => Ok(Question::Print { rule: *rule }),
+    }
+}

@@ -1,0 +1,15 @@
+// What a job asks.
+use lls_grid::History;
+use lls_problem::Problem;
+use lls_rule::Rule;
+
+/// What a job asks, once its inputs are read.
+#[derive(Drop)]
+pub enum Question {
+    /// Do the bytes of a proof show that the problem has no solution?
+    Check { problem: Problem, proof: Vec<u8> },
+    /// Is the history a solution of the problem?
+    Judge { problem: Problem, history: History },
+    /// What is the rule's canonical text?
+    Print { rule: Rule },
+}
