@@ -1,7 +1,7 @@
 -- Places of the grid, and where their cells stand in the order generation, row, column.
-use Rattle.std.proofs.Common.{◌≡◌, ◌<◌, ◌≤◌, ℕ, ◌+◌, ◌*◌, ◌/◌, ◌%◌, pos, List, length, ap, ◌∙◌, subst, arith, inl, inr, Bool, false, get_or, unwrap_or}
+use Rattle.std.proofs.Common.{◌≡◌, ◌<◌, ◌≤◌, ℕ, ◌+◌, ◌*◌, pos, List, length, ap, subst, arith, inl, inr, Bool, false, get_or, unwrap_or}
 use Rattle.std.proofs.lemmas.Int.{ints}
-use Rattle.std.proofs.Math.Nat.{mul-le-mul_left, mul_comm, mod-add-div, div-lt_iff_lt-mul}
+use Rattle.std.proofs.Math.Nat.{mul-le-mul_left}
 use Rattle.lls_rule.specs.Rule.{background}
 use Rattle.lls_grid.specs.History.{History, HasSizes, at, cells_of}
 use Rattle.lls_grid.proofs.InOrder.{cell_at-in_order}
@@ -38,16 +38,6 @@ pub place_of-lt : (file : PosedFile) (t y x : ℕ) → IsPosed file → IsInGrid
 place_of-lt file t y x posed inside =
     let rows : y + file.height * t < file.height * file.generations = earlier_row file.height t file.generations y inside.generation inside.row in
     omega (arith, posed.count, earlier_row file.width (y + file.height * t) (file.height * file.generations) x rows inside.column)
-
--- the place of the kth cell
-pub number_of_place : (height width k : ℕ) → k % width + width * (k / width % height + height * (k / width / height)) ≡ k
-number_of_place height width k =
-    ap (λ row. k % width + width * row) (mod-add-div (k / width) height) ∙ mod-add-div k width
-
-pub generation_of : (generations height width k : ℕ) → 0 < width → 0 < height → k < width * (height * generations) → k / width / height < generations
-generation_of generations height width k some_width some_height within =
-    let row : k / width < height * generations = (div-lt_iff_lt-mul some_width).1 (rw mul_comm within) in
-    (div-lt_iff_lt-mul some_height).1 (rw mul_comm row)
 
 -- the value of a place of the grid is that of its cell
 pub at-in_grid : (file : PosedFile) (rule : List Bool) (history : History) (t y x : ℕ) → HasSizes file.generations file.height file.width history → IsInGrid file t y x

@@ -1,9 +1,10 @@
 -- What each answer of judging says: which demand is the first that is broken, and at which place.
 use Rattle.std.specs.Prelude.{◌≡◌, ◌<◌, ℕ, ◌-◌, ℤ, pos, Bool, false, List, Some, length, slice_index_or}
 use Rattle.lls_rule.specs.Rule.{successor}
+use Rattle.lls_grid.specs.Sizes.{IsInside}
 use Rattle.lls_grid.specs.History.{History, HasSizes, at, nine, cells_of}
 use Rattle.lls_search_file.specs.declared.cell.Cell.{Cell}
-use Rattle.lls_search_file.specs.Posed.{PosedFile, name_of}
+use Rattle.lls_search_file.specs.Posed.{PosedFile, sizes_of, name_of}
 use Rattle.lls_problem.specs.declared.judgement.Judgement.{Judgement}
 use Rattle.lls_problem.specs.declared.judgement.Judgement.TheVariants.{Meets, Size, Name, Symmetry, Background, Moved, Rule, Population, Same}
 use Rattle.lls_problem.specs.Problem.{PosedProblem}
@@ -11,10 +12,8 @@ use Rattle.lls_problem.specs.Solution.{cell_number, place_of, HasItsBit, AreTied
 use Rattle.lls_problem.specs.Firsts.{IsBefore}
 
 -- a place of the grid in a generation of the file
-pub record IsInGrid (file : PosedFile) (t y x : ℕ) : Type 0 where
-  pub generation : t < file.generations
-  pub row : y < file.height
-  pub column : x < file.width
+abbrev pub IsInGrid : PosedFile → ℕ → ℕ → ℕ → Type 0
+IsInGrid file t y x = IsInside (sizes_of file) (record { t = t; y = y; x = x })
 
 -- the kth cell has its bit, where it is fixed
 abbrev pub KeepsBit : List Cell → List Bool → ℕ → Type 0

@@ -14,9 +14,7 @@ use lls_search_file::Posed;
 fn has_its_sizes(posed: &Posed, history: &History) -> bool
     ensures { IsTrue result ↔ HasSizes posed.now.generations posed.now.height posed.now.width history.now }
 {
-    history.generations() == posed.generations
-        && history.height() == posed.height
-        && history.width() == posed.width
+    history.sizes() == posed.sizes()
 }
 
 /// Whether the history is a solution of the problem, or else the first demand that it breaks and the first place, by

@@ -1,6 +1,7 @@
 -- A posed file: sizes, cells and the names that tie cells together.
 use Rattle.std.specs.Prelude.{◌≡◌, ◌≤◌, ℕ, ◌+◌, ◌*◌, Bool, true, false, not, List, [], ◌∷◌, length, Option, None, Some, nat_lt, nat_le, ◌==◌, ◌&&◌, ◌||◌, if◌then◌else◌}
 use Rattle.std.specs.List.{list_all, list_any}
+use Rattle.lls_grid.specs.declared.sizes.Sizes.{Sizes}
 use Rattle.lls_search_file.specs.declared.cell.Cell.{Cell}
 use Rattle.lls_search_file.specs.declared.cell.Kind.{Kind}
 use Rattle.lls_search_file.specs.declared.cell.Kind.TheVariants.{Dead, Live, Free, Named, Negated}
@@ -12,6 +13,9 @@ pub record PosedFile : Type 0 where
   pub width : ℕ
   pub cells : List Cell
   pub names : List (List ℕ)
+
+abbrev pub sizes_of : PosedFile → Sizes
+sizes_of file = record { generations = file.generations; height = file.height; width = file.width }
 
 -- the number of a cell's name
 abbrev pub name_of : Kind → Option ℕ

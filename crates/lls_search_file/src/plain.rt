@@ -49,7 +49,7 @@ fn history_of(alloc: Global, posed: &Posed) -> Result<History, HistoryError>
         Some(index) => Err(not_plain(posed, index as u64)),
         None => {
             let live = lives(alloc, cells)?;
-            Ok(History::from_cells(posed.generations, posed.height, posed.width, live))
+            Ok(History::from_cells(posed.sizes(), live))
         }
     }
 }

@@ -3,6 +3,7 @@ ghost use Rattle.std.specs.Prelude.{◌≡◌, List, ℕ};
 
 use crate::Cells;
 use lls_base::Name;
+use lls_grid::Sizes;
 use std::marker::Model;
 
 /// Names of cells in order.
@@ -50,4 +51,20 @@ impl Model for Posed {
     ghost view = { λ p. record { generations = p.generations; height = p.height; width = p.width; cells = p.cells; names = p.names } };
 
     ghost invariant = { λ p. IsPosed (record { generations = p.generations; height = p.height; width = p.width; cells = p.cells; names = p.names }) };
+}
+
+impl Posed {
+    ghost use Rattle.lls_search_file.specs.Posed.{IsPosed, sizes_of};
+
+    /// How many generations, rows and columns the file has.
+    pub fn sizes(&self) -> Sizes
+        ensures sizes { result ≡ sizes_of self.now }
+        ensures kept { IsPosed self.now }
+    {
+        Sizes {
+            generations: self.generations,
+            height: self.height,
+            width: self.width,
+        }
+    }
 }
