@@ -1,5 +1,6 @@
 -- The text of a history is that of a posed file, and is read as the history.
 use Rattle.std.proofs.Common.{◌≡◌, ◌*◌, Bool, true, false, cond, not, List, [], ◌∷◌, length, map, None, Some, Ok, refl, sym, ap, ◌∙◌, arith}
+use Rattle.std.specs.Prelude.{codes}
 use Rattle.std.specs.List.{position, position_or_len}
 use Rattle.std.proofs.lemmas.List.{length-map}
 use Rattle.std.proofs.lemmas.Bool.{le-ltb}
@@ -52,8 +53,8 @@ is_posed history whole =
 digits : (cells : List Bool) → map (word_text []) (map fixed cells) ≡ map digit_word cells
 unfolding fixed
 digits [] = refl
-digits (true ∷ cells) = ap (λ words. (49 ∷ []) ∷ words) (digits cells)
-digits (false ∷ cells) = ap (λ words. (48 ∷ []) ∷ words) (digits cells)
+digits (true ∷ cells) = ap (λ words. codes "1" ∷ words) (digits cells)
+digits (false ∷ cells) = ap (λ words. codes "0" ∷ words) (digits cells)
 
 same_text_as_file : (history : History) → IsHistory history → history_text history ≡ posed_text (file_of_history history)
 unfolding file_of_history

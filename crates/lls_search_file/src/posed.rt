@@ -19,6 +19,9 @@ impl Model for Names {
 }
 
 impl Names {
+    /// The greatest number of bytes of a name.
+    pub const MOST_BYTES: usize = 32;
+
     pub fn new(items: Vec<Name>) -> Names
         ensures { result ≡ items.items }
     {
@@ -32,8 +35,8 @@ impl Names {
     }
 }
 
-/// What a search file asks for: 1 to 64 generations of 1 to 64 rows of 1 to 64 cells, at most 8,192 cells in all,
-/// in the order generation, row, column. Names are distinct and numbered from 0 by first appearance in that order.
+/// What a search file asks for: sizes within the limits of a history, a cell for each place in the order generation,
+/// row, column, and names. Names are distinct and numbered from 0 by first appearance in that order.
 #[derive(Drop)]
 pub struct Posed {
     pub generations: u32,
