@@ -35,7 +35,7 @@ fn has_its_bit(kind: Kind, live: bool) -> bool
 pub fn first_misfit(problem: &Problem, history: &History) -> Option<GridPlace>
     requires { HasItsSizes problem.now history.now }
     ensures { MatchOption result (AllFixed problem.now history.now)
-        (λ place. IsFirstCell problem.now.posed (KeepsBit problem.now.posed.cells (cells_of history.now)) place.t place.y place.x) }
+        (λ place. IsFirstCell problem.now.posed (KeepsBit problem.now.posed.cells (cells_of history.now)) place) }
 {
     let posed = problem.posed();
     let cells = posed.cells.items();
@@ -91,7 +91,7 @@ fn agrees(problem: &Problem, history: &History, k: usize) -> bool
 pub fn first_disagreement(problem: &Problem, history: &History) -> Option<GridPlace>
     requires { HasItsSizes problem.now history.now }
     ensures { MatchOption result (AllAgree problem.now history.now)
-        (λ place. IsFirstCell problem.now.posed (KeepsName problem.now.posed.cells (cells_of history.now)) place.t place.y place.x) }
+        (λ place. IsFirstCell problem.now.posed (KeepsName problem.now.posed.cells (cells_of history.now)) place) }
 {
     let posed = problem.posed();
     for k in 0..posed.cells.items().len() {

@@ -1,7 +1,8 @@
 // A problem.
-ghost use Rattle.std.specs.Prelude.{◌≡◌, ◌<◌, length, Ok, Err};
+ghost use Rattle.std.specs.Prelude.{◌≡◌, ◌<◌, length};
 ghost use Rattle.lls_grid.specs.Sizes.{IsInside};
 ghost use Rattle.lls_search_file.specs.Posed.{IsPosed, sizes_of};
+ghost use Rattle.lls_problem.specs.Problem.{problem_made};
 ghost use Rattle.lls_problem.specs.Solution.{is_marked, place_of};
 
 use crate::{DemandError, Demands};
@@ -28,7 +29,7 @@ impl Model for Problem {
 
 /// Puts the three together. It takes no memory; after a refusal the three are given up.
 pub fn make_problem(posed: Posed, rule: Rule, demands: Demands) -> Result<Problem, DemandError>
-    ensures { result ≡ Ok (record { posed = posed; rule = rule; demands = demands }) }
+    ensures { result ≡ problem_made posed rule demands }
 {
     Ok(Problem {
         posed,
@@ -43,6 +44,7 @@ impl Problem {
         ensures kept { IsPosed self.now.posed }
     {
         let posed = &self.posed;
+        // Reading a field tells what the type of the file keeps.
         let _ = &posed.generations;
         posed
     }

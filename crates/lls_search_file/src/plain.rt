@@ -2,7 +2,7 @@
 ghost use Rattle.std.specs.Prelude.{◌≡◌, map, not, Ok, IfOk};
 ghost use Rattle.std.specs.List.{position};
 ghost use Rattle.lls_base.specs.Results.{Gives};
-ghost use Rattle.lls_grid.specs.History.{History as GridHistory, IsHistory};
+ghost use Rattle.lls_grid.specs.History.{History, IsHistory};
 ghost use Rattle.lls_grid.specs.Text.{history_text};
 ghost use Rattle.lls_search_file.specs.Plain.{plain_of, plain_file, not_plain, is_plain, is_live};
 
@@ -68,7 +68,7 @@ pub fn read_history(alloc: Global, bytes: &[u8]) -> Result<History, HistoryError
     ensures history { Gives HistoryError.Memory (λ history. history) result (plain_of bytes.now) }
 
     // So every printed history is read back.
-    ensures reads_back { (history : GridHistory) → IsHistory history → plain_of (history_text history) ≡ Ok history }
+    ensures reads_back { (history : History) → IsHistory history → plain_of (history_text history) ≡ Ok history }
 {
     let posed = read_posed(alloc, bytes)?;
     history_of(alloc, &posed)

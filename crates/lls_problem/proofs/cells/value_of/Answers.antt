@@ -13,4 +13,4 @@ returns c =
     let width = c.posed.ensures.kept.width in
     let y : to_z w32 c.place-place.result.y ≡ pos c.place-place.result.y = omega (arith, ints) in
     let x : to_z w32 c.place-place.result.x ≡ pos c.place-place.result.x = omega (arith, ints) in
-    rw (y, x, at-in_grid c.args.problem.now.posed _ c.args.history.now _ _ _ c.requires.sizes place, number) at c.at.ensures
+    rw (y, x, at-in_grid c.args.problem.now.posed _ c.args.history.now c.place-place.result c.requires.sizes place, number) at c.at.ensures
