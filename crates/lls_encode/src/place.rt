@@ -4,7 +4,7 @@ ghost use Rattle.std.specs.List.{list_all};
 ghost use Rattle.lls_encode.specs.Place.{place_at, inputs_at, place_within};
 
 use crate::cells::cell_literal;
-use lls_grid::index_within;
+use lls_grid::{GridPlace, index_within};
 use lls_lit::Lit;
 use lls_problem::Problem;
 
@@ -23,7 +23,7 @@ pub fn place_at(problem: &Problem, t: u32, y: i32, x: i32) -> Place
 {
     let posed = problem.posed();
     match (index_within(y, posed.height), index_within(x, posed.width)) {
-        (Some(row), Some(column)) => Place::Of(cell_literal(problem.cell_index(t, row, column))),
+        (Some(y), Some(x)) => Place::Of(cell_literal(problem.cell_index(GridPlace { t, y, x }))),
         _ => Place::Known(problem.rule().background(t)),
     }
 }

@@ -3,4 +3,5 @@ pub mod InOrder
 pub mod Chunks
 pub mod Joins
 pub mod Whole
+pub mod Shaped
 pub mod Steps

@@ -2,6 +2,9 @@
 use Rattle.std.specs.Prelude.{◌≡◌, ◌≤◌, ℕ, ◌+◌, ◌*◌, ℤ, pos, negsuc, ◌+ℤ◌, ◌-ℤ◌, Bool, true, false, List, [], ◌∷◌, length, map, Option, None, unwrap_or, replicate, slice_get, slice_index_or, ◌==◌, ◌&&◌}
 use Rattle.std.specs.List.{list_all, flat_map, range_with_len}
 use Rattle.lls_rule.specs.Rule.{background}
+use Rattle.lls_grid.specs.declared.history.TheConstants.History.{MOST_GENERATIONS, MOST_HEIGHT, MOST_WIDTH, MOST_CELLS}
+use Rattle.lls_grid.specs.declared.sizes.Sizes.{Sizes}
+use Rattle.lls_grid.specs.Sizes.{cell_count}
 
 -- generations, each of rows from the top, each of cells from the left, live or dead
 abbrev pub History : Type 0
@@ -22,11 +25,8 @@ height_of history = length (slice_index_or history 0 [])
 abbrev pub width_of : History → ℕ
 width_of history = length (slice_index_or (slice_index_or history 0 []) 0 [])
 
--- what every history of the program keeps: 1 to 64 generations, rows and columns
-pub record IsWithinLimits (history : History) : Type 0 where
-  pub generations : (1 ≤ length history) × (length history ≤ 64)
-  pub height : (1 ≤ height_of history) × (height_of history ≤ 64)
-  pub width : (1 ≤ width_of history) × (width_of history ≤ 64)
+abbrev pub sizes_of : History → Sizes
+sizes_of history = record { generations = length history; height = height_of history; width = width_of history }
 
 -- the rows of a generation, and a row of it; past the end there is none
 abbrev pub rows_at : History → ℕ → List (List Bool)
@@ -64,6 +64,14 @@ cells_of_rows rows = flat_map (λ row. row) rows
 abbrev pub cells_of : History → List Bool
 cells_of history = flat_map cells_of_rows history
 
+-- what the type of a history keeps: generations alike, and sizes within the limits
+pub record IsHistory (history : History) : Type 0 where
+  pub sizes : HasSizes (length history) (height_of history) (width_of history) history
+  pub generations : (1 ≤ length history) × (length history ≤ MOST_GENERATIONS)
+  pub height : (1 ≤ height_of history) × (height_of history ≤ MOST_HEIGHT)
+  pub width : (1 ≤ width_of history) × (width_of history ≤ MOST_WIDTH)
+  pub most : length (cells_of history) ≤ MOST_CELLS
+
 -- a history of these sizes whose cells are all dead
 abbrev pub dead : ℕ → ℕ → ℕ → History
 dead generations height width = replicate generations (replicate height (replicate width false))
@@ -74,9 +82,9 @@ folded generations height width cells =
     map (λ t. map (λ y. map (λ x. slice_index_or cells (x + width * (y + height * t)) false) (range_with_len 0 width)) (range_with_len 0 height)) (range_with_len 0 generations)
 
 -- sizes within the limits, and a cell for each place
-pub record IsShaped (generations height width : ℕ) (cells : List Bool) : Type 0 where
-  pub generations_fit : (1 ≤ generations) × (generations ≤ 64)
-  pub height_fits : (1 ≤ height) × (height ≤ 64)
-  pub width_fits : (1 ≤ width) × (width ≤ 64)
-  pub count : length cells ≡ width * (height * generations)
-  pub most : length cells ≤ 8192
+pub record IsShaped (sizes : Sizes) (cells : List Bool) : Type 0 where
+  pub generations : (1 ≤ sizes.generations) × (sizes.generations ≤ MOST_GENERATIONS)
+  pub height : (1 ≤ sizes.height) × (sizes.height ≤ MOST_HEIGHT)
+  pub width : (1 ≤ sizes.width) × (sizes.width ≤ MOST_WIDTH)
+  pub count : length cells ≡ cell_count sizes
+  pub most : length cells ≤ MOST_CELLS

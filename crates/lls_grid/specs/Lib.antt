@@ -2,4 +2,5 @@ pub mod Changes
 pub mod Chunks
 pub mod History
 pub mod Place
+pub mod Sizes
 pub mod Text

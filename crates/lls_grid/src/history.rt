@@ -1,22 +1,22 @@
 // A history.
-ghost use Rattle.std.specs.Prelude.{◌≡◌, ◌<◌, ◌≤◌, ◌+◌, ◌*◌, [], ℤ, pos, negsuc, ◌≤ℤ◌, length, take, drop, IfOk, if◌then◌else◌};
+ghost use Rattle.std.specs.Prelude.{◌≡◌, ◌<◌, ◌≤◌, ◌+◌, ◌*◌, ◌-◌, [], length, take, drop, IfOk, if◌then◌else◌};
 ghost use Rattle.lls_rule.specs.Rule.{number_of};
-ghost use Rattle.lls_grid.specs.History.{HasSizes, IsWithinLimits, at, cells_of_rows, rows_at, nine, place_cell, three, dead, folded, height_of, width_of};
+ghost use Rattle.lls_grid.specs.History.{IsHistory, IsShaped, at, cells_of_rows, rows_at, nine, place_cell, three, dead, folded, height_of, width_of, sizes_of};
 ghost use Rattle.lls_grid.specs.Changes.{with_cell, with_row, population, successor_row, stepped};
 ghost use Rattle.lls_grid.specs.Chunks.{chunked};
+ghost use Rattle.lls_grid.specs.Place.{IsWithin};
 
-use crate::place::{cell_index, index_within};
+use crate::place::index_within;
+use crate::sizes::{GridPlace, Sizes};
 use lls_base::Memory;
 use lls_rule::Rule;
 use std::alloc::Global;
 use std::marker::Model;
 
-/// 1 to 64 generations of 1 to 64 rows of 1 to 64 cells, at most 8,192 cells in all.
+/// Generations of rows of cells, live or dead: at least one of each, and at most as many as the limits say.
 #[derive(Drop)]
 pub struct History {
-    generations: u32,
-    height: u32,
-    width: u32,
+    sizes: Sizes,
     cells: Vec<bool>,
 }
 
@@ -26,73 +26,85 @@ impl Model for History {
 
     ghost Value = { List (List (List Bool)) };
 
-    ghost view = { λ h. folded h.generations h.height h.width h.cells.items };
+    ghost view = { λ h. folded h.sizes.generations h.sizes.height h.sizes.width h.cells.items };
 
-    ghost invariant = { λ h. IsShaped h.generations h.height h.width h.cells.items };
+    ghost invariant = { λ h. IsShaped h.sizes h.cells.items };
 }
 
 impl History {
+    /// The greatest number of generations.
+    pub const MOST_GENERATIONS: u32 = 64;
+
+    /// The greatest number of rows of a generation.
+    pub const MOST_HEIGHT: u32 = 64;
+
+    /// The greatest number of cells of a row.
+    pub const MOST_WIDTH: u32 = 64;
+
+    /// The greatest number of cells in all generations.
+    pub const MOST_CELLS: u32 = 8192;
+
+    /// How far from the top left corner a place may be, in rows and in columns, on either side.
+    pub const FARTHEST: u32 = 200;
+
     /// A history of these sizes whose cells are all dead.
     pub fn new(alloc: Global, generations: u32, height: u32, width: u32) -> Result<History, Memory>
-        requires generations { (1 ≤ generations) × (generations ≤ 64) }
-        requires height { (1 ≤ height) × (height ≤ 64) }
-        requires width { (1 ≤ width) × (width ≤ 64) }
-        requires most { width * (height * generations) ≤ 8192 }
+        requires generations { (1 ≤ generations) × (generations ≤ Self.MOST_GENERATIONS) }
+        requires height { (1 ≤ height) × (height ≤ Self.MOST_HEIGHT) }
+        requires width { (1 ≤ width) × (width ≤ Self.MOST_WIDTH) }
+        requires most { width * (height * generations) ≤ Self.MOST_CELLS }
         ensures { IfOk result (λ history. history ≡ dead generations height width) }
     {
-        let count = (width * (height * generations)) as usize;
-        let cells = vec![in alloc; false; count]?;
-        Ok(History {
+        let sizes = Sizes {
             generations,
             height,
             width,
-            cells,
-        })
+        };
+        let cells = vec![in alloc; false; (width * (height * generations)) as usize]?;
+        Ok(History { sizes, cells })
     }
 
     /// A history of these sizes with these cells, in the order generation, row, column.
-    pub fn from_cells(generations: u32, height: u32, width: u32, cells: Vec<bool>) -> History
-        requires generations { (1 ≤ generations) × (generations ≤ 64) }
-        requires height { (1 ≤ height) × (height ≤ 64) }
-        requires width { (1 ≤ width) × (width ≤ 64) }
-        requires count { length cells.items ≡ width * (height * generations) }
-        requires most { length cells.items ≤ 8192 }
-        ensures { result ≡ folded generations height width cells.items }
+    pub fn from_cells(sizes: Sizes, cells: Vec<bool>) -> History
+        requires { IsShaped sizes cells.items }
+        ensures { result ≡ folded sizes.generations sizes.height sizes.width cells.items }
     {
-        History {
-            generations,
-            height,
-            width,
-            cells,
-        }
+        History { sizes, cells }
+    }
+
+    /// How many generations, rows and columns the history has.
+    pub fn sizes(&self) -> Sizes
+        ensures sizes { result ≡ sizes_of self.now }
+        ensures kept { IsHistory self.now }
+    {
+        self.sizes
     }
 
     pub fn generations(&self) -> u32
         ensures generations { result ≡ length self.now }
-        ensures sizes { HasSizes (length self.now) (height_of self.now) (width_of self.now) self.now }
-        ensures limits { IsWithinLimits self.now }
+        ensures kept { IsHistory self.now }
     {
-        self.generations
+        self.sizes.generations
     }
 
     pub fn height(&self) -> u32
         ensures { result ≡ height_of self.now }
     {
-        self.height
+        self.sizes.height
     }
 
     pub fn width(&self) -> u32
         ensures { result ≡ width_of self.now }
     {
-        self.width
+        self.sizes.width
     }
 
     /// The value of a place: the cell inside the grid, the rule's background of that generation outside.
     /// Generations count from 0, y from the top row and x from the left column, from 0.
     pub fn at(&self, rule: &Rule, t: u32, y: i32, x: i32) -> bool
         requires generation { t < length self.now }
-        requires row { (negsuc 199 ≤ℤ y) × (y ≤ℤ pos 200) }
-        requires column { (negsuc 199 ≤ℤ x) × (x ≤ℤ pos 200) }
+        requires row { IsWithin Self.FARTHEST y }
+        requires column { IsWithin Self.FARTHEST x }
         ensures { result ≡ at rule.now self.now t y x }
     {
         match self.cell(t, y, x) {
@@ -108,7 +120,7 @@ impl History {
         requires column { x < width_of self.old }
         ensures { self.new ≡ with_cell self.old t y x live }
     {
-        let index = cell_index(self.generations, self.height, self.width, t, y, x);
+        let index = self.sizes.index(GridPlace { t, y, x });
         self.cells[index] = live;
     }
 
@@ -126,9 +138,9 @@ impl History {
         ensures cells { result.now ≡ cells_of_rows (rows_at self.now t) }
         ensures rows { chunked (width_of self.now) (height_of self.now) result.now ≡ rows_at self.now t }
         ensures count { length result.now ≡ width_of self.now * height_of self.now }
-        ensures most { length result.now ≤ 4096 }
+        ensures most { length result.now ≤ Self.MOST_WIDTH * Self.MOST_HEIGHT }
     {
-        let count = self.width * self.height;
+        let count = self.sizes.width * self.sizes.height;
         let first = count * t;
         part(&self.cells, first as usize, count as usize)
     }
@@ -138,7 +150,7 @@ impl History {
         requires { t + 1 < length self.old }
         ensures { self.new ≡ stepped rule.now self.old t }
     {
-        for y in 0..self.height {
+        for y in 0..self.sizes.height {
             self.step_row(rule, t, y);
         }
     }
@@ -149,7 +161,7 @@ impl History {
         requires row { y < height_of self.old }
         ensures { self.new ≡ with_row self.old (t + 1) y (successor_row rule.now self.old t y) }
     {
-        for x in 0..self.width {
+        for x in 0..self.sizes.width {
             let live = rule.next(self.nine(rule, t, y as i32, x as i32));
             self.set(t + 1, y, x, live);
         }
@@ -160,16 +172,21 @@ impl History {
         requires { t < length self.now }
         ensures { result ≡ place_cell self.now t y x }
     {
-        let row = index_within(y, self.height)?;
-        let column = index_within(x, self.width)?;
-        Some(self.cells[cell_index(self.generations, self.height, self.width, t, row, column)])
+        let row = index_within(y, self.sizes.height)?;
+        let column = index_within(x, self.sizes.width)?;
+        let index = self.sizes.index(GridPlace {
+            t,
+            y: row,
+            x: column,
+        });
+        Some(self.cells[index])
     }
 
     /// The number of a place's neighbourhood, with the weights 256 128 64 / 32 16 8 / 4 2 1 from top left to bottom right.
     pub fn nine(&self, rule: &Rule, t: u32, y: i32, x: i32) -> u16
         requires generation { t < length self.now }
-        requires row { (negsuc 198 ≤ℤ y) × (y ≤ℤ pos 199) }
-        requires column { (negsuc 198 ≤ℤ x) × (x ≤ℤ pos 199) }
+        requires row { IsWithin (Self.FARTHEST - 1) y }
+        requires column { IsWithin (Self.FARTHEST - 1) x }
         ensures number { result ≡ number_of (nine rule.now self.now t y x) }
         ensures neighbourhood { result < 512 }
     {
@@ -182,8 +199,8 @@ impl History {
     /// The number of a place and its neighbours to the left and to the right.
     fn three(&self, rule: &Rule, t: u32, y: i32, x: i32) -> u16
         requires generation { t < length self.now }
-        requires row { (negsuc 199 ≤ℤ y) × (y ≤ℤ pos 200) }
-        requires column { (negsuc 198 ≤ℤ x) × (x ≤ℤ pos 199) }
+        requires row { IsWithin Self.FARTHEST y }
+        requires column { IsWithin (Self.FARTHEST - 1) x }
         ensures number { result ≡ number_of (three rule.now self.now t y x []) }
         ensures small { result < 8 }
     {

@@ -3,10 +3,12 @@
 
 mod history;
 mod place;
+mod sizes;
 mod text;
 
 pub use history::History;
 pub use place::index_within;
+pub use sizes::{GridPlace, Sizes};
 pub use text::print_history;
 
 #[cfg(test)]

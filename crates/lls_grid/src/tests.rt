@@ -1,5 +1,5 @@
 // Histories made, changed, counted, stepped and printed.
-use crate::{History, print_history};
+use crate::{GridPlace, History, Sizes, print_history};
 use lls_rule::Rule;
 use std::alloc::{AllocError, Global};
 use std::test::Fail;
@@ -10,7 +10,12 @@ fn blinker(alloc: Global) -> Result<History, AllocError> {
     cells[1] = true;
     cells[5] = true;
     cells[9] = true;
-    Ok(History::from_cells(3, 3, 4, cells))
+    let sizes = Sizes {
+        generations: 3,
+        height: 3,
+        width: 4,
+    };
+    Ok(History::from_cells(sizes, cells))
 }
 
 #[test]
@@ -44,5 +49,22 @@ fn a_cell_is_set(rt: HostRuntime) -> Result<(), Fail> {
     let text = b"0 0 0\n0 0 0\n\n0 0 1\n0 1 0\n".as_slice();
     assert_eq!(rt; print_history(alloc, &history)?.as_slice(), text);
     assert_eq!(rt; (history.population(0), history.population(1)), (0, 2));
+    Ok(())
+}
+
+#[test]
+fn places_in_order(rt: HostRuntime) -> Result<(), Fail> {
+    let sizes = History::new(rt.alloc(), 3, 4, 5)?.sizes();
+    let rows: [(GridPlace, usize); 4] = [
+        (GridPlace { t: 0, y: 0, x: 4 }, 4),
+        (GridPlace { t: 0, y: 1, x: 0 }, 5),
+        (GridPlace { t: 1, y: 0, x: 0 }, 20),
+        (GridPlace { t: 2, y: 3, x: 4 }, 59),
+    ];
+    for (place, index) in rows {
+        assert!(rt; place.t < 3 && place.y < 4 && place.x < 5 && index < 60);
+        assert_eq!(rt; sizes.index(place), index);
+        assert_eq!(rt; sizes.place(index), place);
+    }
     Ok(())
 }

@@ -1,7 +1,7 @@
 // The text of a history.
 ghost use Rattle.std.specs.Prelude.{◌≡◌, ◌≤◌, ◌*◌, ◌++◌, length, map, IfOk, OnOk};
 ghost use Rattle.lls_grid.specs.Chunks.{chunked};
-ghost use Rattle.lls_grid.specs.Text.{digit_of, digit_word, row_text, rows_text, history_text};
+ghost use Rattle.lls_grid.specs.Text.{digit_word, row_text, rows_text, history_text};
 
 use crate::History;
 use lls_base::Memory;
@@ -49,15 +49,15 @@ fn push_row(row: &[bool], text: &mut Vec<u8>) -> Result<(), Memory>
         if x > 0 {
             text.push(b' ')?;
         }
-        text.push(digit(*live))?;
+        text.extend_from_slice(digit(*live))?;
     }
     text.push(b'\n')?;
     Ok(())
 }
 
 /// `0` for a dead cell, `1` for a live one.
-fn digit(live: bool) -> u8
-    ensures { result ≡ digit_of live }
+fn digit(live: bool) -> &'static [u8]
+    ensures { result.now ≡ digit_word live }
 {
-    if live { b'1' } else { b'0' }
+    if live { b"1" } else { b"0" }
 }

@@ -1,4 +1,5 @@
 pub mod Places
 pub mod NameValues
 pub mod Sides
-pub mod Faults
+pub mod Order
+pub mod OneJudgement

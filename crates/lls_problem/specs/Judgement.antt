@@ -1,20 +1,20 @@
 -- What each answer of judging says: which demand is the first that is broken, and at which place.
-use Rattle.std.specs.Prelude.{◌≡◌, ◌<◌, ℕ, ◌-◌, ℤ, pos, Bool, false, List, Some, length, slice_index_or}
+use Rattle.std.specs.Prelude.{◌≡◌, ◌<◌, ℕ, ◌-◌, Bool, false, List, Some, length, slice_index_or}
 use Rattle.lls_rule.specs.Rule.{successor}
+use Rattle.lls_grid.specs.declared.sizes.GridPlace.{GridPlace}
+use Rattle.lls_grid.specs.Sizes.{IsInside, index_of}
 use Rattle.lls_grid.specs.History.{History, HasSizes, at, nine, cells_of}
 use Rattle.lls_search_file.specs.declared.cell.Cell.{Cell}
-use Rattle.lls_search_file.specs.Posed.{PosedFile, name_of}
+use Rattle.lls_search_file.specs.Posed.{PosedFile, sizes_of, name_of}
 use Rattle.lls_problem.specs.declared.judgement.Judgement.{Judgement}
-use Rattle.lls_problem.specs.declared.judgement.Judgement.TheVariants.{Meets, Size, Name, Symmetry, Background, Moved, Rule, Population, Same}
+use Rattle.lls_problem.specs.declared.judgement.Judgement.TheVariants as judgement
 use Rattle.lls_problem.specs.Problem.{PosedProblem}
-use Rattle.lls_problem.specs.Solution.{cell_number, place_of, HasItsBit, AreTied, MeetsCells, IsFramed, is_marked, IsSolution}
-use Rattle.lls_problem.specs.Firsts.{IsBefore}
+use Rattle.lls_problem.specs.Solution.{cell_number, HasItsBit, AreTied, IsFramed, is_marked, Obeys, IsSolution}
+use Rattle.lls_problem.specs.Firsts.{Place, of_cell, IsBefore, IsFirstBroken}
 
--- a place of the grid in a generation of the file
-pub record IsInGrid (file : PosedFile) (t y x : ℕ) : Type 0 where
-  pub generation : t < file.generations
-  pub row : y < file.height
-  pub column : x < file.width
+-- the sizes are the file's
+abbrev pub HasItsSizes : PosedProblem → History → Type 0
+HasItsSizes problem history = HasSizes problem.posed.generations problem.posed.height problem.posed.width history
 
 -- the kth cell has its bit, where it is fixed
 abbrev pub KeepsBit : List Cell → List Bool → ℕ → Type 0
@@ -40,58 +40,65 @@ abbrev pub AllAgree : PosedProblem → History → Type 0
 AllAgree problem history = (k : ℕ) → k < length problem.posed.cells → KeepsName problem.posed.cells (cells_of history) k
 
 -- of the cells of a file, the first that doesn't keep what each has to keep
-pub record IsFirstCell (file : PosedFile) (Keeps : ℕ → Type 0) (t y x : ℕ) : Type 0 where
-  pub cell : IsInGrid file t y x
-  pub broken : Keeps (place_of file t y x) → ⊥
-  pub before : (t' y' x' : ℕ) → IsInGrid file t' y' x' → IsBefore t' (pos y') (pos x') t (pos y) (pos x) → Keeps (place_of file t' y' x')
+pub record IsFirstCell (file : PosedFile) (Keeps : ℕ → Type 0) (cell : GridPlace) : Type 0 where
+  pub inside : IsInside (sizes_of file) cell
+  pub broken : Keeps (index_of (sizes_of file) cell) → ⊥
+  pub before : (other : GridPlace) → IsInside (sizes_of file) other → IsBefore (of_cell other) (of_cell cell) → Keeps (index_of (sizes_of file) other)
 
 -- the transition into a place has to obey the rule: the place is framed, and no mark frees it
-pub record IsBound (problem : PosedProblem) (t : ℕ) (y x : ℤ) : Type 0 where
-  pub later : 0 < t
-  pub generation : t < problem.posed.generations
-  pub framed : IsFramed problem.demands.edge problem.posed.height problem.posed.width y x
-  pub free : is_marked problem.posed t y x ≡ false
+pub record IsBound (problem : PosedProblem) (place : Place) : Type 0 where
+  pub later : 0 < place.t
+  pub generation : place.t < problem.posed.generations
+  pub framed : IsFramed problem.demands.edge problem.posed.height problem.posed.width place.y place.x
+  pub free : is_marked problem.posed place.t place.y place.x ≡ false
 
 -- the cell of a place is the rule's successor of its neighbourhood a generation before
-abbrev pub Succeeds : PosedProblem → History → ℕ → ℤ → ℤ → Type 0
-Succeeds problem history t y x = at problem.rule history t y x ≡ successor problem.rule (nine problem.rule history (t - 1) y x)
+abbrev pub Succeeds : PosedProblem → History → Place → Type 0
+Succeeds problem history place =
+    at problem.rule history place.t place.y place.x ≡ successor problem.rule (nine problem.rule history (place.t - 1) place.y place.x)
 
 -- of the transitions that have to obey the rule, the first that doesn't
-pub record IsFirstTransition (problem : PosedProblem) (history : History) (t : ℕ) (y x : ℤ) : Type 0 where
-  pub bound : IsBound problem t y x
-  pub broken : Succeeds problem history t y x → ⊥
-  pub before : (t' : ℕ) (y' x' : ℤ) → IsBound problem t' y' x' → IsBefore t' y' x' t y x → Succeeds problem history t' y' x'
+abbrev pub IsFirstTransition : PosedProblem → History → Place → Type 0
+IsFirstTransition problem history place = IsFirstBroken (IsBound problem) (Succeeds problem history) place
 
-abbrev pub HasItsSizes : PosedProblem → History → Type 0
-HasItsSizes problem history = HasSizes problem.posed.generations problem.posed.height problem.posed.width history
+-- what is demanded of a history, and the place of each demand in the order of judging
+pub data Demand : Type 0 where
+  size : Demand
+  cell : Demand
+  name : Demand
+  rule : Demand
 
--- the sizes are the file's, and a fixed cell has the other bit
-pub record IsCellFault (problem : PosedProblem) (history : History) (t y x : ℕ) : Type 0 where
-  pub sizes : HasItsSizes problem history
-  pub cell : IsFirstCell problem.posed (KeepsBit problem.posed.cells (cells_of history)) t y x
+abbrev pub rank : Demand → ℕ
+rank size = 0
+rank cell = 1
+rank name = 2
+rank rule = 3
 
--- each fixed cell has its bit, and a cell disagrees with the first cell of its name
-pub record IsNameFault (problem : PosedProblem) (history : History) (t y x : ℕ) : Type 0 where
-  pub sizes : HasItsSizes problem history
-  pub fixed : AllFixed problem history
-  pub cell : IsFirstCell problem.posed (KeepsName problem.posed.cells (cells_of history)) t y x
+abbrev pub Keeps : PosedProblem → History → Demand → Type 0
+Keeps problem history size = HasItsSizes problem history
+Keeps problem history cell = AllFixed problem history
+Keeps problem history name = AllAgree problem history
+Keeps problem history rule = Obeys problem history
 
--- the cells are met, and a transition doesn't obey the rule
-pub record IsRuleFault (problem : PosedProblem) (history : History) (t : ℕ) (y x : ℤ) : Type 0 where
-  pub sizes : HasItsSizes problem history
-  pub cells : MeetsCells problem.posed.cells (cells_of history)
-  pub transition : IsFirstTransition problem history t y x
+-- every demand before that one is kept
+abbrev pub KeepsBefore : PosedProblem → History → Demand → Type 0
+KeepsBefore problem history demand = (earlier : Demand) → rank earlier < rank demand → Keeps problem history earlier
+
+-- every demand before that one is kept, and it is broken first as said
+pub record IsFault (problem : PosedProblem) (history : History) (demand : Demand) (First : Type 0) : Type 0 where
+  pub kept : KeepsBefore problem history demand
+  pub first : First
 
 -- The history is a solution, or this is its first fault. No symmetry, period, bound or difference is demanded, so
 -- their answers say nothing that can hold.
 abbrev pub IsJudgement : PosedProblem → History → Judgement → Type 0
-IsJudgement problem history Meets = IsSolution problem history
-IsJudgement problem history Size = HasItsSizes problem history → ⊥
-IsJudgement problem history (Judgement.Cell t y x) = IsCellFault problem history t y x
-IsJudgement problem history (Name t y x) = IsNameFault problem history t y x
-IsJudgement problem history (Symmetry t y x) = ⊥
-IsJudgement problem history (Background t) = ⊥
-IsJudgement problem history (Moved t y x) = ⊥
-IsJudgement problem history (Rule t y x) = IsRuleFault problem history t y x
-IsJudgement problem history (Population t n) = ⊥
-IsJudgement problem history Same = ⊥
+IsJudgement p h judgement.Meets = IsSolution p h
+IsJudgement p h judgement.Size = IsFault p h size (HasItsSizes p h → ⊥)
+IsJudgement p h (judgement.Cell t y x) = IsFault p h cell (IsFirstCell p.posed (KeepsBit p.posed.cells (cells_of h)) (record { t = t; y = y; x = x }))
+IsJudgement p h (judgement.Name t y x) = IsFault p h name (IsFirstCell p.posed (KeepsName p.posed.cells (cells_of h)) (record { t = t; y = y; x = x }))
+IsJudgement p h (judgement.Symmetry t y x) = ⊥
+IsJudgement p h (judgement.Background t) = ⊥
+IsJudgement p h (judgement.Moved t y x) = ⊥
+IsJudgement p h (judgement.Rule t y x) = IsFault p h rule (IsFirstTransition p h (record { t = t; y = y; x = x }))
+IsJudgement p h (judgement.Population t n) = ⊥
+IsJudgement p h judgement.Same = ⊥

@@ -1,4 +1,4 @@
--- The value that a cell says its name has.
+-- For private contracts alone: the value that a cell says its name has.
 use Rattle.std.specs.Prelude.{Bool, not}
 use Rattle.lls_search_file.specs.declared.cell.Kind.{Kind}
 use Rattle.lls_search_file.specs.declared.cell.Kind.TheVariants.{Dead, Live, Free, Named, Negated}

@@ -1,12 +1,13 @@
 -- What a solution of a problem is. It is said of whole histories, by reading cells and comparing them.
-use Rattle.std.specs.Prelude.{◌≡◌, ◌<◌, ℕ, ◌+◌, ◌*◌, ℤ, pos, negsuc, ◌≤ℤ◌, ◌<ℤ◌, Bool, true, false, not, List, Option, None, Some, length, slice_index_or}
+use Rattle.std.specs.Prelude.{◌≡◌, ◌<◌, ℕ, ◌+◌, ℤ, pos, negsuc, ◌≤ℤ◌, ◌<ℤ◌, Bool, true, false, not, List, Option, None, Some, length, slice_index_or}
 use Rattle.lls_rule.specs.Rule.{successor}
+use Rattle.lls_grid.specs.Sizes.{index_of}
 use Rattle.lls_grid.specs.Place.{inside}
 use Rattle.lls_grid.specs.History.{History, HasSizes, at, nine, cells_of}
 use Rattle.lls_search_file.specs.declared.cell.Cell.{Cell}
 use Rattle.lls_search_file.specs.declared.cell.Kind.{Kind}
 use Rattle.lls_search_file.specs.declared.cell.Kind.TheVariants.{Dead, Live, Free, Named, Negated}
-use Rattle.lls_search_file.specs.Posed.{PosedFile}
+use Rattle.lls_search_file.specs.Posed.{PosedFile, sizes_of}
 use Rattle.lls_problem.specs.declared.demands.Edge.{Edge}
 use Rattle.lls_problem.specs.declared.demands.Edge.TheVariants.{Framed, Bare}
 use Rattle.lls_problem.specs.Problem.{PosedProblem}
@@ -17,7 +18,7 @@ cell_number cells k = slice_index_or cells k (record { mark = false; kind = Dead
 
 -- where the cell of generation t, row y and column x stands in that order
 abbrev pub place_of : PosedFile → ℕ → ℕ → ℕ → ℕ
-place_of file t y x = x + file.width * (y + file.height * t)
+place_of file t y x = index_of (sizes_of file) (record { t = t; y = y; x = x })
 
 -- a fixed cell has its bit
 abbrev pub HasItsBit : Kind → Bool → Type 0

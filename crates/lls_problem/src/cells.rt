@@ -1,37 +1,14 @@
 // The first cell of a history that isn't as the posed file says.
-ghost use Rattle.std.specs.Prelude.{◌≡◌, ◌<◌, ◌≤◌, ℕ, not, length, false, Some, IsTrue, ◌↔◌, MatchOption, slice_index_or};
+ghost use Rattle.std.specs.Prelude.{◌≡◌, ◌<◌, not, length, false, Some, IsTrue, ◌↔◌, MatchOption, slice_index_or};
 ghost use Rattle.lls_grid.specs.History.{HasSizes, cells_of};
 ghost use Rattle.lls_search_file.specs.Posed.{name_of};
-ghost use Rattle.lls_problem.specs.Solution.{cell_number, place_of, HasItsBit};
-ghost use Rattle.lls_problem.specs.Judgement.{IsInGrid, KeepsBit, KeepsName, AllFixed, AllAgree, IsFirstOfName, IsFirstCell, HasItsSizes};
+ghost use Rattle.lls_problem.specs.Solution.{cell_number, HasItsBit};
+ghost use Rattle.lls_problem.specs.Judgement.{KeepsBit, KeepsName, AllFixed, AllAgree, IsFirstOfName, IsFirstCell, HasItsSizes};
 ghost use Rattle.lls_problem.specs.Named.{named_value};
 
 use crate::Problem;
-use lls_grid::History;
-use lls_search_file::{Cell, Kind, Posed};
-
-/// A place of the grid: generation, row and column from 0.
-#[derive(Clone, Copy)]
-pub struct GridPlace {
-    pub t: u32,
-    pub y: u32,
-    pub x: u32,
-}
-
-/// The place of the kth cell in the order generation, row, column.
-pub fn grid_place(posed: &Posed, k: usize) -> GridPlace
-    requires { k < length posed.now.cells }
-    ensures number { place_of posed.now result.t result.y result.x ≡ k }
-    ensures within { IsInGrid posed.now result.t result.y result.x }
-{
-    let (height, width) = (posed.height, posed.width);
-    let row = k as u32 / width;
-    GridPlace {
-        t: row / height,
-        y: row % height,
-        x: k as u32 % width,
-    }
-}
+use lls_grid::{GridPlace, History};
+use lls_search_file::{Cell, Kind};
 
 /// The kth cell of a history in the order generation, row, column.
 fn value_of(problem: &Problem, history: &History, k: usize) -> bool
@@ -39,7 +16,7 @@ fn value_of(problem: &Problem, history: &History, k: usize) -> bool
     requires cell { k < length problem.now.posed.cells }
     ensures { result ≡ slice_index_or (cells_of history.now) k false }
 {
-    let place = grid_place(problem.posed(), k);
+    let place = problem.posed().sizes().place(k);
     history.at(problem.rule(), place.t, place.y as i32, place.x as i32)
 }
 
@@ -58,13 +35,13 @@ fn has_its_bit(kind: Kind, live: bool) -> bool
 pub fn first_misfit(problem: &Problem, history: &History) -> Option<GridPlace>
     requires { HasItsSizes problem.now history.now }
     ensures { MatchOption result (AllFixed problem.now history.now)
-        (λ place. IsFirstCell problem.now.posed (KeepsBit problem.now.posed.cells (cells_of history.now)) place.t place.y place.x) }
+        (λ place. IsFirstCell problem.now.posed (KeepsBit problem.now.posed.cells (cells_of history.now)) place) }
 {
     let posed = problem.posed();
     let cells = posed.cells.items();
     for k in 0..cells.len() {
         if !has_its_bit(cells[k].kind, value_of(problem, history, k)) {
-            return Some(grid_place(posed, k));
+            return Some(posed.sizes().place(k));
         }
     }
     None
@@ -114,12 +91,12 @@ fn agrees(problem: &Problem, history: &History, k: usize) -> bool
 pub fn first_disagreement(problem: &Problem, history: &History) -> Option<GridPlace>
     requires { HasItsSizes problem.now history.now }
     ensures { MatchOption result (AllAgree problem.now history.now)
-        (λ place. IsFirstCell problem.now.posed (KeepsName problem.now.posed.cells (cells_of history.now)) place.t place.y place.x) }
+        (λ place. IsFirstCell problem.now.posed (KeepsName problem.now.posed.cells (cells_of history.now)) place) }
 {
     let posed = problem.posed();
     for k in 0..posed.cells.items().len() {
         if !agrees(problem, history, k) {
-            return Some(grid_place(posed, k));
+            return Some(posed.sizes().place(k));
         }
     }
     None

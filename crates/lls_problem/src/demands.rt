@@ -1,4 +1,6 @@
 // What is demanded of a pattern beside the file and the rule.
+use std::error::Error;
+use std::fmt;
 
 /// Into which places transitions have to obey the rule.
 #[derive(Clone, Copy, Debug, PartialEq, Eq)]
@@ -10,7 +12,7 @@ pub enum Edge {
 }
 
 /// What is demanded of a pattern.
-#[derive(Clone, Copy, Debug, PartialEq, Eq)]
+#[derive(Debug, PartialEq, Eq, Drop)]
 pub struct Demands {
     pub edge: Edge,
 }
@@ -29,3 +31,22 @@ pub enum DemandError {
     /// The counters need that many variables.
     Counters(u128),
 }
+
+impl fmt::Display for DemandError {
+    ghost use Rattle.std.specs.Prelude.{Some};
+    ghost use Rattle.lls_problem.specs.Texts.{demand_error_text};
+
+    ghost output = { λ error. Some (demand_error_text error) };
+
+    fn fmt<W: fmt::Write>(&self, f: &mut fmt::Formatter<W>) -> fmt::Result {
+        match self {
+            DemandError::NotSquare(height, width) => write!(f, "NotSquare {height} {width}"),
+            DemandError::NoGeneration(t) => write!(f, "NoGeneration {t}"),
+            DemandError::BoundsCross(t) => write!(f, "BoundsCross {t}"),
+            DemandError::PeriodTooLong(length) => write!(f, "PeriodTooLong {length}"),
+            DemandError::Counters(n) => write!(f, "Counters {n}"),
+        }
+    }
+}
+
+impl Error for DemandError {}

@@ -1,4 +1,5 @@
 // What judging answers.
+use std::fmt;
 
 /// Whether a history is a solution of a problem, or the first demand that it breaks and the first place where it does.
 /// Demands are in the order of the variants. Generations, rows and columns count from 0, rows downwards and columns to
@@ -27,4 +28,26 @@ pub enum Judgement {
     Population(u32, u32),
     /// The two generations that have to differ are equal.
     Same,
+}
+
+impl fmt::Display for Judgement {
+    ghost use Rattle.std.specs.Prelude.{Some};
+    ghost use Rattle.lls_problem.specs.Texts.{judgement_text};
+
+    ghost output = { λ judgement. Some (judgement_text judgement) };
+
+    fn fmt<W: fmt::Write>(&self, f: &mut fmt::Formatter<W>) -> fmt::Result {
+        match self {
+            Judgement::Meets => write!(f, "Meets"),
+            Judgement::Size => write!(f, "Size"),
+            Judgement::Cell(t, y, x) => write!(f, "Cell {t} {y} {x}"),
+            Judgement::Name(t, y, x) => write!(f, "Name {t} {y} {x}"),
+            Judgement::Symmetry(t, y, x) => write!(f, "Symmetry {t} {y} {x}"),
+            Judgement::Background(t) => write!(f, "Background {t}"),
+            Judgement::Moved(t, y, x) => write!(f, "Moved {t} {y} {x}"),
+            Judgement::Rule(t, y, x) => write!(f, "Rule {t} {y} {x}"),
+            Judgement::Population(t, n) => write!(f, "Population {t} {n}"),
+            Judgement::Same => write!(f, "Same"),
+        }
+    }
 }

@@ -3,6 +3,7 @@ ghost use Rattle.std.specs.Prelude.{◌≡◌, ◌≢◌, IsTrue, ◌↔◌};
 ghost use Rattle.lls_grid.specs.History.{HasSizes};
 ghost use Rattle.lls_problem.specs.Solution.{IsSolution};
 ghost use Rattle.lls_problem.specs.Judgement.{IsJudgement};
+ghost use Rattle.lls_problem.specs.declared.judgement.Judgement.{Judgement};
 
 use crate::cells::{first_disagreement, first_misfit};
 use crate::transitions::first_transition;
@@ -14,16 +15,14 @@ use lls_search_file::Posed;
 fn has_its_sizes(posed: &Posed, history: &History) -> bool
     ensures { IsTrue result ↔ HasSizes posed.now.generations posed.now.height posed.now.width history.now }
 {
-    history.generations() == posed.generations
-        && history.height() == posed.height
-        && history.width() == posed.width
+    history.sizes() == posed.sizes()
 }
 
 /// Whether the history is a solution of the problem, or else the first demand that it breaks and the first place, by
 /// generation, row and column, where it does. It takes no memory.
-#[tactic(auto, using(crate::proofs::Faults::misfit_refutes, crate::proofs::Faults::transition_refutes))]
 pub fn judge(problem: &Problem, history: &History) -> Judgement
     ensures judgement { IsJudgement problem.now history.now result }
+    ensures unique { (other : Judgement) → IsJudgement problem.now history.now other → other ≡ result }
     ensures meets { result ≡ Judgement.Meets → IsSolution problem.now history.now }
     ensures broken { result ≢ Judgement.Meets → IsSolution problem.now history.now → ⊥ }
 {

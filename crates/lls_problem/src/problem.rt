@@ -1,10 +1,12 @@
 // A problem.
-ghost use Rattle.std.specs.Prelude.{◌≡◌, ◌<◌, length, Ok, Err};
-ghost use Rattle.lls_search_file.specs.Posed.{IsPosed};
+ghost use Rattle.std.specs.Prelude.{◌≡◌, ◌<◌, length};
+ghost use Rattle.lls_grid.specs.Sizes.{IsInside};
+ghost use Rattle.lls_search_file.specs.Posed.{IsPosed, sizes_of};
+ghost use Rattle.lls_problem.specs.Problem.{problem_made};
 ghost use Rattle.lls_problem.specs.Solution.{is_marked, place_of};
 
 use crate::{DemandError, Demands};
-use lls_grid::index_within;
+use lls_grid::{GridPlace, index_within};
 use lls_rule::Rule;
 use lls_search_file::Posed;
 use std::marker::Model;
@@ -27,7 +29,7 @@ impl Model for Problem {
 
 /// Puts the three together. It takes no memory; after a refusal the three are given up.
 pub fn make_problem(posed: Posed, rule: Rule, demands: Demands) -> Result<Problem, DemandError>
-    ensures { result ≡ Ok (record { posed = posed; rule = rule; demands = demands }) }
+    ensures { result ≡ problem_made posed rule demands }
 {
     Ok(Problem {
         posed,
@@ -42,20 +44,18 @@ impl Problem {
         ensures kept { IsPosed self.now.posed }
     {
         let posed = &self.posed;
+        // Reading a field tells what the type of the file keeps.
         let _ = &posed.generations;
         posed
     }
 
-    /// Where the cell of generation t, row y and column x stands in the order generation, row, column.
-    pub fn cell_index(&self, t: u32, y: u32, x: u32) -> usize
-        requires generation { t < self.now.posed.generations }
-        requires row { y < self.now.posed.height }
-        requires column { x < self.now.posed.width }
-        ensures place { result ≡ place_of self.now.posed t y x }
+    /// Where a cell stands in the order generation, row, column.
+    pub fn cell_index(&self, place: GridPlace) -> usize
+        requires { IsInside (sizes_of self.now.posed) place }
+        ensures index { result ≡ place_of self.now.posed place.t place.y place.x }
         ensures within { result < length self.now.posed.cells }
     {
-        let posed = self.posed();
-        (x + posed.width * (y + posed.height * t)) as usize
+        self.posed().sizes().index(place)
     }
 
     /// Whether a place is a marked cell of generation t. Rows and columns count from those of the grid.
@@ -65,7 +65,7 @@ impl Problem {
     {
         let posed = self.posed();
         match (index_within(y, posed.height), index_within(x, posed.width)) {
-            (Some(row), Some(column)) => posed.cells.items()[self.cell_index(t, row, column)].mark,
+            (Some(y), Some(x)) => posed.cells.items()[self.cell_index(GridPlace { t, y, x })].mark,
             _ => false,
         }
     }

@@ -1,5 +1,5 @@
 // Histories judged by problems, with answers worked out by hand.
-use crate::{Demands, Edge, Judgement, judge, make_problem};
+use crate::{DemandError, Demands, Edge, Judgement, judge, make_problem};
 use lls_grid::History;
 use lls_rule::Rule;
 use lls_search_file::{read_history, read_posed};
@@ -195,5 +195,36 @@ fn largest_file(rt: HostRuntime) -> Result<(), Fail> {
     let problem = make_problem(read_posed(alloc, &text)?, life, demands)?;
     let history = History::new(alloc, 2, 64, 64)?;
     assert_eq!(rt; judge(&problem, &history), Judgement::Meets);
+    Ok(())
+}
+
+#[test]
+fn judgements_and_faults_by_their_texts(rt: HostRuntime) -> Result<(), Fail> {
+    let alloc = rt.alloc();
+    let judgements: [(Judgement, &str); 10] = [
+        (Judgement::Meets, "Meets"),
+        (Judgement::Size, "Size"),
+        (Judgement::Cell(0, 1, 2), "Cell 0 1 2"),
+        (Judgement::Name(1, 0, 63), "Name 1 0 63"),
+        (Judgement::Symmetry(3, 2, 1), "Symmetry 3 2 1"),
+        (Judgement::Background(4), "Background 4"),
+        (Judgement::Moved(2, -1, 5), "Moved 2 -1 5"),
+        (Judgement::Rule(1, -1, 1), "Rule 1 -1 1"),
+        (Judgement::Population(0, 300), "Population 0 300"),
+        (Judgement::Same, "Same"),
+    ];
+    for (judgement, text) in judgements {
+        assert_eq!(rt; format!(in alloc; "{judgement}")?.as_str(), text);
+    }
+    let faults: [(DemandError, &str); 5] = [
+        (DemandError::NotSquare(1, 3), "NotSquare 1 3"),
+        (DemandError::NoGeneration(7), "NoGeneration 7"),
+        (DemandError::BoundsCross(0), "BoundsCross 0"),
+        (DemandError::PeriodTooLong(2), "PeriodTooLong 2"),
+        (DemandError::Counters(1232896), "Counters 1232896"),
+    ];
+    for (fault, text) in faults {
+        assert_eq!(rt; format!(in alloc; "{fault}")?.as_str(), text);
+    }
     Ok(())
 }

@@ -24,8 +24,8 @@ pub struct Transition {
 
 /// Whether transitions into a place have to obey the rule. The line and the column count from those before the grid.
 fn is_framed(edge: Edge, height: u32, width: u32, line: u32, column: u32) -> bool
-    requires height { height ≤ 64 }
-    requires width { width ≤ 64 }
+    requires height { height ≤ History.MOST_HEIGHT }
+    requires width { width ≤ History.MOST_WIDTH }
     requires line { line < height + 2 }
     requires column { column < width + 2 }
     ensures { IsTrue result ↔ IsFramed edge height width (side line) (side column) }
@@ -101,7 +101,7 @@ fn first_in_generation(problem: &Problem, history: &History, t: u32) -> Option<R
 pub fn first_transition(problem: &Problem, history: &History) -> Option<Transition>
     requires { HasItsSizes problem.now history.now }
     ensures { MatchOption result (Obeys problem.now history.now)
-        (λ place. IsFirstTransition problem.now history.now place.t place.y place.x) }
+        (λ place. IsFirstTransition problem.now history.now (record { t = place.t; y = place.y; x = place.x })) }
 {
     for t in 1..problem.posed().generations {
         if let Some(place) = first_in_generation(problem, history, t) {

@@ -1,41 +1,28 @@
 -- How the reading of a text ends.
-use Rattle.std.proofs.Common.{◌≡◌, ◌≢◌, ℕ, ◌+◌, eqb, true, cond, List, [], ◌∷◌, length, Result, Ok, Err, sym, ap, ◌∙◌, arith}
-use Rattle.std.proofs.lemmas.Bool.{ne_eqb, eqb-true}
+use Rattle.std.proofs.Common.{◌≡◌, ℕ, ◌+◌, eqb, true, List, [], ◌∷◌, length, Some, Ok, Err, sym, ap, ◌∙◌, arith}
+use Rattle.std.proofs.lemmas.Bool.{eqb-true}
+use Rattle.lls_base.specs.Results.{and_then}
 use Rattle.lls_search_file.specs.declared.cell.Cell.{Cell}
 use Rattle.lls_search_file.specs.declared.shape.Shape.{Shape}
 use Rattle.lls_search_file.specs.declared.error.PosedError.{PosedError}
-use Rattle.lls_search_file.specs.declared.error.PosedError.TheVariants.{Empty, BadCell, Ragged, Sizes, TooWide, TooHigh, TooMany, TooManyCells, NotAscii, Memory}
 use Rattle.lls_search_file.specs.Lines.{lines_of}
-use Rattle.lls_search_file.specs.Words.{and_then}
-use Rattle.lls_search_file.specs.Reading.{Fails, names_of, posed_of}
+use Rattle.lls_search_file.specs.Reading.{names_of, posed_of}
 use Rattle.lls_search_file.specs.Counted.{Counts, no_shape, with_end, line_taken, lines_taken, at_end, file_of}
 use Rattle.lls_search_file.specs.Kept.{IsNumbered, words_in}
 use Rattle.lls_search_file.proofs.Counting.{posed_of-counted}
 use Rattle.lls_search_file.proofs.Renumbering.{names_of-words_in, cells_said-words_in}
 
--- a fault of a part is the fault of the whole
-pub Fails-along : {Y Z : Type 0} (fault : PosedError) (part : Result Y PosedError) (whole : Result Z PosedError) → (part ≡ Err fault → whole ≡ Err fault) → Fails fault part → Fails fault whole
-Fails-along Empty part whole along e = along e
-Fails-along (BadCell line column) part whole along e = along e
-Fails-along (Ragged line expected found) part whole along e = along e
-Fails-along (Sizes generation expected found) part whole along e = along e
-Fails-along (TooWide n) part whole along e = along e
-Fails-along (TooHigh n) part whole along e = along e
-Fails-along (TooMany n) part whole along e = along e
-Fails-along (TooManyCells n) part whole along e = along e
-Fails-along (NotAscii line column) part whole along e = along e
-Fails-along Memory part whole along e = tt
-
 -- the file that has been read
-pub at_end-is : (shape end : Shape) (names : List (List ℕ)) (cells : List Cell) → with_end shape ≡ Ok end → end.ended ≢ 0 → IsNumbered names cells
+pub at_end-is : (shape end : Shape) (width height : ℕ) (names : List (List ℕ)) (cells : List Cell) → with_end shape ≡ Ok end → end.width ≡ Some width → end.height ≡ Some height → IsNumbered names cells
     → at_end (record { shape = shape; words = words_in names cells })
-    ≡ Ok (record { generations = end.ended; height = end.height; width = end.width; cells = cells; names = names })
-at_end-is shape end names cells ends some kept =
+    ≡ Ok (record { generations = end.ended; height = height; width = width; cells = cells; names = names })
+at_end-is shape end width height names cells ends wide high kept =
     let words = words_in names cells in
-    ap (λ read. and_then read (λ s. cond (eqb s.ended 0) (Err Empty) (Ok (file_of s words)))) ends ∙
-    (ap (λ b. cond b (Err Empty) (Ok (file_of end words))) (ne_eqb end.ended 0 some) ∙
-    (ap (λ cs. Ok (record { generations = end.ended; height = end.height; width = end.width; cells = cs; names = names_of words })) (cells_said-words_in names cells kept) ∙
-    ap (λ ns. Ok (record { generations = end.ended; height = end.height; width = end.width; cells = cells; names = ns })) (names_of-words_in names cells kept)))
+    ap (λ read. and_then read (λ s. file_of s.width s.height s.ended words)) ends ∙
+    (ap (λ w. file_of w end.height end.ended words) wide ∙
+    (ap (λ h. file_of (Some width) h end.ended words) high ∙
+    (ap (λ cs. Ok (record { generations = end.ended; height = height; width = width; cells = cs; names = names_of words })) (cells_said-words_in names cells kept) ∙
+    ap (λ ns. Ok (record { generations = end.ended; height = height; width = width; cells = cells; names = ns })) (names_of-words_in names cells kept))))
 
 -- the lines left give what all lines give
 abbrev Leads : List ℕ → ℕ → List ℕ → Counts → Type 0

@@ -1,10 +1,11 @@
 -- The text of a history is that of a posed file, and is read as the history.
 use Rattle.std.proofs.Common.{◌≡◌, ◌*◌, Bool, true, false, cond, not, List, [], ◌∷◌, length, map, None, Some, Ok, refl, sym, ap, ◌∙◌, arith}
+use Rattle.std.specs.Prelude.{codes}
 use Rattle.std.specs.List.{position, position_or_len}
 use Rattle.std.proofs.lemmas.List.{length-map}
 use Rattle.std.proofs.lemmas.Bool.{le-ltb}
 use Rattle.lls_grid.specs.Chunks.{chunked}
-use Rattle.lls_grid.specs.History.{History, height_of, width_of, cells_of, folded}
+use Rattle.lls_grid.specs.History.{History, IsHistory, height_of, width_of, cells_of, folded}
 use Rattle.lls_grid.specs.Text.{text_of, digit_word, history_text}
 use Rattle.lls_grid.proofs.Chunks.{map-chunked}
 use Rattle.lls_grid.proofs.InOrder.{length-cells_of}
@@ -14,7 +15,6 @@ use Rattle.lls_search_file.specs.declared.cell.Kind.TheVariants.{Dead, Live}
 use Rattle.lls_search_file.specs.Posed.{PosedFile, IsPosed, are_numbered}
 use Rattle.lls_search_file.specs.Plain.{is_live, is_plain, history_or, plain_read, plain_of}
 use Rattle.lls_search_file.specs.Printing.{word_text, posed_text}
-use Rattle.lls_search_file.specs.Law.{IsHistory}
 use Rattle.lls_search_file.proofs.RoundTrip.{posed_of-posed_text}
 
 fixed : Bool → Cell
@@ -40,9 +40,9 @@ unfolding file_of_history
 is_posed history whole =
     let count = length-cells_of (length history) (height_of history) (width_of history) history whole.sizes in
     record {
-      generations = whole.limits.generations;
-      height = whole.limits.height;
-      width = whole.limits.width;
+      generations = whole.generations;
+      height = whole.height;
+      width = whole.width;
       count = length-map (cells_of history) fixed ∙ count;
       most = omega (arith, length-map (cells_of history) fixed, whole.most);
       distinct = refl;
@@ -53,8 +53,8 @@ is_posed history whole =
 digits : (cells : List Bool) → map (word_text []) (map fixed cells) ≡ map digit_word cells
 unfolding fixed
 digits [] = refl
-digits (true ∷ cells) = ap (λ words. (49 ∷ []) ∷ words) (digits cells)
-digits (false ∷ cells) = ap (λ words. (48 ∷ []) ∷ words) (digits cells)
+digits (true ∷ cells) = ap (λ words. codes "1" ∷ words) (digits cells)
+digits (false ∷ cells) = ap (λ words. codes "0" ∷ words) (digits cells)
 
 same_text_as_file : (history : History) → IsHistory history → history_text history ≡ posed_text (file_of_history history)
 unfolding file_of_history

@@ -1,3 +1,4 @@
+pub mod AllItems
 pub mod Counts
 pub mod Counting
 pub mod Numbering

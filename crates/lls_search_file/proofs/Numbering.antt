@@ -1,7 +1,8 @@
 -- Cells whose names are numbered by first appearance.
-use Rattle.std.proofs.Common.{◌≡◌, ◌<◌, ◌≤◌, ℕ, zero, suc, ◌+◌, eqb, Bool, true, false, List, [], ◌∷◌, ◌++◌, length, get_or, take, map, Option, None, Some, refl, ap, ◌∙◌, arith, ◌⊎◌, inl, inr, length-append, append_assoc, subst}
+use Rattle.std.proofs.Common.{◌≡◌, ◌<◌, ◌≤◌, ℕ, zero, suc, ◌+◌, eqb, ltb, Bool, true, false, List, [], ◌∷◌, ◌++◌, length, get_or, take, map, Option, None, Some, refl, ap, ◌∙◌, arith, ◌⊎◌, inl, inr, length-append, append_assoc, subst}
 use Rattle.std.specs.List.{list_any, list_all, position_or_len}
-use Rattle.std.proofs.lemmas.Bool.{and_parts, eqb-true, lt-ltb, le-ltb, cases_lt}
+use Rattle.std.specs.Option.{option_map_or}
+use Rattle.std.proofs.lemmas.Bool.{and_parts, and_from, eqb-true, lt-ltb, le-ltb, cases_lt}
 use Rattle.std.proofs.lemmas.Bool.Decides.{nat_tests, eqb_tells}
 use Rattle.std.proofs.lemmas.List.{map-append, take_more}
 use Rattle.lls_search_file.specs.declared.word.Word as read
@@ -15,7 +16,7 @@ use Rattle.lls_search_file.specs.declared.cell.Kind.TheVariants.{Dead, Live, Fre
 use Rattle.lls_search_file.specs.Posed.{name_of, names_after, are_numbered, are_distinct, is_name, same_text}
 use Rattle.lls_search_file.specs.Words.{Said, dead, live, free, named, negated, Word}
 use Rattle.lls_search_file.specs.Reading.{name_said, kind_said, cell_said}
-use Rattle.lls_search_file.specs.Kept.{IsNumbered, said_in, word_in, words_in, with_name, is_spelled, is_said_spelled}
+use Rattle.lls_search_file.specs.Kept.{IsNumbered, is_named_within, said_in, word_in, words_in, with_name, is_spelled, is_said_spelled}
 use Rattle.lls_search_file.proofs.Texts.{place_past, place_found, distinct_more, by_cases}
 
 -- what follows where a cell may bring the next name
@@ -73,6 +74,21 @@ says_agree names others count (Negated n) agree within = ap negated (agree n (wi
 
 pub numbers_lt : (cells : List Cell) (count next : ℕ) (cell : Cell) → are_numbered (cell ∷ cells) count (Some next) ≡ true → (n : ℕ) → name_of cell.kind ≡ Some n → n < count
 numbers_lt cells count next cell e n is = number_lt cells count next n (subst (λ o. are_numbered cells count (names_after o next) ≡ true) is e)
+
+-- so each cell's name is among them
+named_within : (kind : Kind) (count : ℕ) → ((n : ℕ) → name_of kind ≡ Some n → n < count) → option_map_or (λ number. ltb number count) (name_of kind) true ≡ true
+named_within Dead count within = refl
+named_within Live count within = refl
+named_within Free count within = refl
+named_within (Named n) count within = lt-ltb n count (within n refl)
+named_within (Negated n) count within = lt-ltb n count (within n refl)
+
+pub all_named_within : (cells : List Cell) (count : ℕ) (next : Option ℕ) → are_numbered cells count next ≡ true → list_all (is_named_within count) cells ≡ true
+all_named_within cells count None e = cc
+all_named_within [] count (Some next) e = refl
+all_named_within (cell ∷ cells) count (Some next) e =
+    and_from (is_named_within count cell) (list_all (is_named_within count) cells) (named_within cell.kind count (numbers_lt cells count next cell e))
+    (all_named_within cells count (names_after (name_of cell.kind) next) e)
 
 -- the words of cells under names that say the same
 pub words_agree : (names others : List (List ℕ)) (count : ℕ) (cells : List Cell) (next : Option ℕ) → Agree names others count → are_numbered cells count next ≡ true

@@ -1,26 +1,28 @@
 -- The text of a posed file is read as the file.
-use Rattle.std.proofs.Common.{◌≡◌, ◌<◌, ◌≤◌, ℕ, zero, suc, ◌+◌, ◌*◌, eqb, Bool, true, false, cond, not, ◌&&◌, List, [], ◌∷◌, ◌++◌, length, take, drop, get_or, map, flat_map, Option, None, Some, Ok, Err, refl, sym, ap, ◌∙◌, arith, append_assoc, append-nil, take_all, length-take, length-drop}
+use Rattle.std.proofs.Common.{◌≡◌, ◌<◌, ◌≤◌, ℕ, zero, suc, ◌+◌, ◌*◌, eqb, Bool, true, false, ◌&&◌, List, [], ◌∷◌, ◌++◌, length, take, drop, get_or, map, flat_map, Option, None, Some, Ok, refl, sym, ap, ◌∙◌, arith, append_assoc, append-nil, take_all, length-take, length-drop}
 use Rattle.std.specs.List.{list_all}
+use Rattle.std.specs.Option.{option_or}
 use Rattle.std.proofs.lemmas.Bool.{and_parts, and_from, le-ltb, ne_eqb, eqb-true, eq-eqb}
-use Rattle.std.proofs.lemmas.List.{map-append, length-map, take-append-drop}
-use Rattle.std.proofs.lemmas.List.Folds.{list_all-append}
+use Rattle.std.proofs.lemmas.List.{map-append, length-map}
 use Rattle.std.proofs.lemmas.Grind.{flat_map-append}
 use Rattle.std.proofs.Math.Nat.{mul-le-mul_left}
+use Rattle.lls_base.specs.Results.{and_then}
+use Rattle.lls_grid.specs.declared.history.TheConstants.History.{MOST_GENERATIONS, MOST_HEIGHT, MOST_WIDTH, MOST_CELLS}
 use Rattle.lls_grid.specs.Chunks.{chunked}
-use Rattle.lls_grid.specs.Text.{rows_text, text_of}
+use Rattle.lls_grid.specs.Text.{line_feed, rows_text, text_of}
 use Rattle.lls_grid.proofs.Chunks.{length-chunked, map-chunked, joined-chunked}
 use Rattle.lls_search_file.specs.declared.cell.Cell.{Cell}
 use Rattle.lls_search_file.specs.declared.cell.Kind.{Kind}
 use Rattle.lls_search_file.specs.declared.cell.Kind.TheVariants.{Dead, Live, Free, Named, Negated}
 use Rattle.lls_search_file.specs.declared.shape.Shape.{Shape}
-use Rattle.lls_search_file.specs.declared.error.PosedError.TheVariants.{Empty}
 use Rattle.lls_search_file.specs.Posed.{PosedFile, IsPosed, name_of, names_after, are_numbered, is_name}
 use Rattle.lls_search_file.specs.Lines.{lines_of}
-use Rattle.lls_search_file.specs.Words.{Word, and_then}
-use Rattle.lls_search_file.specs.Reading.{posed_of}
-use Rattle.lls_search_file.specs.Counted.{Counts, no_shape, with_row, with_end, line_taken, lines_taken, at_end, file_of}
+use Rattle.lls_search_file.specs.Words.{Word}
+use Rattle.lls_search_file.specs.Reading.{file_sized, posed_of}
+use Rattle.lls_search_file.specs.Counted.{Counts, no_shape, ragged, too_high, with_row, with_end, line_taken, lines_taken, at_end, file_of}
 use Rattle.lls_search_file.specs.Kept.{IsNumbered, said_in, word_in, words_in, is_spelled, is_said_spelled}
 use Rattle.lls_search_file.specs.Printing.{word_text, posed_text}
+use Rattle.lls_search_file.proofs.AllItems.{all_take, all_drop, all_chunked}
 use Rattle.lls_search_file.proofs.Counting.{posed_of-counted}
 use Rattle.lls_search_file.proofs.Numbering.{numbers_lt}
 use Rattle.lls_search_file.proofs.Renumbering.{names_of-words_in, cells_said-words_in}
@@ -28,20 +30,20 @@ use Rattle.lls_search_file.proofs.RowTexts.{line_of, are_spelled, rows_spelled, 
 
 -- sizes within the limits
 record Fits (generations height width : ℕ) : Type 0 where
-  generations_fit : generations ≤ 64
-  height_fits : (1 ≤ height) × (height ≤ 64)
-  width_fits : (1 ≤ width) × (width ≤ 64)
-  most : width * (height * generations) ≤ 8192
+  generations_fit : generations ≤ MOST_GENERATIONS
+  height_fits : (1 ≤ height) × (height ≤ MOST_HEIGHT)
+  width_fits : (1 ≤ width) × (width ≤ MOST_WIDTH)
+  most : width * (height * generations) ≤ MOST_CELLS
 
 -- the sizes after t generations and k rows
-width_after : ℕ → ℕ → ℕ → ℕ
-width_after width zero zero = 0
-width_after width zero (suc k) = width
-width_after width (suc t) k = width
+width_after : ℕ → ℕ → ℕ → Option ℕ
+width_after width zero zero = None
+width_after width zero (suc k) = Some width
+width_after width (suc t) k = Some width
 
-height_after : ℕ → ℕ → ℕ
-height_after height zero = 0
-height_after height (suc t) = height
+height_after : ℕ → ℕ → Option ℕ
+height_after height zero = None
+height_after height (suc t) = Some height
 
 shape_at : ℕ → ℕ → ℕ → ℕ → Shape
 shape_at height width t k = record { width = width_after width t k; height = height_after height t; ended = t; rows = k; cells = width * (height * t + k) }
@@ -50,20 +52,21 @@ and_false : (x : Bool) → (x && false) ≡ false
 and_false true = refl
 and_false false = refl
 
-same_width : (width t k : ℕ) → (not (eqb (width_after width t k) 0) && not (eqb width (width_after width t k))) ≡ false
+same_width : (line width t k : ℕ) → ragged line width (width_after width t k) ≡ None
 unfolding width_after
-same_width width zero zero = refl
-same_width width zero (suc k) = rw (eq-eqb width width refl) (and_false (not (eqb width 0)))
-same_width width (suc t) k = rw (eq-eqb width width refl) (and_false (not (eqb width 0)))
+same_width line width zero zero = refl
+same_width line width zero (suc k) = rw (eq-eqb width width refl) refl
+same_width line width (suc t) k = rw (eq-eqb width width refl) refl
 
-same_height : (height t k : ℕ) → k < height → (not (eqb t 0) && eqb k (height_after height t)) ≡ false
+not_high : (height t k : ℕ) → k < height → height ≤ MOST_HEIGHT → too_high k t (height_after height t) ≡ None
 unfolding height_after
-same_height height zero k lt = refl
-same_height height (suc t) k lt = rw (ne_eqb k height (λ same. absurd (omega (arith, lt, same)))) (and_false (not (eqb (suc t) 0)))
+not_high height zero k lt most = rw (ne_eqb k MOST_HEIGHT (λ same. absurd (omega (arith, lt, most, same)))) refl
+not_high height (suc t) k lt most = rw (ne_eqb k height (λ same. absurd (omega (arith, lt, same)))) refl
 
-one_width : (width t k : ℕ) → width_after width t (suc k) ≡ width
+one_width : (width t k : ℕ) → option_or (width_after width t k) (Some width) ≡ width_after width t (suc k)
 unfolding width_after
-one_width width zero k = refl
+one_width width zero zero = refl
+one_width width zero (suc k) = refl
 one_width width (suc t) k = refl
 
 -- one more row fits
@@ -71,16 +74,15 @@ row_fits : (generations height width line t k : ℕ) → Fits generations height
     → with_row line width (shape_at height width t k) ≡ Ok (shape_at height width t (suc k))
 unfolding shape_at
 row_fits generations height width line t k fits t_in k_in =
-    let narrow = le-ltb 64 width (omega (arith, fits.width_fits.1)) in
-    let few : (eqb k 0 && eqb t 64) ≡ false = rw (ne_eqb t 64 (λ same. absurd (omega (arith, t_in, fits.generations_fit, same)))) (and_false (eqb k 0)) in
-    let low : (eqb t 0 && eqb k 64) ≡ false = rw (ne_eqb k 64 (λ same. absurd (omega (arith, k_in, fits.height_fits.1, same)))) (and_false (eqb t 0)) in
+    let narrow = le-ltb MOST_WIDTH width (omega (arith, fits.width_fits.1)) in
+    let few : (eqb k 0 && eqb t MOST_GENERATIONS) ≡ false = rw (ne_eqb t MOST_GENERATIONS (λ same. absurd (omega (arith, t_in, fits.generations_fit, same)))) (and_false (eqb k 0)) in
     let below : height * t + suc k ≤ height * suc t = omega (arith, k_in) in
     let up : height * suc t ≤ height * generations = mul-le-mul_left height t_in in
     let all : width * (height * t + suc k) ≤ width * (height * generations) = mul-le-mul_left width (omega (arith, below, up)) in
     let cells : width * (height * t + k) + width ≡ width * (height * t + suc k) = omega arith in
-    let fewer = le-ltb 8192 (width * (height * t + k) + width) (omega (arith, all, cells, fits.most)) in
+    let fewer = le-ltb MOST_CELLS (width * (height * t + k) + width) (omega (arith, all, cells, fits.most)) in
     let more : k + 1 ≡ suc k = omega arith in
-    rw (narrow, few, same_width width t k, low, same_height height t k k_in, fewer, cells, more, one_width width t k) refl
+    rw (narrow, few, same_width line width t k, not_high height t k k_in fits.height_fits.1, fewer, one_width width t k, cells, more) refl
 
 -- a generation of all its rows ends
 end_fits : (height width t : ℕ) → 1 ≤ height → with_end (shape_at height width t height) ≡ Ok (shape_at height width (suc t) 0)
@@ -92,11 +94,10 @@ end_fits (suc rows) width zero some =
     rw (open_rows, cells) refl
 end_fits (suc rows) width (suc t) some =
     let open_rows = ne_eqb (suc rows) 0 (λ same. absurd (omega (arith, same))) in
-    let later = ne_eqb (suc t) 0 (λ same. absurd (omega (arith, same))) in
     let full = le-ltb (suc rows) (suc rows) (omega arith) in
     let cells : width * (suc rows * suc t + suc rows) ≡ width * (suc rows * suc (suc t) + 0) = omega arith in
     let next : suc t + 1 ≡ suc (suc t) = omega arith in
-    rw (open_rows, later, full, cells, next) refl
+    rw (open_rows, full, cells, next) refl
 
 -- rows of one width
 are_wide : ℕ → List (List Cell) → Bool
@@ -147,15 +148,10 @@ words_of names generations = flat_map (λ rows. flat_map (words_in names) rows) 
 printed : List (List ℕ) → List (List (List Cell)) → List ℕ
 printed names generations = text_of (map (map (map (word_text names))) generations)
 
-some_generation : (height width t : ℕ) (words : List Word)
-    → cond (eqb (shape_at height width (suc t) 0).ended 0) (Err Empty) (Ok (file_of (shape_at height width (suc t) 0) words)) ≡ Ok (file_of (shape_at height width (suc t) 0) words)
-unfolding shape_at
-some_generation height width t words = let later = ne_eqb (suc t) 0 (λ same. absurd (omega (arith, same))) in rw later refl
-
-at_end_whole : (height width t : ℕ) (words : List Word) → 1 ≤ height → at_end (state height width t height words) ≡ Ok (file_of (shape_at height width (suc t) 0) words)
-unfolding state
+at_end_whole : (height width t : ℕ) (words : List Word) → 1 ≤ height → at_end (state height width t height words) ≡ Ok (file_sized (suc t) height width words)
+unfolding state shape_at width_after height_after
 at_end_whole height width t words some =
-    ap (λ read. and_then read (λ shape. cond (eqb shape.ended 0) (Err Empty) (Ok (file_of shape words)))) (end_fits height width t some) ∙ some_generation height width t words
+    ap (λ read. and_then read (λ shape. file_of shape.width shape.height shape.ended words)) (end_fits height width t some)
 
 empty_line : (line height width t : ℕ) (words : List Word) → 1 ≤ height → line_taken line [] (state height width t height words) ≡ Ok (state height width (suc t) 0 words)
 unfolding state
@@ -174,7 +170,7 @@ unfolding printed after_first
 first_lines names rows [] spelled =
     ap lines_of (sym (append-nil (rows_text (map (map (word_text names)) rows)))) ∙ lines_rows names rows [] spelled
 first_lines names rows (next ∷ generations) spelled =
-    lines_rows names rows (10 ∷ text_of (map (map (map (word_text names))) (next ∷ generations))) spelled
+    lines_rows names rows (line_feed ∷ text_of (map (map (map (word_text names))) (next ∷ generations))) spelled
 
 -- the rows of the first of printed generations are taken
 first_taken : (names : List (List ℕ)) (count height width : ℕ) (generations : List (List (List Cell))) (first : List (List Cell)) (line t : ℕ) (words : List Word) → Fits count height width
@@ -194,7 +190,7 @@ first_taken names count height width generations first line t words fits t_in wh
 generations_taken : (names : List (List ℕ)) (count height width : ℕ) (generations : List (List (List Cell))) (first : List (List Cell)) (line t : ℕ) (words : List Word) → Fits count height width
     → t + suc (length generations) ≡ count → are_whole height width (first ∷ generations) ≡ true → generations_spelled names (first ∷ generations) ≡ true
     → and_then (lines_taken line (lines_of (printed names (first ∷ generations))) (state height width t 0 words)) at_end
-    ≡ Ok (file_of (shape_at height width count 0) (words ++ words_of names (first ∷ generations)))
+    ≡ Ok (file_sized count height width (words ++ words_of names (first ∷ generations)))
 unfolding are_whole generations_spelled words_of after_first
 generations_taken names count height width [] first line t words fits place whole spelled =
     let wholes = and_parts (eqb (length first) height && are_wide width first) true whole in
@@ -203,8 +199,8 @@ generations_taken names count height width [] first line t words fits place whol
     let last : suc t ≡ count = omega (arith, place) in
     first_taken names count height width [] first line t words fits (omega (arith, place)) wholes.0 spells.0 ∙
     (at_end_whole height width t all fits.height_fits.0 ∙
-    (ap (λ n. Ok (file_of (shape_at height width n 0) all)) last ∙
-    ap (λ ws. Ok (file_of (shape_at height width count 0) (words ++ ws))) (sym (append-nil (flat_map (words_in names) first)))))
+    (ap (λ n. Ok (file_sized n height width all)) last ∙
+    ap (λ ws. Ok (file_sized count height width (words ++ ws))) (sym (append-nil (flat_map (words_in names) first)))))
 generations_taken names count height width (next ∷ generations) first line t words fits place whole spelled =
     let wholes = and_parts (eqb (length first) height && are_wide width first) (are_whole height width (next ∷ generations)) whole in
     let spells = and_parts (rows_spelled names first) (generations_spelled names (next ∷ generations)) spelled in
@@ -213,21 +209,7 @@ generations_taken names count height width (next ∷ generations) first line t w
     first_taken names count height width (next ∷ generations) first line t words fits (omega (arith, place)) wholes.0 spells.0 ∙
     (ap (λ read. and_then (and_then read (lines_taken (behind + 1) (lines_of (printed names (next ∷ generations))))) at_end) (empty_line behind height width t (words ++ these) fits.height_fits.0) ∙
     (generations_taken names count height width generations next (behind + 1) (suc t) (words ++ these) fits (omega (arith, place)) wholes.1 spells.1 ∙
-    ap (λ ws. Ok (file_of (shape_at height width count 0) ws)) (append_assoc words these (words_of names (next ∷ generations)))))
-
--- what holds of all items holds of the items of each piece
-all_take : {X : Type 0} (p : X → Bool) (n : ℕ) (items : List X) → list_all p items ≡ true → list_all p (take n items) ≡ true
-all_take p n items e =
-    (and_parts (list_all p (take n items)) (list_all p (drop n items)) (sym (list_all-append p (take n items) (drop n items)) ∙ (ap (list_all p) (take-append-drop n items) ∙ e))).0
-
-all_drop : {X : Type 0} (p : X → Bool) (n : ℕ) (items : List X) → list_all p items ≡ true → list_all p (drop n items) ≡ true
-all_drop p n items e =
-    (and_parts (list_all p (take n items)) (list_all p (drop n items)) (sym (list_all-append p (take n items) (drop n items)) ∙ (ap (list_all p) (take-append-drop n items) ∙ e))).1
-
-all_chunked : {X : Type 0} (p : X → Bool) (size count : ℕ) (items : List X) → list_all p items ≡ true → list_all (list_all p) (chunked size count items) ≡ true
-all_chunked p size zero items e = refl
-all_chunked p size (suc count) items e =
-    and_from (list_all p (take size items)) (list_all (list_all p) (chunked size count (drop size items))) (all_take p size items e) (all_chunked p size count (drop size items) (all_drop p size items e))
+    ap (λ ws. Ok (file_sized count height width ws)) (append_assoc words these (words_of names (next ∷ generations)))))
 
 -- pieces that the items fill are of their size, and keep what holds of all items
 full_chunked : {X : Type 0} (p : X → Bool) (size count : ℕ) (items : List X) → length items ≡ size * count → list_all p items ≡ true
@@ -316,26 +298,10 @@ words_of_generations file posed =
     (words_joined file.names rows ∙
     ap (words_in file.names) (joined-chunked file.width (file.height * file.generations) file.cells ∙ take_all (file.width * (file.height * file.generations)) file.cells all_cells)))
 
-height_whole : (height t : ℕ) → 1 ≤ t → height_after height t ≡ height
-unfolding height_after
-height_whole height zero some = absurd (omega arith)
-height_whole height (suc t) some = refl
-
-width_whole : (width t : ℕ) → 1 ≤ t → width_after width t 0 ≡ width
-unfolding width_after
-width_whole width zero some = absurd (omega arith)
-width_whole width (suc t) some = refl
-
-whole_file : (file : PosedFile) → IsPosed file → file_of (shape_at file.height file.width file.generations 0) (words_in file.names file.cells) ≡ file
-unfolding shape_at
+whole_file : (file : PosedFile) → IsPosed file → file_sized file.generations file.height file.width (words_in file.names file.cells) ≡ file
 whole_file file posed =
     let numbered : IsNumbered file.names file.cells = record { distinct = posed.distinct; spelled = posed.spelled; numbered = posed.numbered } in
-    rw (
-      cells_said-words_in file.names file.cells numbered,
-      names_of-words_in file.names file.cells numbered,
-      height_whole file.height file.generations posed.generations.0,
-      width_whole file.width file.generations posed.generations.0,
-    ) refl
+    rw (cells_said-words_in file.names file.cells numbered, names_of-words_in file.names file.cells numbered) refl
 
 at_start : (height width : ℕ) → shape_at height width 0 0 ≡ no_shape
 unfolding shape_at width_after height_after
@@ -343,7 +309,7 @@ at_start height width = let none : width * (height * 0 + 0) ≡ 0 = omega arith 
 
 printed_read : (names : List (List ℕ)) (count height width : ℕ) (generations : List (List (List Cell))) → Fits count height width → length generations ≡ count → 1 ≤ count
     → are_whole height width generations ≡ true → generations_spelled names generations ≡ true
-    → and_then (lines_taken 1 (lines_of (printed names generations)) (record { shape = no_shape; words = [] })) at_end ≡ Ok (file_of (shape_at height width count 0) (words_of names generations))
+    → and_then (lines_taken 1 (lines_of (printed names generations)) (record { shape = no_shape; words = [] })) at_end ≡ Ok (file_sized count height width (words_of names generations))
 unfolding state
 printed_read names count height width [] fits all some whole spelled = absurd (omega (arith, all, some))
 printed_read names count height width (first ∷ generations) fits all some whole spelled =
@@ -366,5 +332,5 @@ posed_of-posed_text file posed =
     posed_of-counted (posed_text file) ∙
     (ap (λ text. and_then (lines_taken 1 (lines_of text) (record { shape = no_shape; words = [] })) at_end) (text_is_printed file) ∙
     (printed_read file.names file.generations file.height file.width (generations_of file) fits (count_generations file) posed.generations.0 (whole_generations file posed) (spelled_generations file posed) ∙
-    (ap (λ words. Ok (file_of (shape_at file.height file.width file.generations 0) words)) (words_of_generations file posed) ∙
+    (ap (λ words. Ok (file_sized file.generations file.height file.width words)) (words_of_generations file posed) ∙
     ap Ok (whole_file file posed))))

@@ -1,13 +1,15 @@
 -- The rows of a printed file, and what they read as.
-use Rattle.std.proofs.Common.{◌≡◌, ◌<◌, ◌≤◌, ℕ, zero, suc, ◌+◌, ◌-◌, leb, ltb, eqb, Bool, true, false, not, ◌&&◌, List, [], ◌∷◌, ◌++◌, length, get_or, map, None, Some, Ok, refl, sym, ap, ◌∙◌, arith, append_assoc, append-nil}
+use Rattle.std.proofs.Common.{◌≡◌, ◌<◌, ◌≤◌, ℕ, zero, suc, ◌+◌, ◌-◌, leb, eqb, Bool, true, false, not, ◌&&◌, List, [], ◌∷◌, ◌++◌, length, get_or, map, None, Some, Ok, refl, sym, ap, ◌∙◌, arith, append_assoc, append-nil}
 use Rattle.std.specs.List.{list_all, prefix_len, position, join_with_byte, onto_first}
+use Rattle.std.specs.Char.{is_ascii}
 use Rattle.std.specs.Str.Lines.{strip_carriage_return}
-use Rattle.std.proofs.lemmas.Bool.{and_parts, and_from, leb-true, le-leb, le-ltb, ne_eqb}
+use Rattle.std.proofs.lemmas.Bool.{and_parts, and_from, leb-true, le-leb, lt-ltb, le-ltb, ne_eqb}
 use Rattle.std.proofs.lemmas.List.Folds.{list_all-append}
-use Rattle.lls_grid.specs.Text.{rows_text}
+use Rattle.lls_base.specs.Results.{and_then}
+use Rattle.lls_grid.specs.Text.{blank, line_feed, rows_text}
 use Rattle.lls_search_file.specs.declared.cell.Cell.{Cell}
 use Rattle.lls_search_file.specs.Lines.{cut_lines, lines_of, is_blank, is_comment, is_separator}
-use Rattle.lls_search_file.specs.Words.{is_solid, pieces_of, cells_read, cell_before, row_of, ascii_or, and_then}
+use Rattle.lls_search_file.specs.Words.{is_solid, pieces_of, cells_read, cell_before, row_of, ascii_or}
 use Rattle.lls_search_file.specs.Counted.{Counts, line_taken, with_words}
 use Rattle.lls_search_file.specs.Kept.{word_in, words_in, is_spelled}
 use Rattle.lls_search_file.specs.Printing.{word_text}
@@ -16,7 +18,7 @@ use Rattle.lls_search_file.proofs.WordTexts.{is_word_byte, word_all, some_word, 
 
 -- a row's line without its LF
 abbrev pub line_of : List (List ℕ) → List Cell → List ℕ
-line_of names cells = join_with_byte 32 (map (word_text names) cells)
+line_of names cells = join_with_byte blank (map (word_text names) cells)
 
 -- the names of cells are spelled as names
 abbrev pub are_spelled : List (List ℕ) → List Cell → Bool
@@ -78,7 +80,7 @@ line_reads names number column after_comma (cell ∷ cells) e = behind cells (λ
         let word = word_text names cell in
         let line = line_of names (next ∷ rest) in
         let solid : list_all is_solid word ≡ true = all_as is_word_byte is_solid solid_byte word (word_all names cell spelled) in
-        ap (cells_read number after_comma) (word_then column word (32 ∷ line) (some_word names cell spelled) solid refl) ∙
+        ap (cells_read number after_comma) (word_then column word (blank ∷ line) (some_word names cell spelled) solid refl) ∙
         (ap (λ w. cell_before number column w (cells_read number false (pieces_of ((column + length word) + 1) line))) (word_reads names cell spelled) ∙
         ap (cell_before number column (Some (word_in names cell))) (more ((column + length word) + 1)))
 
@@ -92,17 +94,17 @@ line_bytes names (cell ∷ cells) e = behind cells (line_bytes names cells (and_
         all_as is_word_byte is_row_byte row_byte (word_text names cell) (word_all names cell (and_parts (is_spelled (word_in names cell)) (are_spelled names cells) e).0)
     behind (next ∷ rest) more =
         let word = all_as is_word_byte is_row_byte row_byte (word_text names cell) (word_all names cell (and_parts (is_spelled (word_in names cell)) (are_spelled names cells) e).0) in
-        list_all-append is_row_byte (word_text names cell) (32 ∷ line_of names (next ∷ rest)) ∙ rw (word, more) refl
+        list_all-append is_row_byte (word_text names cell) (blank ∷ line_of names (next ∷ rest)) ∙ rw (word, more) refl
 
--- no byte of it is above 127
-low_front : (bytes : List ℕ) → list_all is_row_byte bytes ≡ true → prefix_len (λ b. not (ltb 127 b)) bytes ≡ length bytes
+-- every byte of it is ASCII
+low_front : (bytes : List ℕ) → list_all is_row_byte bytes ≡ true → prefix_len (λ b. not (not (is_ascii b))) bytes ≡ length bytes
 low_front [] e = refl
 low_front (b ∷ bytes) e =
     let parts = and_parts (is_row_byte b) (list_all is_row_byte bytes) e in
-    let low = le-ltb 127 b (omega (arith, leb-true b 122 (and_parts (leb 32 b) (leb b 122) parts.0).1)) in
+    let low = lt-ltb b 128 (omega (arith, leb-true b 122 (and_parts (leb 32 b) (leb b 122) parts.0).1)) in
     rw (low, low_front bytes parts.1) (omega arith)
 
-no_high : (bytes : List ℕ) → list_all is_row_byte bytes ≡ true → position (λ b. ltb 127 b) bytes ≡ None
+no_high : (bytes : List ℕ) → list_all is_row_byte bytes ≡ true → position (λ b. not (is_ascii b)) bytes ≡ None
 no_high bytes e =
     let not_below = le-ltb (length bytes) (length bytes) (omega arith) in
     rw (low_front bytes e, not_below) refl
@@ -121,7 +123,7 @@ line_begins : (names : List (List ℕ)) (cell : Cell) (cells : List Cell) → is
 line_begins names cell [] e =
     ap begins_word (sym (append-nil (word_text names cell))) ∙ word_first (word_text names cell) [] (some_word names cell e) (word_all names cell e)
 line_begins names cell (next ∷ cells) e =
-    word_first (word_text names cell) (32 ∷ line_of names (next ∷ cells)) (some_word names cell e) (word_all names cell e)
+    word_first (word_text names cell) (blank ∷ line_of names (next ∷ cells)) (some_word names cell e) (word_all names cell e)
 
 no_comment : (bytes : List ℕ) → begins_word bytes ≡ true → is_comment bytes ≡ false
 unfolding begins_word
@@ -146,7 +148,7 @@ row_taken names number (cell ∷ cells) counts some e =
     rw (no_comment line begins, no_separator line begins) (ap (λ read. and_then read (with_words number counts)) read)
 
 -- the lines of a text that begins with a printed row
-cut_row : (line rest : List ℕ) → list_all is_row_byte line ≡ true → cut_lines (line ++ 10 ∷ rest) ≡ line ∷ cut_lines rest
+cut_row : (line rest : List ℕ) → list_all is_row_byte line ≡ true → cut_lines (line ++ line_feed ∷ rest) ≡ line ∷ cut_lines rest
 cut_row [] rest e = refl
 cut_row (b ∷ line) rest e =
     let parts = and_parts (is_row_byte b) (list_all is_row_byte line) e in
@@ -159,7 +161,7 @@ no_return_at (b ∷ line) zero e =
     ne_eqb b 13 (λ same. absurd (omega (arith, leb-true 32 b (and_parts (leb 32 b) (leb b 122) (and_parts (is_row_byte b) (list_all is_row_byte line) e).0).0, same)))
 no_return_at (b ∷ line) (suc i) e = no_return_at line i (and_parts (is_row_byte b) (list_all is_row_byte line) e).1
 
-lines_row : (line rest : List ℕ) → list_all is_row_byte line ≡ true → lines_of (line ++ 10 ∷ rest) ≡ line ∷ lines_of rest
+lines_row : (line rest : List ℕ) → list_all is_row_byte line ≡ true → lines_of (line ++ line_feed ∷ rest) ≡ line ∷ lines_of rest
 lines_row line rest e =
     ap (map strip_carriage_return) (cut_row line rest e) ∙ rw (no_return_at line (length line - 1) e) refl
 
@@ -175,6 +177,6 @@ lines_rows names (row ∷ rows) rest e =
     let parts = and_parts (are_spelled names row) (rows_spelled names rows) e in
     let line = line_of names row in
     let more = rows_text (map (map (word_text names)) rows) in
-    let split : ((line ++ 10 ∷ []) ++ more) ++ rest ≡ line ++ (10 ∷ (more ++ rest)) =
-    append_assoc (line ++ 10 ∷ []) more rest ∙ append_assoc line (10 ∷ []) (more ++ rest) in
+    let split : ((line ++ line_feed ∷ []) ++ more) ++ rest ≡ line ++ (line_feed ∷ (more ++ rest)) =
+    append_assoc (line ++ line_feed ∷ []) more rest ∙ append_assoc line (line_feed ∷ []) (more ++ rest) in
     ap lines_of split ∙ (lines_row line (more ++ rest) (line_bytes names row parts.0) ∙ ap (λ lines. line ∷ lines) (lines_rows names rows rest parts.1))

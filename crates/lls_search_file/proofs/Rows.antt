@@ -1,7 +1,9 @@
 -- What every row has: a cell at least, and names spelled as names.
-use Rattle.std.proofs.Common.{◌≡◌, ◌≤◌, ℕ, ◌+◌, ◌-◌, leb, ltb, eqb, Bool, true, false, cond, ◌&&◌, List, [], ◌∷◌, length, take, Option, None, Some, Result, Ok, Err, refl, sym, ap, ◌∙◌, arith}
+use Rattle.std.proofs.Common.{◌≡◌, ◌≤◌, ℕ, ◌+◌, ◌-◌, leb, eqb, Bool, true, false, cond, not, ◌&&◌, List, [], ◌∷◌, length, take, Option, None, Some, Result, Ok, Err, refl, sym, ap, ◌∙◌, arith}
+use Rattle.std.specs.Prelude.{codes}
 use Rattle.std.specs.Option.{option_map}
 use Rattle.std.specs.List.{list_all, position}
+use Rattle.std.specs.Char.{is_ascii}
 use Rattle.std.proofs.lemmas.Bool.{and_parts, leb-true, le-leb}
 use Rattle.lls_search_file.specs.declared.error.PosedError.{PosedError}
 use Rattle.lls_search_file.specs.Posed.{is_name, same_text}
@@ -25,9 +27,9 @@ negated-spelled (b ∷ name) = chosen_said (eqb b 45 && is_name name) (Some (neg
 said_of-spelled : (body : List ℕ) → spelled_said (said_of body) ≡ true
 unfolding spelled_said
 said_of-spelled body =
-    chosen_said (same_text body (48 ∷ [])) (Some dead) _ (λ _. refl)
-    (chosen_said (same_text body (49 ∷ [])) (Some live) _ (λ _. refl)
-    (chosen_said (same_text body (42 ∷ [])) (Some free) (name_said_of body) (λ _. refl)
+    chosen_said (same_text body (codes "0")) (Some dead) _ (λ _. refl)
+    (chosen_said (same_text body (codes "1")) (Some live) _ (λ _. refl)
+    (chosen_said (same_text body (codes "*")) (Some free) (name_said_of body) (λ _. refl)
     (chosen_said (is_name body) (Some (named body)) (negated_name body) (λ e. e) (negated-spelled body))))
 
 spelled_word : Option Word → Bool
@@ -106,10 +108,10 @@ ascii_or-holds test on_err line (Some index) read e = on_err _
 pub row-spelled : (line : ℕ) (bytes : List ℕ) (cells : List Word) → row_of line bytes ≡ Ok cells → list_all is_spelled cells ≡ true
 unfolding spelled_read
 row-spelled line bytes cells e =
-    sym (ap spelled_read e) ∙ ascii_or-holds spelled_read (λ fault. refl) line (position (λ b. ltb 127 b) bytes) (cells_read line true (pieces_of 1 bytes)) (cells_read-spelled line true (pieces_of 1 bytes))
+    sym (ap spelled_read e) ∙ ascii_or-holds spelled_read (λ fault. refl) line (position (λ b. not (is_ascii b)) bytes) (cells_read line true (pieces_of 1 bytes)) (cells_read-spelled line true (pieces_of 1 bytes))
 
 pub row-some : (line : ℕ) (bytes : List ℕ) (cells : List Word) → is_separator bytes ≡ false → row_of line bytes ≡ Ok cells → 1 ≤ length cells
 unfolding some_read
 row-some line bytes cells solid e =
     leb-true 1 (length cells)
-    (sym (ap some_read e) ∙ ascii_or-holds some_read (λ fault. refl) line (position (λ b. ltb 127 b) bytes) (cells_read line true (pieces_of 1 bytes)) (cells_read-some line 1 bytes solid))
+    (sym (ap some_read e) ∙ ascii_or-holds some_read (λ fault. refl) line (position (λ b. not (is_ascii b)) bytes) (cells_read line true (pieces_of 1 bytes)) (cells_read-some line 1 bytes solid))

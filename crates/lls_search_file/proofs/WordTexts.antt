@@ -1,13 +1,14 @@
 -- The words of cells as they are printed, and what they read as.
 use Rattle.std.proofs.Common.{◌≡◌, ◌<◌, ◌≤◌, ℕ, zero, suc, ◌-◌, leb, eqb, Bool, true, false, cond, not, ◌&&◌, ◌||◌, List, [], ◌∷◌, ◌++◌, length, take, get_or, Some, refl, ◌∙◌, arith, length-append, lit<}
 use Rattle.std.specs.List.{list_all}
+use Rattle.std.specs.Char.{is_ascii_alphabetic, is_ascii_alphanumeric}
 use Rattle.std.proofs.lemmas.Bool.{and_parts, and_from, leb-true, le-leb, ne_eqb}
 use Rattle.std.proofs.lemmas.List.Folds.{list_all-append}
 use Rattle.std.proofs.Math.Seq.{get_or-append_seam, take-append_seam}
 use Rattle.lls_search_file.specs.declared.cell.Cell.{Cell}
 use Rattle.lls_search_file.specs.declared.cell.Kind.{Kind}
 use Rattle.lls_search_file.specs.declared.cell.Kind.TheVariants.{Dead, Live, Free, Named, Negated}
-use Rattle.lls_search_file.specs.Posed.{is_name, is_letter, is_letter_or_digit}
+use Rattle.lls_search_file.specs.Posed.{is_name}
 use Rattle.lls_search_file.specs.Words.{named, said_of, word_of}
 use Rattle.lls_search_file.specs.Kept.{said_in, word_in, is_spelled, is_said_spelled}
 use Rattle.lls_search_file.specs.Printing.{word_text, body_text}
@@ -30,19 +31,21 @@ either_le false y low high b left right e = right e
 between : (low high b : ℕ) → (leb low b && leb b high) ≡ true → (low ≤ b) × (b ≤ high)
 between low high b e = let parts = and_parts (leb low b) (leb b high) e in (leb-true low b parts.0, leb-true b high parts.1)
 
-pub letter-between : (b : ℕ) → is_letter b ≡ true → (65 ≤ b) × (b ≤ 122)
+pub letter-between : (b : ℕ) → is_ascii_alphabetic b ≡ true → (65 ≤ b) × (b ≤ 122)
 letter-between b e =
     either_le (leb 65 b && leb b 90) (leb 97 b && leb b 122) 65 122 b
     (λ t. let range = between 65 90 b t in (range.0, omega (arith, range.1)))
     (λ t. let range = between 97 122 b t in (omega (arith, range.0), range.1)) e
 
-letter_or_digit-between : (b : ℕ) → is_letter_or_digit b ≡ true → (48 ≤ b) × (b ≤ 122)
+letter_or_digit-between : (b : ℕ) → is_ascii_alphanumeric b ≡ true → (48 ≤ b) × (b ≤ 122)
 letter_or_digit-between b e =
-    either_le (is_letter b) (leb 48 b && leb b 57) 48 122 b
-    (λ t. let range = letter-between b t in (omega (arith, range.0), range.1))
-    (λ t. let range = between 48 57 b t in (range.0, omega (arith, range.1))) e
+    either_le ((leb 48 b && leb b 57) || (leb 65 b && leb b 90)) (leb 97 b && leb b 122) 48 122 b
+    (λ t. either_le (leb 48 b && leb b 57) (leb 65 b && leb b 90) 48 122 b
+    (λ d. let range = between 48 57 b d in (range.0, omega (arith, range.1)))
+    (λ u. let range = between 65 90 b u in (omega (arith, range.0), omega (arith, range.1))) t)
+    (λ t. let range = between 97 122 b t in (omega (arith, range.0), range.1)) e
 
-body_byte : (b : ℕ) → is_letter_or_digit b ≡ true → is_body_byte b ≡ true
+body_byte : (b : ℕ) → is_ascii_alphanumeric b ≡ true → is_body_byte b ≡ true
 body_byte b e =
     let range = letter_or_digit-between b e in
     in_range 42 b (omega (arith, range.0)) range.1 (ne_eqb b 44 (λ same. absurd (omega (arith, range.0, same))))
@@ -53,9 +56,9 @@ all_weaker p q weaker (b ∷ bytes) e =
     let parts = and_parts (p b) (list_all p bytes) e in
     and_from (q b) (list_all q bytes) (weaker b parts.0) (all_weaker p q weaker bytes parts.1)
 
-name_letters : (b : ℕ) (bytes : List ℕ) → is_name (b ∷ bytes) ≡ true → (is_letter b ≡ true) × (list_all is_letter_or_digit bytes ≡ true)
+name_letters : (b : ℕ) (bytes : List ℕ) → is_name (b ∷ bytes) ≡ true → (is_ascii_alphabetic b ≡ true) × (list_all is_ascii_alphanumeric bytes ≡ true)
 name_letters b bytes e =
-    and_parts (is_letter b) (list_all is_letter_or_digit bytes) (and_parts (is_letter b && list_all is_letter_or_digit bytes) (leb (length bytes) 31) e).0
+    and_parts (is_ascii_alphabetic b) (list_all is_ascii_alphanumeric bytes) (and_parts (is_ascii_alphabetic b && list_all is_ascii_alphanumeric bytes) (leb (length (b ∷ bytes)) 32) e).0
 
 name_body : (name : List ℕ) → is_name name ≡ true → list_all is_body_byte name ≡ true
 name_body [] e = refl
@@ -64,7 +67,7 @@ name_body (b ∷ bytes) e =
     let range = letter-between b parts.0 in
     and_from (is_body_byte b) (list_all is_body_byte bytes)
     (in_range 42 b (omega (arith, range.0)) range.1 (ne_eqb b 44 (λ same. absurd (omega (arith, range.0, same)))))
-    (all_weaker is_letter_or_digit is_body_byte body_byte bytes parts.1)
+    (all_weaker is_ascii_alphanumeric is_body_byte body_byte bytes parts.1)
 
 body_all : (names : List (List ℕ)) (kind : Kind) → is_said_spelled (said_in names kind) ≡ true → list_all is_body_byte (body_text names kind) ≡ true
 body_all names Dead e = refl

@@ -1,25 +1,30 @@
--- What stays true while a search file is read.
-use Rattle.std.specs.Prelude.{◌≡◌, ◌<◌, ◌≤◌, ℕ, ◌+◌, ◌*◌, Bool, true, if◌then◌else◌, List, [], ◌∷◌, ◌++◌, length, map, Option, None, Some, slice_index_or}
+-- For private contracts alone: what stays true while a search file is read or printed.
+use Rattle.std.specs.Prelude.{◌≡◌, ◌<◌, ◌≤◌, ℕ, ◌+◌, ◌*◌, nat_lt, Bool, true, if◌then◌else◌, List, [], ◌∷◌, ◌++◌, length, map, Option, None, Some, slice_index_or}
 use Rattle.std.specs.Borrow.{Bor}
 use Rattle.std.specs.List.{list_all, list_any}
+use Rattle.std.specs.Option.{option_map_or}
+use Rattle.lls_grid.specs.declared.history.TheConstants.History.{MOST_GENERATIONS, MOST_HEIGHT, MOST_WIDTH, MOST_CELLS}
 use Rattle.lls_search_file.specs.declared.cell.Cell.{Cell}
 use Rattle.lls_search_file.specs.declared.cell.Kind.{Kind}
 use Rattle.lls_search_file.specs.declared.cell.Kind.TheVariants.{Dead, Live, Free, Named, Negated}
 use Rattle.lls_search_file.specs.declared.shape.Shape.{Shape}
-use Rattle.lls_search_file.specs.Posed.{is_name, same_text, are_distinct, are_numbered}
+use Rattle.lls_search_file.specs.Posed.{is_name, name_of, same_text, are_distinct, are_numbered}
 use Rattle.lls_search_file.specs.Words.{Said, dead, live, free, named, negated, Word}
+
+-- how many rows the generations have that have ended
+abbrev pub rows_ended : Option ℕ → ℕ → ℕ
+rows_ended None ended = 0
+rows_ended (Some height) ended = height * ended
 
 -- sizes within the limits, and a cell for each place of the rows
 pub record IsShape (s : Shape) : Type 0 where
-  pub width : s.width ≤ 64
-  pub height : s.height ≤ 64
-  pub ended : s.ended ≤ 64
-  pub begun : 0 < s.rows → s.ended < 64
-  pub first : s.ended ≡ 0 → (s.rows ≤ 64) × (s.height ≡ 0)
-  pub later : 0 < s.ended → (1 ≤ s.height) × (s.rows ≤ s.height) × (1 ≤ s.width)
-  pub wide : 0 < s.rows → 1 ≤ s.width
-  pub count : s.cells ≡ s.width * (s.height * s.ended + s.rows)
-  pub most : s.cells ≤ 8192
+  pub unbegun : s.width ≡ None → (s.height ≡ None) × (s.rows ≡ 0) × (s.cells ≡ 0)
+  pub width : (width : ℕ) → s.width ≡ Some width → (1 ≤ width) × (width ≤ MOST_WIDTH) × (s.cells ≡ width * (rows_ended s.height s.ended + s.rows))
+  pub first : s.height ≡ None → (s.ended ≡ 0) × (s.rows ≤ MOST_HEIGHT)
+  pub height : (height : ℕ) → s.height ≡ Some height → (1 ≤ height) × (height ≤ MOST_HEIGHT) × (s.rows ≤ height) × (1 ≤ s.ended)
+  pub ended : s.ended ≤ MOST_GENERATIONS
+  pub begun : 0 < s.rows → s.ended < MOST_GENERATIONS
+  pub most : s.cells ≤ MOST_CELLS
 
 -- the word of a cell, with its name in place of the name's number
 abbrev pub said_in : List (List ℕ) → Kind → Said
@@ -66,3 +71,7 @@ pub record IsKept (shape : Shape) (names : List (List ℕ)) (cells : List Cell) 
   pub sizes : IsShape shape
   pub count : length cells ≡ shape.cells
   pub numbered : IsNumbered names cells
+
+-- a cell's name, where it has one, is among that many
+abbrev pub is_named_within : ℕ → Cell → Bool
+is_named_within count cell = option_map_or (λ number. nat_lt number count) (name_of cell.kind) true

@@ -1,6 +1,6 @@
 pub mod Counted
+pub mod Faults
 pub mod Kept
-pub mod Law
 pub mod Lines
 pub mod Plain
 pub mod Posed

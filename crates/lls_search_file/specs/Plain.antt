@@ -1,11 +1,12 @@
 -- Search files that are histories: dead and live cells alone, without marks.
-use Rattle.std.specs.Prelude.{◌≡◌, ℕ, ◌*◌, ◌/◌, ◌%◌, Bool, true, false, not, if◌then◌else◌, List, map, Option, None, Some, Result, Ok, Err}
+use Rattle.std.specs.Prelude.{◌≡◌, ◌≢◌, ℕ, ◌*◌, ◌/◌, ◌%◌, Bool, true, false, not, if◌then◌else◌, List, map, Option, None, Some, Result, Ok, Err}
 use Rattle.std.specs.List.{position}
 use Rattle.lls_grid.specs.History.{History, folded}
 use Rattle.lls_search_file.specs.declared.cell.Cell.{Cell}
 use Rattle.lls_search_file.specs.declared.cell.Kind.{Kind}
 use Rattle.lls_search_file.specs.declared.cell.Kind.TheVariants.{Dead, Live, Free, Named, Negated}
 use Rattle.lls_search_file.specs.declared.error.PosedError.{PosedError}
+use Rattle.lls_search_file.specs.declared.error.PosedError.TheVariants as posed
 use Rattle.lls_search_file.specs.declared.plain.HistoryError.{HistoryError}
 use Rattle.lls_search_file.specs.declared.plain.HistoryError.TheVariants.{Text, NotPlain, Memory}
 use Rattle.lls_search_file.specs.Posed.{PosedFile}
@@ -49,11 +50,7 @@ plain_read (Err fault) = Err (Text fault)
 abbrev pub plain_of : List ℕ → Result History HistoryError
 plain_of bytes = plain_read (posed_of bytes)
 
--- what a call answered is what reading gives, unless memory ran out
-abbrev pub FailsPlain : HistoryError → Result History HistoryError → Type 0
-FailsPlain Memory read = Unit {0}
-FailsPlain fault read = read ≡ Err fault
-
-abbrev pub GivesHistory : Result History HistoryError → Result History HistoryError → Type 0
-GivesHistory (Ok history) read = read ≡ Ok history
-GivesHistory (Err fault) read = FailsPlain fault read
+-- how a refusal of a search file refuses a history
+pub record IsRefusal (fault : PosedError) (refusal : HistoryError) : Type 0 where
+  pub memory : fault ≡ posed.Memory → refusal ≡ Memory
+  pub text : fault ≢ posed.Memory → refusal ≡ Text fault

@@ -1,9 +1,13 @@
 -- A posed file: sizes, cells and the names that tie cells together.
-use Rattle.std.specs.Prelude.{◌≡◌, ◌≤◌, ℕ, ◌+◌, ◌*◌, Bool, true, false, not, List, [], ◌∷◌, length, Option, None, Some, nat_lt, nat_le, ◌==◌, ◌&&◌, ◌||◌, if◌then◌else◌}
+use Rattle.std.specs.Prelude.{◌≡◌, ◌≤◌, ℕ, ◌+◌, ◌*◌, Bool, true, false, not, List, [], ◌∷◌, length, Option, None, Some, nat_lt, nat_le, ◌==◌, ◌&&◌, if◌then◌else◌}
 use Rattle.std.specs.List.{list_all, list_any}
+use Rattle.std.specs.Char.{is_ascii_alphabetic, is_ascii_alphanumeric}
+use Rattle.lls_grid.specs.declared.history.TheConstants.History.{MOST_GENERATIONS, MOST_HEIGHT, MOST_WIDTH, MOST_CELLS}
+use Rattle.lls_grid.specs.declared.sizes.Sizes.{Sizes}
 use Rattle.lls_search_file.specs.declared.cell.Cell.{Cell}
 use Rattle.lls_search_file.specs.declared.cell.Kind.{Kind}
 use Rattle.lls_search_file.specs.declared.cell.Kind.TheVariants.{Dead, Live, Free, Named, Negated}
+use Rattle.lls_search_file.specs.declared.posed.TheConstants.Names.{MOST_BYTES}
 
 -- Cells stand in the order generation, row, column, and names in the order of their first cells.
 pub record PosedFile : Type 0 where
@@ -12,6 +16,9 @@ pub record PosedFile : Type 0 where
   pub width : ℕ
   pub cells : List Cell
   pub names : List (List ℕ)
+
+abbrev pub sizes_of : PosedFile → Sizes
+sizes_of file = record { generations = file.generations; height = file.height; width = file.width }
 
 -- the number of a cell's name
 abbrev pub name_of : Kind → Option ℕ
@@ -32,17 +39,10 @@ are_numbered cells count None = false
 are_numbered [] count (Some next) = next == count
 are_numbered (cell ∷ cells) count (Some next) = are_numbered cells count (names_after (name_of cell.kind) next)
 
--- an ASCII letter, and a letter or a digit
-abbrev pub is_letter : ℕ → Bool
-is_letter b = (nat_le 65 b && nat_le b 90) || (nat_le 97 b && nat_le b 122)
-
-abbrev pub is_letter_or_digit : ℕ → Bool
-is_letter_or_digit b = is_letter b || (nat_le 48 b && nat_le b 57)
-
--- a letter, and then up to 31 letters or digits
+-- an ASCII letter and then ASCII letters or digits, not too many
 abbrev pub is_name : List ℕ → Bool
 is_name [] = false
-is_name (b ∷ bs) = is_letter b && list_all is_letter_or_digit bs && nat_le (length bs) 31
+is_name (b ∷ bs) = is_ascii_alphabetic b && list_all is_ascii_alphanumeric bs && nat_le (length (b ∷ bs)) MOST_BYTES
 
 -- two texts are the same
 abbrev pub same_text : List ℕ → List ℕ → Bool
@@ -57,11 +57,11 @@ are_distinct (name ∷ names) = not (list_any (same_text name) names) && are_dis
 
 -- what every posed file keeps
 pub record IsPosed (file : PosedFile) : Type 0 where
-  pub generations : (1 ≤ file.generations) × (file.generations ≤ 64)
-  pub height : (1 ≤ file.height) × (file.height ≤ 64)
-  pub width : (1 ≤ file.width) × (file.width ≤ 64)
+  pub generations : (1 ≤ file.generations) × (file.generations ≤ MOST_GENERATIONS)
+  pub height : (1 ≤ file.height) × (file.height ≤ MOST_HEIGHT)
+  pub width : (1 ≤ file.width) × (file.width ≤ MOST_WIDTH)
   pub count : length file.cells ≡ file.width * (file.height * file.generations)
-  pub most : length file.cells ≤ 8192
+  pub most : length file.cells ≤ MOST_CELLS
   pub distinct : are_distinct file.names ≡ true
   pub spelled : list_all is_name file.names ≡ true
   pub numbered : are_numbered file.cells (length file.names) (Some 0) ≡ true

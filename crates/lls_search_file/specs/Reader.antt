@@ -1,4 +1,4 @@
--- What the reader of a search file has, as the lines so far have given it.
+-- For private contracts alone: what the reader of a search file has, as the lines so far have given it.
 use Rattle.lls_search_file.specs.declared.read.Reader as code
 use Rattle.lls_search_file.specs.Counted.{Counts}
 use Rattle.lls_search_file.specs.Kept.{IsKept, texts, words_in}

@@ -1,23 +1,16 @@
 -- The reading of a search file: its value, or its first fault.
-use Rattle.std.specs.Prelude.{◌≡◌, ℕ, ◌+◌, ◌==◌, nat_lt, Bool, not, if◌then◌else◌, List, [], ◌∷◌, ◌++◌, length, map, filter, flat_map, sum_by, slice_index_or, Option, None, Some, Result, Ok, Err}
+use Rattle.std.specs.Prelude.{ℕ, ◌+◌, ◌==◌, nat_lt, Bool, not, if◌then◌else◌, List, [], ◌∷◌, ◌++◌, length, map, filter, flat_map, sum_by, slice_index_or, Option, None, Some, Result, Ok, Err}
 use Rattle.std.specs.List.{filter_map, position_or_len}
+use Rattle.lls_base.specs.Results.{and_then}
+use Rattle.lls_grid.specs.declared.history.TheConstants.History.{MOST_GENERATIONS, MOST_HEIGHT, MOST_WIDTH, MOST_CELLS}
 use Rattle.lls_search_file.specs.declared.cell.Cell.{Cell}
 use Rattle.lls_search_file.specs.declared.cell.Kind.{Kind}
 use Rattle.lls_search_file.specs.declared.cell.Kind.TheVariants.{Dead, Live, Free, Named, Negated}
 use Rattle.lls_search_file.specs.declared.error.PosedError.{PosedError}
-use Rattle.lls_search_file.specs.declared.error.PosedError.TheVariants.{Empty, Ragged, Sizes, TooWide, TooHigh, TooMany, TooManyCells, Memory}
+use Rattle.lls_search_file.specs.declared.error.PosedError.TheVariants.{Empty, Ragged, Sizes, TooWide, TooHigh, TooMany, TooManyCells}
 use Rattle.lls_search_file.specs.Posed.{PosedFile, same_text}
 use Rattle.lls_search_file.specs.Lines.{lines_of, is_comment, is_separator}
-use Rattle.lls_search_file.specs.Words.{Said, dead, live, free, named, negated, Word, and_then, row_of}
-
--- what a call answered, seen by view, is what reading gives, unless memory ran out
-abbrev pub Fails : {Y : Type 0} → PosedError → Result Y PosedError → Type 0
-Fails Memory read = Unit {0}
-Fails fault read = read ≡ Err fault
-
-abbrev pub Gives : {X Y : Type 0} → (X → Y) → Result X PosedError → Result Y PosedError → Type 0
-Gives view (Ok x) read = read ≡ Ok (view x)
-Gives view (Err fault) read = Fails fault read
+use Rattle.lls_search_file.specs.Words.{Said, dead, live, free, named, negated, Word, row_of}
 
 -- lists one behind another
 abbrev pub joined : {X : Type 0} → List (List X) → List X
@@ -46,13 +39,13 @@ unless_fault [] value = Ok value
 unless_fault (None ∷ faults) value = unless_fault faults value
 unless_fault (Some fault ∷ faults) value = Err fault
 
--- a row of more than 64 words
+-- a row of too many words
 abbrev pub too_wide : List Word → Option PosedError
-too_wide row = fault_if (nat_lt 64 (length row)) (TooWide (length row))
+too_wide row = fault_if (nat_lt MOST_WIDTH (length row)) (TooWide (length row))
 
--- a row that begins a 65th generation
+-- a row that begins one generation too many
 abbrev pub too_many : List (List (List Word)) → List (List Word) → Option PosedError
-too_many ended [] = fault_if (length ended == 64) (TooMany 65)
+too_many ended [] = fault_if (length ended == MOST_GENERATIONS) (TooMany (MOST_GENERATIONS + 1))
 too_many ended (row ∷ rows) = None
 
 -- a row with another number of words than the first row of all
@@ -60,14 +53,14 @@ abbrev pub ragged : ℕ → List (List Word) → List Word → Option PosedError
 ragged line [] row = None
 ragged line (first ∷ rows) row = fault_if (not (length row == length first)) (Ragged line (length first) (length row))
 
--- one row too many for the generation that goes on: the 65th of the first, or one more than the first has
+-- one row too many for the generation that goes on: for the first, or one more than the first has
 abbrev pub too_high : List (List (List Word)) → List (List Word) → Option PosedError
-too_high [] begun = fault_if (length begun == 64) (TooHigh 65)
+too_high [] begun = fault_if (length begun == MOST_HEIGHT) (TooHigh (MOST_HEIGHT + 1))
 too_high (first ∷ later) begun = fault_if (length begun == length first) (Sizes (length (first ∷ later)) (length first) (length first + 1))
 
--- rows of more than 8,192 words together
+-- rows of too many words together
 abbrev pub too_many_cells : List (List Word) → Option PosedError
-too_many_cells rows = fault_if (nat_lt 8192 (sum_by length rows)) (TooManyCells (sum_by length rows))
+too_many_cells rows = fault_if (nat_lt MOST_CELLS (sum_by length rows)) (TooManyCells (sum_by length rows))
 
 -- what may be wrong with one more row, the first fault first
 abbrev pub row_faults : ℕ → Rows → List Word → List (Option PosedError)

@@ -1,4 +1,4 @@
--- Words as a contract sees them: without where they lie in memory.
+-- For private contracts alone: words without where they lie in memory.
 use Rattle.lls_search_file.specs.declared.word.Said as code
 use Rattle.lls_search_file.specs.declared.word.Said.TheVariants as says
 use Rattle.lls_search_file.specs.declared.word.Word as read

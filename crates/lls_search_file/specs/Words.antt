@@ -1,16 +1,23 @@
 -- The words of a row and the cells that they stand for.
-use Rattle.std.specs.Prelude.{ℕ, ◌+◌, ◌-◌, ◌==◌, ◌&&◌, ◌||◌, nat_lt, Bool, true, false, not, if◌then◌else◌, List, [], ◌∷◌, length, take, slice_index, Option, None, Some, Result, Ok, Err}
+use Rattle.std.specs.Prelude.{ℕ, ◌+◌, ◌-◌, ◌==◌, ◌&&◌, ◌||◌, codes, Bool, true, false, not, if◌then◌else◌, List, [], ◌∷◌, length, take, slice_index, Option, None, Some, Result, Ok, Err}
 use Rattle.std.specs.Option.{option_map}
 use Rattle.std.specs.List.{position}
+use Rattle.std.specs.Char.{is_ascii}
+use Rattle.lls_base.specs.Results.{and_then}
 use Rattle.lls_search_file.specs.declared.error.PosedError.{PosedError}
 use Rattle.lls_search_file.specs.declared.error.PosedError.TheVariants.{BadCell, NotAscii}
 use Rattle.lls_search_file.specs.Posed.{is_name, same_text}
 use Rattle.lls_search_file.specs.Lines.{is_blank}
 
--- what follows from a part that was read, or its fault
-abbrev pub and_then : {A B : Type 0} → Result A PosedError → (A → Result B PosedError) → Result B PosedError
-and_then (Ok part) more = more part
-and_then (Err fault) more = Err fault
+-- the bytes with a meaning of their own: `,` between cells, `-` before a name, `'` behind a marked cell
+abbrev pub comma_byte : ℕ
+comma_byte = 44
+
+abbrev pub minus_byte : ℕ
+minus_byte = 45
+
+abbrev pub mark_byte : ℕ
+mark_byte = 39
 
 -- what a word says of a cell's value, with the name itself where it is a name
 pub data Said : Type 0 where
@@ -28,7 +35,7 @@ pub record Word : Type 0 where
 -- `-` and a name
 abbrev pub negated_name : List ℕ → Option Said
 negated_name [] = None
-negated_name (b ∷ name) = if b == 45 && is_name name then Some (negated name) else None
+negated_name (b ∷ name) = if b == minus_byte && is_name name then Some (negated name) else None
 
 -- a name, or `-` and a name
 abbrev pub name_said_of : List ℕ → Option Said
@@ -37,9 +44,9 @@ name_said_of body = if is_name body then Some (named body) else negated_name bod
 -- what a word without its mark says: `0`, `1`, `*`, a name, or `-` and a name
 abbrev pub said_of : List ℕ → Option Said
 said_of body =
-    if same_text body (48 ∷ []) then Some dead else
-    if same_text body (49 ∷ []) then Some live else
-    if same_text body (42 ∷ []) then Some free else
+    if same_text body (codes "0") then Some dead else
+    if same_text body (codes "1") then Some live else
+    if same_text body (codes "*") then Some free else
     name_said_of body
 
 abbrev pub marked : Bool → Said → Word
@@ -47,7 +54,7 @@ marked mark says = record { mark = mark; says = says }
 
 -- a `'` at the end of a word
 abbrev pub has_mark : List ℕ → Bool
-has_mark word = slice_index word (length word - 1) == 39
+has_mark word = slice_index word (length word - 1) == mark_byte
 
 -- the cell of a word, where it is one
 abbrev pub word_of : List ℕ → Option Word
@@ -60,7 +67,7 @@ pub data Piece : Type 0 where
   comma : ℕ → Piece
 
 abbrev pub is_comma : ℕ → Bool
-is_comma b = b == 44
+is_comma b = b == comma_byte
 
 -- a byte that belongs to a word
 abbrev pub is_solid : ℕ → Bool
@@ -98,11 +105,11 @@ cells_read line after_comma [] = Ok []
 cells_read line after_comma (comma column ∷ pieces) = if after_comma then Err (BadCell line column) else cells_read line true pieces
 cells_read line after_comma (word column bytes ∷ pieces) = cell_before line column (word_of bytes) (cells_read line false pieces)
 
--- no byte above 127 stands in a row
+-- every byte of a row is ASCII
 abbrev pub ascii_or : ℕ → Option ℕ → Result (List Word) PosedError → Result (List Word) PosedError
 ascii_or line None cells = cells
 ascii_or line (Some index) cells = Err (NotAscii line (index + 1))
 
 -- the cells of a row, or its first fault
 abbrev pub row_of : ℕ → List ℕ → Result (List Word) PosedError
-row_of line bytes = ascii_or line (position (λ b. nat_lt 127 b) bytes) (cells_read line true (pieces_of 1 bytes))
+row_of line bytes = ascii_or line (position (λ b. not (is_ascii b)) bytes) (cells_read line true (pieces_of 1 bytes))

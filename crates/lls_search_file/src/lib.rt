@@ -15,7 +15,7 @@ mod word;
 
 pub use cell::{Cell, Cells, Kind};
 pub use error::PosedError;
-pub use plain::{HistoryError, histories_read_back, read_history};
+pub use plain::{HistoryError, read_history};
 pub use posed::{Names, Posed};
 pub use print::print_posed;
 pub use read::read_posed;

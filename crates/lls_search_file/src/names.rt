@@ -11,6 +11,7 @@ use crate::word::{Said, Word};
 use crate::{Cell, Kind};
 use indexmap::IndexSet;
 use lls_base::{Memory, Name};
+use lls_grid::History;
 use std::alloc::Global;
 
 /// Puts the cells of words behind the others, their names numbered.
@@ -21,7 +22,7 @@ pub(crate) fn push_words<'t>(
 ) -> Result<(), Memory>
     requires numbered { IsNumbered (texts names.old.keys) cells.old.items }
     requires spelled { list_all is_spelled (map seen_word words.now) ≡ true }
-    requires most { length cells.old.items + length words.now ≤ 8192 }
+    requires most { length cells.old.items + length words.now ≤ History.MOST_CELLS }
     ensures words { OnOk result (words_in (texts names.new.keys) cells.new.items ≡ words_in (texts names.old.keys) cells.old.items ++ map seen_word words.now) }
     ensures count { OnOk result (length cells.new.items ≡ length cells.old.items + length words.now) }
     ensures numbered { OnOk result (IsNumbered (texts names.new.keys) cells.new.items) }

@@ -1,12 +1,16 @@
 // Search files that are histories: dead and live cells alone, without marks.
-ghost use Rattle.std.specs.Prelude.{◌≡◌, map, not, IfOk};
+ghost use Rattle.std.specs.Prelude.{◌≡◌, map, not, Ok, IfOk};
 ghost use Rattle.std.specs.List.{position};
-ghost use Rattle.lls_search_file.specs.Law.{HistoriesReadBack};
-ghost use Rattle.lls_search_file.specs.Plain.{GivesHistory, plain_of, plain_file, not_plain, is_plain, is_live};
+ghost use Rattle.lls_base.specs.Results.{Gives};
+ghost use Rattle.lls_grid.specs.History.{History, IsHistory};
+ghost use Rattle.lls_grid.specs.Text.{history_text};
+ghost use Rattle.lls_search_file.specs.Plain.{plain_of, plain_file, not_plain, is_plain, is_live};
 
 use crate::{Cell, Kind, Posed, PosedError, read_posed};
 use lls_grid::History;
 use std::alloc::{AllocError, Global};
+use std::error::Error;
+use std::fmt;
 
 /// Why a text is no history. Generations, rows and columns count from 0.
 #[derive(Clone, Copy, Debug, PartialEq, Eq)]
@@ -19,6 +23,23 @@ pub enum HistoryError {
     Memory,
 }
 
+impl fmt::Display for HistoryError {
+    ghost use Rattle.std.specs.Prelude.{Some};
+    ghost use Rattle.lls_search_file.specs.Faults.{history_error_text};
+
+    ghost output = { λ error. Some (history_error_text error) };
+
+    fn fmt<W: fmt::Write>(&self, f: &mut fmt::Formatter<W>) -> fmt::Result {
+        match self {
+            HistoryError::Text(fault) => write!(f, "{fault}"),
+            HistoryError::NotPlain(t, y, x) => write!(f, "NotPlain {t} {y} {x}"),
+            HistoryError::Memory => write!(f, "Memory"),
+        }
+    }
+}
+
+impl Error for HistoryError {}
+
 impl From<AllocError> for HistoryError {
     ghost use Rattle.lls_search_file.specs.declared.plain.HistoryError.TheVariants.{Memory};
 
@@ -29,27 +50,40 @@ impl From<AllocError> for HistoryError {
     }
 }
 
+impl From<PosedError> for HistoryError {
+    ghost use Rattle.lls_search_file.specs.Plain.{IsRefusal};
+
+    ghost from_gives = { IsRefusal };
+
+    fn from(fault: PosedError) -> Self {
+        match fault {
+            PosedError::Memory => HistoryError::Memory,
+            _ => HistoryError::Text(fault),
+        }
+    }
+}
+
 /// The history of a text that is a search file without marks, of the cells `0` and `1` alone.
 pub fn read_history(alloc: Global, bytes: &[u8]) -> Result<History, HistoryError>
-    ensures { GivesHistory result (plain_of bytes.now) }
+    ensures history { Gives HistoryError.Memory (λ history. history) result (plain_of bytes.now) }
+
+    // So every printed history is read back.
+    ensures reads_back { (history : History) → IsHistory history → plain_of (history_text history) ≡ Ok history }
 {
-    match read_posed(alloc, bytes) {
-        Ok(posed) => history_of(alloc, &posed),
-        Err(PosedError::Memory) => Err(HistoryError::Memory),
-        Err(fault) => Err(HistoryError::Text(fault)),
-    }
+    let posed = read_posed(alloc, bytes)?;
+    history_of(alloc, &posed)
 }
 
 /// The history of a file whose cells are all plain.
 fn history_of(alloc: Global, posed: &Posed) -> Result<History, HistoryError>
-    ensures { GivesHistory result (plain_file posed.now) }
+    ensures { Gives HistoryError.Memory (λ history. history) result (plain_file posed.now) }
 {
     let cells = posed.cells.items();
     match first_not_plain(cells) {
         Some(index) => Err(not_plain(posed, index as u64)),
         None => {
             let live = lives(alloc, cells)?;
-            Ok(History::from_cells(posed.generations, posed.height, posed.width, live))
+            Ok(History::from_cells(posed.sizes(), live))
         }
     }
 }
@@ -93,8 +127,3 @@ fn is_live(kind: Kind) -> bool
 {
     matches!(kind, Kind::Live)
 }
-
-/// The text of a history is read as the history.
-pub fn histories_read_back()
-    ensures { HistoriesReadBack }
-{}

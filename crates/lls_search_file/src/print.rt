@@ -1,8 +1,11 @@
 // The text of a posed file.
-ghost use Rattle.std.specs.Prelude.{◌≡◌, ◌≤◌, ◌*◌, ◌++◌, length, map, slice_index_or, [], Ok, IfOk, OnOk};
+ghost use Rattle.std.specs.Prelude.{◌≡◌, ◌<◌, ◌*◌, ◌++◌, true, length, map, slice_index_or, [], Ok, IfOk, IfSome, OnOk};
+ghost use Rattle.std.specs.List.{list_all};
 ghost use Rattle.lls_grid.specs.Chunks.{chunked};
 ghost use Rattle.lls_grid.specs.Text.{row_text, rows_text};
+ghost use Rattle.lls_search_file.specs.Posed.{name_of};
 ghost use Rattle.lls_search_file.specs.Reading.{posed_of};
+ghost use Rattle.lls_search_file.specs.Kept.{is_named_within};
 ghost use Rattle.lls_search_file.specs.Printing.{posed_text, word_text, body_text};
 
 use crate::{Cell, Kind, Posed};
@@ -41,7 +44,8 @@ fn push_rows(
     names: &[Name],
     text: &mut Vec<u8>,
 ) -> Result<(), Memory>
-    requires { length cells.now ≡ width * height }
+    requires count { length cells.now ≡ width * height }
+    requires named { list_all (is_named_within (length names.now)) cells.now ≡ true }
     ensures { OnOk result (text.new.items ≡ text.old.items ++ rows_text (map (map (word_text names.now)) (chunked width height cells.now))) }
 {
     let mut rest = cells;
@@ -55,6 +59,7 @@ fn push_rows(
 
 /// Puts a row behind a text.
 fn push_row(row: &[Cell], names: &[Name], text: &mut Vec<u8>) -> Result<(), Memory>
+    requires { list_all (is_named_within (length names.now)) row.now ≡ true }
     ensures { OnOk result (text.new.items ≡ text.old.items ++ row_text (map (word_text names.now) row.now)) }
 {
     for (x, cell) in row.iter().enumerate() {
@@ -69,6 +74,7 @@ fn push_row(row: &[Cell], names: &[Name], text: &mut Vec<u8>) -> Result<(), Memo
 
 /// Puts a cell's word behind a text.
 fn push_word(cell: Cell, names: &[Name], text: &mut Vec<u8>) -> Result<(), Memory>
+    requires { is_named_within (length names.now) cell ≡ true }
     ensures { OnOk result (text.new.items ≡ text.old.items ++ word_text names.now cell) }
 {
     push_body(cell.kind, names, text)?;
@@ -80,6 +86,7 @@ fn push_word(cell: Cell, names: &[Name], text: &mut Vec<u8>) -> Result<(), Memor
 
 /// Puts a cell's word without its mark behind a text.
 fn push_body(kind: Kind, names: &[Name], text: &mut Vec<u8>) -> Result<(), Memory>
+    requires { IfSome (name_of kind) (λ number. number < length names.now) }
     ensures { OnOk result (text.new.items ≡ text.old.items ++ body_text names.now kind) }
 {
     match kind {
@@ -97,10 +104,9 @@ fn push_body(kind: Kind, names: &[Name], text: &mut Vec<u8>) -> Result<(), Memor
 
 /// Puts the name of a number behind a text.
 fn push_name(number: u32, names: &[Name], text: &mut Vec<u8>) -> Result<(), Memory>
+    requires { number < length names.now }
     ensures { OnOk result (text.new.items ≡ text.old.items ++ slice_index_or names.now number []) }
 {
-    if let Some(name) = names.get(number as usize) {
-        text.extend_from_slice(name.text().as_bytes())?;
-    }
+    text.extend_from_slice(names[number as usize].text().as_bytes())?;
     Ok(())
 }

@@ -1,8 +1,8 @@
 // The reading of search files.
 ghost use Rattle.std.specs.Prelude.{◌≡◌, ◌<◌, ◌≤◌, true, false, length, map, OnOk};
 ghost use Rattle.std.specs.List.{list_all};
-ghost use Rattle.lls_search_file.specs.Lines.{is_separator};
-ghost use Rattle.lls_search_file.specs.Reading.{Gives, posed_of};
+ghost use Rattle.lls_base.specs.Results.{Gives};
+ghost use Rattle.lls_search_file.specs.Reading.{posed_of};
 ghost use Rattle.lls_search_file.specs.Counted.{line_taken, with_words, at_end};
 ghost use Rattle.lls_search_file.specs.Seen.{seen_word};
 ghost use Rattle.lls_search_file.specs.Kept.{is_spelled};
@@ -19,7 +19,7 @@ use std::alloc::Global;
 
 /// The value of a search file.
 pub fn read_posed(alloc: Global, bytes: &[u8]) -> Result<Posed, PosedError>
-    ensures { Gives (λ posed. posed) result (posed_of bytes.now) }
+    ensures { Gives PosedError.Memory (λ posed. posed) result (posed_of bytes.now) }
 {
     let mut reader = Reader {
         shape: Shape::NONE,
@@ -49,7 +49,7 @@ impl<'t> Reader<'t> {
     /// Reads one more line.
     fn take_line(&mut self, alloc: Global, number: u64, line: &'t [u8]) -> Result<(), PosedError>
         requires kept { IsReader self.old }
-        ensures counts { Gives (λ _. counts_of self.new) result (line_taken number line.entry.now (counts_of self.old)) }
+        ensures counts { Gives PosedError.Memory (λ _. counts_of self.new) result (line_taken number line.entry.now (counts_of self.old)) }
         ensures kept { OnOk result (IsReader self.new) }
     {
         if is_comment(line) {
@@ -68,7 +68,7 @@ impl<'t> Reader<'t> {
         requires kept { IsReader self.old }
         requires some { 1 ≤ length words.now }
         requires spelled { list_all is_spelled (map seen_word words.now) ≡ true }
-        ensures counts { Gives (λ _. counts_of self.new) result (with_words number (counts_of self.old) (map seen_word words.now)) }
+        ensures counts { Gives PosedError.Memory (λ _. counts_of self.new) result (with_words number (counts_of self.old) (map seen_word words.now)) }
         ensures kept { OnOk result (IsReader self.new) }
     {
         let shape = self.shape.with_row(number, words.len() as u64)?;
@@ -80,7 +80,7 @@ impl<'t> Reader<'t> {
     /// The file, where the text ends here.
     fn finish(self, alloc: Global) -> Result<Posed, PosedError>
         requires kept { IsReader self }
-        ensures { Gives (λ posed. posed) result (at_end (counts_of self.entry)) }
+        ensures { Gives PosedError.Memory (λ posed. posed) result (at_end (counts_of self.entry)) }
     {
         let Reader {
             shape,
@@ -88,14 +88,14 @@ impl<'t> Reader<'t> {
             names,
         } = self;
         let shape = shape.with_end()?;
-        if shape.ended == 0 {
+        let (Some(width), Some(height)) = (shape.width, shape.height) else {
             return Err(PosedError::Empty);
-        }
+        };
         let names = owned_names(alloc, &names)?;
         Ok(Posed {
             generations: shape.ended,
-            height: shape.height,
-            width: shape.width,
+            height,
+            width,
             cells: Cells::new(cells),
             names: Names::new(names),
         })

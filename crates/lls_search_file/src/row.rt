@@ -1,7 +1,8 @@
 // The cells of a row.
-ghost use Rattle.std.specs.Prelude.{◌≡◌, ◌<◌, ◌^◌, nat_lt, true, position, IfSome, map};
+ghost use Rattle.std.specs.Prelude.{◌≡◌, ◌<◌, ◌^◌, not, true, position, IfSome, map};
+ghost use Rattle.std.specs.Char.{is_ascii};
+ghost use Rattle.lls_base.specs.Results.{Gives};
 ghost use Rattle.lls_search_file.specs.Words.{row_of, cells_read, pieces_of};
-ghost use Rattle.lls_search_file.specs.Reading.{Gives};
 ghost use Rattle.lls_search_file.specs.Seen.{seen_word};
 
 use crate::PosedError;
@@ -11,25 +12,25 @@ use std::alloc::Global;
 
 /// The cells of a row.
 pub(crate) fn read_row(alloc: Global, line: u64, bytes: &[u8]) -> Result<Vec<Word<'_>>, PosedError>
-    ensures { Gives (λ cells. map seen_word cells.items) result (row_of line bytes.now) }
+    ensures { Gives PosedError.Memory (λ cells. map seen_word cells.items) result (row_of line bytes.now) }
 {
-    match first_high(bytes) {
+    match first_beyond_ascii(bytes) {
         Some(index) => Err(PosedError::NotAscii(line, index as u64 + 1)),
         None => read_cells(alloc, line, bytes),
     }
 }
 
-/// Where the first byte above 127 stands.
-fn first_high(bytes: &[u8]) -> Option<usize>
-    ensures place { result ≡ position (λ b. nat_lt 127 b) bytes.now }
+/// Where the first byte stands that isn't ASCII.
+fn first_beyond_ascii(bytes: &[u8]) -> Option<usize>
+    ensures place { result ≡ position (λ b. not (is_ascii b)) bytes.now }
     ensures within { IfSome result (λ index. index < 2 ^ 63) }
 {
-    bytes.iter().position(|byte| *byte > 127)
+    bytes.iter().position(|byte| !byte.is_ascii())
 }
 
 /// The cells of a row of ASCII bytes.
 fn read_cells(alloc: Global, line: u64, bytes: &[u8]) -> Result<Vec<Word<'_>>, PosedError>
-    ensures { Gives (λ cells. map seen_word cells.items) result (cells_read line true (pieces_of 1 bytes.now)) }
+    ensures { Gives PosedError.Memory (λ cells. map seen_word cells.items) result (cells_read line true (pieces_of 1 bytes.now)) }
 {
     let mut cells = Vec::new(alloc);
     let mut after_comma = true;

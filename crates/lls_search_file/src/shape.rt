@@ -1,20 +1,21 @@
 // The sizes of the rows read so far.
 ghost use Rattle.std.specs.Prelude.{◌≡◌, ◌<◌, ◌≤◌, ◌^◌, ◌+◌, IfOk};
-ghost use Rattle.lls_search_file.specs.Counted.{with_row, with_end};
+ghost use Rattle.lls_search_file.specs.Counted.{ragged, too_high, too_low, with_row, with_end};
 ghost use Rattle.lls_search_file.specs.Kept.{IsShape};
 
 use crate::PosedError;
+use lls_grid::History;
 
 /// The sizes of the rows read so far.
 #[derive(Clone, Copy)]
 pub(crate) struct Shape {
-    /// Cells in a row; 0 before the first row.
-    pub width: u32,
-    /// Rows of generation 0; 0 until it ends.
-    pub height: u32,
+    /// Cells in each row, once there is a row.
+    pub width: Option<u32>,
+    /// Rows in each generation, once the first has ended.
+    pub height: Option<u32>,
     /// Generations that have ended.
     pub ended: u32,
-    /// Rows of the generation that is open; 0 where none is.
+    /// Rows of the generation that goes on.
     pub rows: u32,
     /// Cells in all rows.
     pub cells: u32,
@@ -23,8 +24,8 @@ pub(crate) struct Shape {
 impl Shape {
     /// No row yet.
     pub const NONE: Shape = Shape {
-        width: 0,
-        height: 0,
+        width: None,
+        height: None,
         ended: 0,
         rows: 0,
         cells: 0,
@@ -39,36 +40,60 @@ impl Shape {
         ensures shape { IfOk result IsShape }
         ensures cells { IfOk result (λ shape. shape.cells ≡ self.cells + found) }
     {
-        if found > 64 {
+        if found > u64::from(History::MOST_WIDTH) {
             return Err(PosedError::TooWide(found));
         }
         let found = found as u32;
-        if self.rows == 0 && self.ended == 64 {
-            return Err(PosedError::TooMany(65));
+        if self.rows == 0 && self.ended == History::MOST_GENERATIONS {
+            return Err(PosedError::TooMany(u64::from(History::MOST_GENERATIONS) + 1));
         }
-        if self.width != 0 && found != self.width {
-            return Err(PosedError::Ragged(line, self.width as u64, found as u64));
+        if let Some(fault) = self.ragged(line, found) {
+            return Err(fault);
         }
-        if self.ended == 0 && self.rows == 64 {
-            return Err(PosedError::TooHigh(65));
-        }
-        if self.ended != 0 && self.rows == self.height {
-            let height = self.height as u64;
-            return Err(PosedError::Sizes(self.ended as u64, height, height + 1));
+        if let Some(fault) = self.too_high() {
+            return Err(fault);
         }
         let cells = self.cells + found;
-        if cells > 8192 {
-            return Err(PosedError::TooManyCells(cells as u64));
+        if cells > History::MOST_CELLS {
+            return Err(PosedError::TooManyCells(u64::from(cells)));
         }
         Ok(Shape {
-            width: found,
+            width: self.width.or(Some(found)),
             rows: self.rows + 1,
             cells,
             ..self
         })
     }
 
-    /// The sizes where the open generation ends.
+    /// Why a row of that many cells doesn't go with the first.
+    fn ragged(self, line: u64, found: u32) -> Option<PosedError>
+        ensures { result ≡ ragged line found self.width }
+    {
+        match self.width {
+            Some(width) if width != found => {
+                Some(PosedError::Ragged(line, u64::from(width), u64::from(found)))
+            }
+            _ => None,
+        }
+    }
+
+    /// Why the generation that goes on has no room for a row.
+    fn too_high(self) -> Option<PosedError>
+        ensures { result ≡ too_high self.rows self.ended self.height }
+    {
+        match self.height {
+            None if self.rows == History::MOST_HEIGHT => {
+                Some(PosedError::TooHigh(u64::from(History::MOST_HEIGHT) + 1))
+            }
+            Some(height) if self.rows == height => {
+                let height = u64::from(height);
+                Some(PosedError::Sizes(u64::from(self.ended), height, height + 1))
+            }
+            _ => None,
+        }
+    }
+
+    /// The sizes where the generation that goes on ends.
     pub fn with_end(self) -> Result<Shape, PosedError>
         requires shape { IsShape self }
         ensures sizes { result ≡ with_end self }
@@ -79,21 +104,26 @@ impl Shape {
         if self.rows == 0 {
             return Ok(self);
         }
-        if self.ended == 0 {
-            return Ok(Shape {
-                height: self.rows,
-                ended: 1,
-                rows: 0,
-                ..self
-            });
-        }
-        if self.rows < self.height {
-            return Err(PosedError::Sizes(self.ended as u64, self.height as u64, self.rows as u64));
+        if let Some(fault) = self.too_low() {
+            return Err(fault);
         }
         Ok(Shape {
+            height: self.height.or(Some(self.rows)),
             ended: self.ended + 1,
             rows: 0,
             ..self
         })
+    }
+    /// Why the generation that goes on can't end.
+    fn too_low(self) -> Option<PosedError>
+        ensures { result ≡ too_low self.rows self.ended self.height }
+    {
+        match self.height {
+            Some(height) if self.rows < height => {
+                let (ended, rows) = (u64::from(self.ended), u64::from(self.rows));
+                Some(PosedError::Sizes(ended, u64::from(height), rows))
+            }
+            _ => None,
+        }
     }
 }

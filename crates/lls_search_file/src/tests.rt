@@ -1,9 +1,8 @@
 // Search files: read, refused, printed.
-use crate::{
-    Cell, HistoryError, Kind, PosedError, histories_read_back, print_posed, read_history,
-    read_posed,
-};
-use lls_grid::print_history;
+ghost use Rattle.std.specs.Prelude.{◌≡◌, IfOk};
+
+use crate::{Cell, HistoryError, Kind, PosedError, print_posed, read_history, read_posed};
+use lls_grid::{History, print_history};
 use std::alloc::{AllocError, Global};
 use std::test::Fail;
 
@@ -157,14 +156,25 @@ fn a_printed_file_is_read_back(rt: HostRuntime) -> Result<(), Fail> {
     Ok(())
 }
 
+// A history, printed and read.
+fn reread(alloc: Global, history: &History) -> Result<History, HistoryError>
+    ensures { IfOk result (λ read. read ≡ history.now) }
+{
+    // What the type of a history keeps is told by its sizes.
+    let _sizes = history.sizes();
+    match print_history(alloc, history) {
+        Ok(text) => read_history(alloc, &text),
+        Err(_) => Err(HistoryError::Memory),
+    }
+}
+
 #[test]
 fn a_printed_history_is_read_back(rt: HostRuntime) -> Result<(), Fail> {
     let alloc = rt.alloc();
-    histories_read_back();
     let text = b"0 0 0\n1 1 1\n0 0 0\n\n0 1 0\n0 1 0\n0 1 0\n".as_slice();
     let spaced = b"# blinker\n0,0,0\n 1 1 1\r\n0 0 0 ,\n\n\n0 1 0\n0 1 0\n0 1 0".as_slice();
     for bytes in [text, spaced] {
-        let history = read_history(alloc, bytes)?;
+        let history = reread(alloc, &read_history(alloc, bytes)?)?;
         assert_eq!(rt;
             (history.generations(), history.height(), history.width()),
             (2, 3, 3)
@@ -196,5 +206,31 @@ fn texts_that_are_no_histories(rt: HostRuntime) -> Result<(), Fail> {
     for (text, fault) in rows {
         assert_eq!(rt; read_history(alloc, text).err(), Some(fault));
     }
+    Ok(())
+}
+
+#[test]
+fn faults_by_their_texts(rt: HostRuntime) -> Result<(), Fail> {
+    let alloc = rt.alloc();
+    let rows: [(PosedError, &str, bool); 10] = [
+        (PosedError::Empty, "Empty", false),
+        (PosedError::BadCell(1, 3), "BadCell 1 3", false),
+        (PosedError::Ragged(2, 2, 1), "Ragged 2 2 1", false),
+        (PosedError::Sizes(1, 1, 2), "Sizes 1 1 2", false),
+        (PosedError::TooWide(65), "TooWide 65", true),
+        (PosedError::TooHigh(65), "TooHigh 65", true),
+        (PosedError::TooMany(65), "TooMany 65", true),
+        (PosedError::TooManyCells(8256), "TooManyCells 8256", true),
+        (PosedError::NotAscii(1, 3), "NotAscii 1 3", false),
+        (PosedError::Memory, "Memory", false),
+    ];
+    for (fault, text, limit) in rows {
+        assert_eq!(rt; format!(in alloc; "{fault}")?.as_str(), text);
+        let inner = HistoryError::Text(fault);
+        assert_eq!(rt; format!(in alloc; "{inner}")?.as_str(), text);
+        assert_eq!(rt; fault.is_limit(), limit);
+    }
+    let place = HistoryError::NotPlain(1, 2, 3);
+    assert_eq!(rt; format!(in alloc; "{place}")?.as_str(), "NotPlain 1 2 3");
     Ok(())
 }

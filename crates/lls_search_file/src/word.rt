@@ -2,10 +2,12 @@
 ghost use Rattle.std.specs.Prelude.{◌≡◌, ◌||◌, ◌<◌, not, length};
 ghost use Rattle.std.specs.Option.{option_map};
 ghost use Rattle.std.specs.List.{take_while, list_all};
-ghost use Rattle.lls_search_file.specs.Posed.{is_name, is_letter, is_letter_or_digit};
+ghost use Rattle.std.specs.Char.{is_ascii_alphanumeric};
+ghost use Rattle.lls_search_file.specs.Posed.{is_name};
 ghost use Rattle.lls_search_file.specs.Words.{said_of, name_said_of, word_of, is_solid};
 ghost use Rattle.lls_search_file.specs.Seen.{seen_said, seen_word};
 
+use crate::Names;
 use crate::lines::is_blank;
 
 /// What a word says of a cell's value, with the name itself where it is a name.
@@ -66,20 +68,20 @@ fn read_name(body: &[u8]) -> Option<Said<'_>>
     }
 }
 
-/// Whether a text is a letter and then up to 31 letters or digits.
+/// Whether a text is a letter and then letters or digits, at most `Names::MOST_BYTES` bytes.
 fn is_name(text: &[u8]) -> bool
     ensures { result ≡ is_name text.now }
 {
     match text {
         [first, rest @ ..] => first.is_ascii_alphabetic()
             && are_letters_or_digits(rest)
-            && rest.len() <= 31,
+            && text.len() <= Names::MOST_BYTES,
         [] => false,
     }
 }
 
 fn are_letters_or_digits(text: &[u8]) -> bool
-    ensures { result ≡ list_all is_letter_or_digit text.now }
+    ensures { result ≡ list_all is_ascii_alphanumeric text.now }
 {
     text.iter().all(|byte| byte.is_ascii_alphanumeric())
 }

@@ -1,6 +1,6 @@
 use Rattle.std.proofs.Common.{◌≡◌, ◌<◌, ◌∙◌, ◌+◌, ◌++◌, inl, inr, ℕ, List, [], ◌∷◌, Bool, length, map, take, get_or, ap, arith, length-take}
 use Rattle.std.proofs.lemmas.List.{take_more, map-append, length-map}
-use Rattle.lls_grid.specs.Text.{digit_word, rows_text}
+use Rattle.lls_grid.specs.Text.{line_feed, digit_word, rows_text}
 use Rattle.lls_grid.proofs.Joins.{separated}
 use Rattle.lls_grid.proofs.text.print_history.Goals as goal
 use Rattle.lls_grid.proofs.text.print_history.Goals.{then-t-gt0+in_ok-push, else-t-gt0}
@@ -18,7 +18,7 @@ loop-t-preserved c =
     ap (λ h. map rows_text (map (map (map digit_word)) h)) (take_more history t [] t_in) ∙
     (ap (map rows_text) (map-append (map (map digit_word)) (take t history) (get_or history t [] ∷ [])) ∙
     map-append rows_text (map (map (map digit_word)) (take t history)) (map (map digit_word) (get_or history t []) ∷ [])) in
-    rw more (separated 10 done (one (get_or history t [])) [] c.loop-t.text.items c.if-t-gt0.text.items c.push_rows.new.text.items c.loop-t.invariant
+    rw more (separated line_feed done (one (get_or history t [])) [] c.loop-t.text.items c.if-t-gt0.text.items c.push_rows.new.text.items c.loop-t.invariant
     (elim c.if-t-gt0.branch [
       | then-t-gt0+in_ok-push w ↦ inl (omega (arith, count, w.if-t-gt0.true), ap (λ text. text.items) w.text-is ∙ w.in_ok-push.ensures.items)
       | else-t-gt0 w ↦ inr (omega (arith, count, w.if-t-gt0.false), ap (λ text. text.items) w.text-is)

@@ -6,8 +6,8 @@ use Rattle.lls_problem.proofs.cells.first_disagreement.Goals as goal
 
 pub returns-then-not-agrees : goal.returns-then-not-agrees
 returns-then-not-agrees c =
-    IsFirstCell-by_number c.args.problem.now.posed (KeepsName c.args.problem.now.posed.cells (cells_of c.args.history.now)) c.loop-k.k _ _ _
-    (rw c.posed-posed.ensures.value at c.grid_place.ensures.number) (rw c.posed-posed.ensures.value at c.grid_place.ensures.within)
+    IsFirstCell-by_number c.args.problem.now.posed (KeepsName c.args.problem.now.posed.cells (cells_of c.args.history.now)) c.loop-k.k _
+    (rw (c.sizes.ensures.sizes, c.posed-posed.ensures.value) at c.place.ensures.index) (rw (c.sizes.ensures.sizes, c.posed-posed.ensures.value) at c.place.ensures.inside)
     (λ keeps. let test = c.agrees.ensures.1 keeps in let other = c.if-not-agrees.true in cc)
     c.loop-k.invariant
 

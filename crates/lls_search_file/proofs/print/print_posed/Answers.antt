@@ -1,13 +1,17 @@
-use Rattle.std.proofs.Common.{◌≡◌, ◌<◌, ◌≤◌, ◌∙◌, ◌+◌, ◌*◌, ◌++◌, inl, inr, ℕ, List, [], length, map, take, drop, get_or, ap, sym, arith, length-drop, take_all, Ok}
+use Rattle.std.proofs.Common.{◌≡◌, ◌<◌, ◌≤◌, ◌∙◌, ◌+◌, ◌*◌, ◌++◌, inl, inr, ℕ, List, [], length, map, take, drop, get_or, ap, sym, arith, length-drop, take_all, Some, Ok, true}
+use Rattle.std.specs.List.{list_all}
 use Rattle.std.proofs.lemmas.List.{drop-drop, drop-map}
 use Rattle.lls_grid.specs.Chunks.{chunked}
-use Rattle.lls_grid.specs.Text.{text_of, rows_text}
+use Rattle.lls_grid.specs.Text.{line_feed, text_of, rows_text}
 use Rattle.lls_grid.proofs.Joins.{word_more}
 use Rattle.lls_grid.proofs.Chunks.{get_or-chunked_twice, length-chunked, generation-le, map-chunked, chunked-take}
 use Rattle.lls_search_file.specs.declared.cell.Cell.{Cell}
 use Rattle.lls_search_file.specs.Posed.{PosedFile}
 use Rattle.lls_search_file.specs.Reading.{posed_of}
+use Rattle.lls_search_file.specs.Kept.{is_named_within}
 use Rattle.lls_search_file.specs.Printing.{word_text, posed_text}
+use Rattle.lls_search_file.proofs.AllItems.{all_take, all_drop}
+use Rattle.lls_search_file.proofs.Numbering.{all_named_within}
 use Rattle.lls_search_file.proofs.RoundTrip.{posed_of-posed_text}
 use Rattle.lls_search_file.proofs.print.print_posed.Goals as goal
 use Rattle.lls_search_file.proofs.print.print_posed.Goals.{then-t-gt0+in_ok-push, else-t-gt0}
@@ -37,6 +41,14 @@ split_at-requires c =
     let before = file.width * (file.height * c.loop-t.t) in
     omega (arith, ap length c.loop-t.invariant.rest, length-drop before file.cells, generation-le file.generations file.height file.width c.loop-t.t c.loop-t-test.true, c.posed.invariant.count)
 
+pub push_rows-requires-clause-named : goal.push_rows-requires-clause-named
+push_rows-requires-clause-named c =
+    let file = c.posed.inside in
+    let test = is_named_within (length file.names) in
+    let all : list_all test file.cells ≡ true = all_named_within file.cells (length file.names) (Some 0) c.posed.invariant.numbered in
+    let rest : list_all test c.loop-t.rest.now ≡ true = rw c.loop-t.invariant.rest (all_drop test (file.width * (file.height * c.loop-t.t)) file.cells all) in
+    rw (c.items.ensures, c.split_at.ensures.front) (all_take test (file.width * file.height) c.loop-t.rest.now rest)
+
 pub loop-t-preserved : goal.loop-t-preserved
 loop-t-preserved c =
     let file = c.posed.inside in
@@ -51,7 +63,7 @@ loop-t-preserved c =
     c.in_ok-push_rows.ensures ∙
     rw (c.items.ensures, cells) (ap (λ rows. c.if-t-gt0.text.items ++ rows_text rows) (rows_of_generation file.generations file.height file.width t word file.cells c.loop-t-test.true)) in
     record {
-      text = word_more 10 rows_text generations t [] [] c.loop-t.text.items c.if-t-gt0.text.items c.push_rows.new.text.items t_in c.loop-t.invariant.text
+      text = word_more line_feed rows_text generations t [] [] c.loop-t.text.items c.if-t-gt0.text.items c.push_rows.new.text.items t_in c.loop-t.invariant.text
           (elim c.if-t-gt0.branch [
             | then-t-gt0+in_ok-push w ↦ inl (w.if-t-gt0.true, ap (λ text. text.items) w.text-is ∙ w.in_ok-push.ensures.items)
             | else-t-gt0 w ↦ inr (omega (arith, w.if-t-gt0.false), ap (λ text. text.items) w.text-is)

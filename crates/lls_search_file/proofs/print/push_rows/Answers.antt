@@ -3,6 +3,8 @@ use Rattle.lls_grid.specs.Chunks.{chunked}
 use Rattle.lls_grid.specs.Text.{row_text, rows_text}
 use Rattle.lls_search_file.specs.declared.cell.Cell.{Cell}
 use Rattle.lls_search_file.specs.Printing.{word_text}
+use Rattle.lls_search_file.specs.Kept.{is_named_within}
+use Rattle.lls_search_file.proofs.AllItems.{all_take, all_drop}
 use Rattle.lls_search_file.proofs.print.push_rows.Goals as goal
 
 -- the rows left, with the first apart
@@ -18,6 +20,10 @@ split_at-requires c =
     let left : c.args.height - c.rows.counter ≡ suc (c.args.height - (c.rows.counter + 1)) = omega (arith, c.rows-test.true) in
     omega (arith, c.rows.invariant.count, at_least_one c.args.width (c.args.height - c.rows.counter) (c.args.height - (c.rows.counter + 1)) left)
 
+pub push_row-requires : goal.push_row-requires
+push_row-requires c =
+    rw c.split_at.ensures.front (all_take (is_named_within (length c.args.names.now)) c.args.width c.rows.rest.now c.rows.invariant.named)
+
 pub rows-preserved : goal.rows-preserved
 rows-preserved c =
     let width = c.args.width in
@@ -28,6 +34,7 @@ rows-preserved c =
     let count : length rest ≡ width * suc after = c.rows.invariant.count ∙ ap (λ n. width * n) left in
     rw (c.split_at.ensures.back, c.in_ok-push_row.ensures, c.split_at.ensures.front) (record {
       text = sym (first_row c.args.names.now c.rows.text.items width after rest) ∙ (ap (λ n. c.rows.text.items ++ rows_text (map (map (word_text c.args.names.now)) (chunked width n rest))) (sym left) ∙ c.rows.invariant.text);
+      named = all_drop (is_named_within (length c.args.names.now)) width rest c.rows.invariant.named;
       count = omega (arith, length-drop width rest, count, more);
     })
 

@@ -4,4 +4,4 @@ use Rattle.lls_grid.proofs.history.History.width.Goals as goal
 
 pub returns : goal.returns
 returns c =
-    rw (← c.self.view_is) (sym (width_of-folded _ _ _ _ (omega (arith, c.self.invariant.generations_fit)) (omega (arith, c.self.invariant.height_fits))))
+    rw (← c.self.view_is) (sym (width_of-folded _ _ _ _ (omega (arith, c.self.invariant.generations)) (omega (arith, c.self.invariant.height))))
