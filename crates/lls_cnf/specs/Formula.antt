@@ -1,4 +1,4 @@
--- What holds of a formula's parts.
+-- For private contracts alone: what holds of a formula's parts.
 use Rattle.std.specs.Prelude.{◌≡◌, ◌≤◌, ℕ, true, List, length}
 use Rattle.std.specs.List.{list_all}
 use Rattle.lls_lit.specs.Formula.{Clause, is_within}

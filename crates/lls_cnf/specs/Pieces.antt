@@ -1,4 +1,4 @@
--- Clauses in one buffer: the ends cut it into pieces.
+-- For private contracts alone: clauses in one buffer, which ends cut into pieces.
 use Rattle.std.specs.Prelude.{◌≡◌, ◌≤◌, ℕ, ◌-◌, List, [], ◌∷◌, take, drop, ℤ}
 use Rattle.lls_lit.specs.Formula.{Clause}
 

@@ -8,7 +8,7 @@ use Rattle.std.proofs.lemmas.List.Elements.{All-get_or}
 use Rattle.std.proofs.lemmas.Cmp.{int_cmp_total}
 use Rattle.std.proofs.lemmas.Bool.Decides.{Decides-int_eq, nat_tests}
 use Rattle.lls_lit.specs.Literal.{IsLiteral, variable_of, index_of}
-use Rattle.lls_lit.specs.Marked.{literal_at, stamped, marked}
+use Rattle.lls_lit.specs.Stamps.{literal_at, stamped, marked}
 
 pub index_of-literal_at : (i : ℕ) → index_of (literal_at i) ≡ i
 index_of-literal_at i =

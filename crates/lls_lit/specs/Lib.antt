@@ -1,3 +1,4 @@
 pub mod Literal
 pub mod Formula
 pub mod Marked
+pub mod Stamps

@@ -19,7 +19,8 @@ pub struct Marks {
 }
 
 impl Model for Marks {
-    ghost use Rattle.lls_lit.specs.Marked.{Marked, marked_code, marked, AreStamps};
+    ghost use Rattle.lls_lit.specs.Marked.{Marked, marked_code};
+    ghost use Rattle.lls_lit.specs.Stamps.{marked, AreStamps};
 
     ghost Value = { Marked };
 
