@@ -114,6 +114,7 @@ impl Shape {
             ..self
         })
     }
+
     /// Why the generation that goes on can't end.
     fn too_low(self) -> Option<PosedError>
         ensures { result ≡ too_low self.rows self.ended self.height }
