@@ -1,14 +1,14 @@
 -- What follows from how a run ends.
-use Rattle.std.proofs.Common.{◌≡◌, ◌≢◌, ◌<◌, ◌≤◌, ◌^◌, ℕ, Bool, List, Option, None, Some, Result, Ok, Err, refl, ap, sym, subst, ◌∙◌, inl, inr, arith, ◌⊎◌, cond, true, false}
+use Rattle.std.proofs.Common.{◌≡◌, ◌≤◌, ℕ, Option, None, Some, Result, Ok, Err, refl, ap, sym, subst, ◌∙◌, inl, inr, arith, ◌⊎◌}
 use Rattle.std.specs.Prelude.{IsErr}
 use Rattle.std.specs.Option.{option_map}
-use Rattle.lls_base.specs.Faults.{Counts, Rose}
-use Rattle.lls_base.specs.Results.{and_then}
 use Rattle.lls_base.specs.Shelf.{Files}
 use Rattle.lls_lrat.specs.declared.error.CheckError.{CheckError}
 use Rattle.lls_lrat.specs.declared.error.CheckError.TheVariants as proof
 use Rattle.lls_search_file.specs.declared.error.PosedError.{PosedError}
 use Rattle.lls_search_file.specs.declared.error.PosedError.TheVariants as posed
+use Rattle.lls_problem.specs.declared.demands.DemandError.{DemandError}
+use Rattle.lls_problem.specs.declared.demands.DemandError.TheVariants as demands
 use Rattle.lls_problem.specs.declared.judgement.Judgement.{Judgement}
 use Rattle.lls_problem.specs.declared.judgement.Judgement.TheVariants as judgements
 use Rattle.lls_words.specs.declared.error.WordsError.{WordsError}
@@ -17,15 +17,14 @@ use Rattle.lls_words.specs.declared.job.Job.{Job}
 use Rattle.lls_words.specs.declared.job.Job.TheVariants as jobs
 use Rattle.lls_cli.specs.declared.fault.Fault.{Fault}
 use Rattle.lls_cli.specs.declared.fault.Fault.TheVariants as faults
-use Rattle.lls_cli.specs.declared.fault.OutsideFault.{OutsideFault}
 use Rattle.lls_cli.specs.declared.fault.OutsideFault.TheVariants as outside
 use Rattle.lls_cli.specs.declared.status.Status.{Status}
 use Rattle.lls_cli.specs.declared.status.Status.TheVariants as statuses
-use Rattle.lls_cli.specs.Fault.{status_of, words_status, posed_status}
+use Rattle.lls_cli.specs.Fault.{status_of, words_status, posed_status, demand_status}
 use Rattle.lls_cli.specs.Answer.{GivenAnswer, NamedFile, check_answer, judge_answer, Answers, IsAnswer, Holds, YesHolds, NoHolds}
-use Rattle.lls_cli.specs.Question.{Question, checks, judges, prints, MadeOf, check_question, judge_question, question_of, Asks}
-use Rattle.lls_cli.specs.Moment.{ShelfMoment, SinkMoment, Moment, moment, files_at}
-use Rattle.lls_cli.specs.Ends.{GrewBy, KeepsFiles, Refused, LacksMemory, InputFailed, WroteFile, Delivered, FileFailed, OutputFailed, IsDecided, with_file, End, refused, lacked, input_failed, answered, file_failed, output_failed, IsEnd}
+use Rattle.lls_cli.specs.Question.{Question, checks, judges, prints, question_of, Asks}
+use Rattle.lls_cli.specs.Moment.{ShelfMoment, SinkMoment, Moment, files_at}
+use Rattle.lls_cli.specs.Ends.{WroteFile, IsDecided, with_file, End, refused, lacked, input_failed, answered, file_failed, output_failed, IsEnd}
 use Rattle.lls_cli.specs.Claims.{OfQuestion, IsSilent, IsYesOrNo, MissesFile, HasCause, NothingFailed, CountsNeverFall}
 
 -- the statuses of faults
@@ -62,7 +61,7 @@ words_status-cases (words.BadValue place) = inl refl
 words_status-cases (words.BadRule place fault) = inl refl
 words_status-cases (words.Operands expected found) = inl refl
 
--- the status of a posed file's fault
+-- the status of a fault of a search file or of demands
 abbrev IsPosedStatus : Status → Type 0
 IsPosedStatus statuses.Content = Unit {0}
 IsPosedStatus statuses.Memory = Unit {0}
@@ -81,6 +80,13 @@ posed_status-is (posed.TooMany n) = tt
 posed_status-is (posed.TooManyCells n) = tt
 posed_status-is (posed.NotAscii line column) = tt
 
+demand_status-is : (error : DemandError) → IsPosedStatus (demand_status error)
+demand_status-is (demands.NotSquare height width) = tt
+demand_status-is (demands.NoGeneration t) = tt
+demand_status-is (demands.BoundsCross t) = tt
+demand_status-is (demands.PeriodTooLong length) = tt
+demand_status-is (demands.Counters n) = tt
+
 posed_fault : (status : Status) → IsPosedStatus status → IsFaultStatus status
 posed_fault statuses.Content is = tt
 posed_fault statuses.Memory is = tt
@@ -96,6 +102,7 @@ posed_fault statuses.Undecided is = absurd is
 status_of-is : (fault : Fault) → IsFaultStatus (status_of fault)
 status_of-is (faults.Words error) = words_status-is error
 status_of-is (faults.Posed error) = posed_fault (posed_status error) (posed_status-is error)
+status_of-is (faults.Demands error) = posed_fault (demand_status error) (demand_status-is error)
 status_of-is (faults.NotPlain t y x) = tt
 status_of-is (faults.Outside fault) = tt
 status_of-is (faults.TooLong limit) = tt
@@ -111,6 +118,7 @@ decided_words : (fault : Fault) → IsDecided fault → status_of fault ≡ stat
 decided_words (faults.Words error) decided is = decided
 decided_words faults.Memory decided is = decided
 decided_words (faults.Posed error) decided is = subst IsPosedStatus is (posed_status-is error)
+decided_words (faults.Demands error) decided is = subst IsPosedStatus is (demand_status-is error)
 decided_words (faults.NotPlain t y x) decided is = cc
 decided_words (faults.Outside fault) decided is = cc
 decided_words (faults.TooLong limit) decided is = cc
@@ -120,6 +128,7 @@ decided_outside : (fault : Fault) → IsDecided fault → status_of fault ≡ st
 decided_outside (faults.Words error) decided is = absurd decided
 decided_outside faults.Memory decided is = absurd decided
 decided_outside (faults.Posed error) decided is = absurd (subst IsPosedStatus is (posed_status-is error))
+decided_outside (faults.Demands error) decided is = absurd (subst IsPosedStatus is (demand_status-is error))
 decided_outside (faults.NotPlain t y x) decided is = absurd cc
 decided_outside (faults.TooLong limit) decided is = absurd cc
 decided_outside (faults.Outside outside.NoFile) decided is = refl
@@ -281,9 +290,14 @@ Meant job before after status = (question : Question) × (answer : GivenAnswer) 
 
 pub meant : (job : Result Job WordsError) (before after : Moment) (status : Status) → (end : End) × IsEnd job before after status end → IsYesOrNo status → Meant job before after status
 meant (Ok job) before after status (answered answer, ended) is =
-    let given = ended.1.2.1 in
-    (ended.1.0, answer, given.status_is, ended.1.2.0, record { shelf = given.shelf.faults; out = given.out_faults; err = given.err },
-    of_question (λ q. ended.1.0 ≡ q) job (files_at before.shelf) ended.1.0 ended.1.1 refl)
+    let given = ended.1.2.1 in (
+      ended.1.0,
+      answer,
+      given.status_is,
+      ended.1.2.0,
+      record { shelf = given.shelf.faults; out = given.out_faults; err = given.err },
+      of_question (λ q. ended.1.0 ≡ q) job (files_at before.shelf) ended.1.0 ended.1.1 refl,
+    )
 meant (Ok job) before after status (refused fault, ended) is = absurd (no_fault_status status (subst IsFaultStatus (sym ended.1.2.status_is) (status_of-is fault)) is)
 meant (Ok job) before after status (lacked, ended) is = absurd (no_fault_status status (subst IsFaultStatus (sym ended.1.status_is) tt) is)
 meant (Ok job) before after status (input_failed fault, ended) is = absurd (no_fault_status status (subst IsFaultStatus (sym ended.1.1.status_is) tt) is)

@@ -1,5 +1,5 @@
 -- How a run ends by how its steps ended.
-use Rattle.std.proofs.Common.{◌≡◌, ◌≢◌, ◌<◌, ◌^◌, ℕ, Bool, List, Option, None, Some, Result, Ok, Err, refl, ap, sym, subst, ◌∙◌, inl, inr}
+use Rattle.std.proofs.Common.{◌≡◌, ◌≢◌, ◌<◌, ◌^◌, Option, None, Some, Result, Ok, Err, refl, ap, sym, subst, ◌∙◌, inl, inr}
 use Rattle.std.specs.Option.{option_map}
 use Rattle.lls_base.specs.Faults.{Counts, Rose}
 use Rattle.lls_base.specs.Shelf.{Files}
@@ -20,11 +20,11 @@ use Rattle.lls_cli.specs.declared.fault.OutsideFault.{OutsideFault}
 use Rattle.lls_cli.specs.declared.fault.OutsideFault.TheVariants as outside
 use Rattle.lls_cli.specs.declared.status.Status.{Status}
 use Rattle.lls_cli.specs.declared.status.Status.TheVariants as statuses
-use Rattle.lls_cli.specs.Fault.{fault_line, status_of, words_fault}
+use Rattle.lls_cli.specs.Fault.{fault_line, words_fault}
 use Rattle.lls_cli.specs.Answer.{GivenAnswer, NamedFile, judge_answer, Holds, IsAnswer}
-use Rattle.lls_cli.specs.Question.{Question, checks, judges, prints, Asks}
+use Rattle.lls_cli.specs.Question.{Question, judges, prints, Asks}
 use Rattle.lls_cli.specs.Moment.{ShelfMoment, SinkMoment, Moment, moment, files_at}
-use Rattle.lls_cli.specs.Ends.{GrewBy, KeepsFiles, KeepsOutput, Refused, LacksMemory, InputFailed, IsOfInput, WroteFile, Delivered, FileFailed, OutputFailed, LeavesPart, LeavesShelf, HasInputs, IsDecided, with_file, End, refused, lacked, input_failed, answered, file_failed, output_failed, IsEndOf, IsEndOfJob, IsEnd}
+use Rattle.lls_cli.specs.Ends.{GrewBy, KeepsFiles, LacksMemory, IsOfInput, WroteFile, LeavesPart, LeavesShelf, HasInputs, IsDecided, with_file, End, refused, lacked, input_failed, answered, file_failed, output_failed, IsEndOf, IsEnd}
 use Rattle.lls_cli.specs.Steps.{Stops, Says, Gave, IsDelivery, LeavesPrinting}
 
 -- a right answer that was delivered
@@ -74,23 +74,33 @@ WroteFile-none shelf = record { files = option_map-none (files_at shelf); output
 pub gave : (question : Question) (answer : GivenAnswer) (shelf : ShelfMoment) (out_before out_after err_before err_after : SinkMoment) (status : Status)
     → IsAnswer question answer → answer.file ≡ None → Gave answer.status answer.text out_before out_after err_before err_after status
     → (end : End) × IsEndOf question (moment shelf out_before err_before) (moment shelf out_after err_after) status end
-gave question answer shelf out_before out_after err_before err_after status right none (inl whole) =
-    (answered answer, (right, record {
+gave question answer shelf out_before out_after err_before err_after status right none (inl whole) = (
+  answered answer,
+  (
+    right,
+    record {
       status_is = whole.status_is;
       shelf = subst (λ file. WroteFile file shelf shelf) (sym none) (WroteFile-none shelf);
       out = whole.out;
       out_faults = whole.out_faults;
       err = whole.err;
-    }))
-gave question answer shelf out_before out_after err_before err_after status right none (inr part) =
-    (output_failed answer, (right, record {
+    },
+  ),
+)
+gave question answer shelf out_before out_after err_before err_after status right none (inr part) = (
+  output_failed answer,
+  (
+    right,
+    record {
       status_is = part.status_is;
       shelf = subst (λ file. WroteFile file shelf shelf) (sym none) (WroteFile-none shelf);
       out = part.out;
       out_counts = part.out_counts;
       out_rose = part.out_rose;
       err = part.err;
-    }))
+    },
+  ),
+)
 
 -- want of memory, with the shelf and the output as they were
 pub lacks : (shelf : ShelfMoment) (out err_before err_after : SinkMoment) (status : Status) → shelf.faults < 2 ^ 64 → status ≡ statuses.Memory
@@ -140,16 +150,24 @@ stopped_failing : (job : Job) (fault : OutsideFault) (before after : ShelfMoment
     → LeavesShelf job before after → KeepsFiles before after → Counts before.faults after.faults → HasInputs job → IsOfInput (faults.Outside fault)
     → Rose before.faults after.faults → Says (faults.Outside fault) status err_before err_after
     → (end : End) × IsEnd (Ok job) (moment before out err_before) (moment after out err_after) status end
-stopped_failing job fault before after out err_before err_after status leaves kept counts inputs of_input rose (inl said) =
-    (input_failed (faults.Outside fault), (leaves, (inputs, record {
-      of_input = of_input;
-      status_is = said.0;
-      shelf = kept;
-      shelf_counts = counts;
-      shelf_rose = rose;
-      out = refl;
-      err = said.1;
-    })))
+stopped_failing job fault before after out err_before err_after status leaves kept counts inputs of_input rose (inl said) = (
+  input_failed (faults.Outside fault),
+  (
+    leaves,
+    (
+      inputs,
+      record {
+        of_input = of_input;
+        status_is = said.0;
+        shelf = kept;
+        shelf_counts = counts;
+        shelf_rose = rose;
+        out = refl;
+        err = said.1;
+      },
+    ),
+  ),
+)
 stopped_failing job fault before after out err_before err_after status leaves kept counts inputs of_input rose (inr said) =
     stopped_lacking job before after out err_before err_after status leaves kept counts said.0 said.1
 
@@ -174,6 +192,8 @@ stopped job (faults.Outside outside.OutFailed) before after out err_before err_a
 stopped job (faults.Words error) before after out err_before err_after status leaves kept counts inputs stops said = absurd stops
 stopped job (faults.Posed error) before after out err_before err_after status leaves kept counts inputs stops said =
     stopped_refused job (faults.Posed error) before after out err_before err_after status tt leaves kept counts stops said
+stopped job (faults.Demands error) before after out err_before err_after status leaves kept counts inputs stops said =
+    stopped_refused job (faults.Demands error) before after out err_before err_after status tt leaves kept counts stops said
 stopped job (faults.NotPlain t y x) before after out err_before err_after status leaves kept counts inputs stops said =
     stopped_refused job (faults.NotPlain t y x) before after out err_before err_after status tt leaves kept counts stops said
 stopped job (faults.TooLong limit) before after out err_before err_after status leaves kept counts inputs stops said =
@@ -222,41 +242,82 @@ pub job_ended : (job : Job) (question : Question) (before mid after : ShelfMomen
     → Asks job (files_at before) (Ok question) → LeavesShelf job before mid → LeavesPrinting question mid after → KeepsFiles before mid → mid.faults ≡ before.faults
     → (end : End) × IsEndOf question (moment mid out_before err_before) (moment after out_after err_after) status end
     → (end : End) × IsEnd (Ok job) (moment before out_before err_before) (moment after out_after err_after) status end
-job_ended job question before mid after out_before out_after err_before err_after status asked leaves printing kept same (answered answer, ended) =
-    (answered answer, (leaves_both job question (files_at before) before mid after asked leaves printing, (question, asked, (ended.0, record {
-      status_is = ended.1.status_is;
-      shelf = WroteFile-after answer.file before mid after kept same ended.1.shelf;
-      out = ended.1.out;
-      out_faults = ended.1.out_faults;
-      err = ended.1.err;
-    }))))
-job_ended job question before mid after out_before out_after err_before err_after status asked leaves printing kept same (file_failed answer fault, ended) =
-    (file_failed answer fault, (leaves_both job question (files_at before) before mid after asked leaves printing, (question, asked, (ended.0, record {
-      file = ended.1.file;
-      file_is = ended.1.file_is;
-      part = subst (λ files. LeavesPart fault ended.1.file files (files_at after)) kept.files ended.1.part;
-      status_is = ended.1.status_is;
-      shelf_counts = subst (λ n. Counts n after.faults) same ended.1.shelf_counts;
-      shelf_rose = subst (λ n. Rose n after.faults) same ended.1.shelf_rose;
-      out = ended.1.out;
-      err = ended.1.err;
-    }))))
-job_ended job question before mid after out_before out_after err_before err_after status asked leaves printing kept same (output_failed answer, ended) =
-    (output_failed answer, (leaves_both job question (files_at before) before mid after asked leaves printing, (question, asked, (ended.0, record {
-      status_is = ended.1.status_is;
-      shelf = WroteFile-after answer.file before mid after kept same ended.1.shelf;
-      out = ended.1.out;
-      out_counts = ended.1.out_counts;
-      out_rose = ended.1.out_rose;
-      err = ended.1.err;
-    }))))
-job_ended job question before mid after out_before out_after err_before err_after status asked leaves printing kept same (lacked, ended) =
-    (lacked, (leaves_both job question (files_at before) before mid after asked leaves printing, record {
+job_ended job question before mid after out_before out_after err_before err_after status asked leaves printing kept same (answered answer, ended) = (
+  answered answer,
+  (
+    leaves_both job question (files_at before) before mid after asked leaves printing,
+    (
+      question,
+      asked,
+      (
+        ended.0,
+        record {
+          status_is = ended.1.status_is;
+          shelf = WroteFile-after answer.file before mid after kept same ended.1.shelf;
+          out = ended.1.out;
+          out_faults = ended.1.out_faults;
+          err = ended.1.err;
+        },
+      ),
+    ),
+  ),
+)
+job_ended job question before mid after out_before out_after err_before err_after status asked leaves printing kept same (file_failed answer fault, ended) = (
+  file_failed answer fault,
+  (
+    leaves_both job question (files_at before) before mid after asked leaves printing,
+    (
+      question,
+      asked,
+      (
+        ended.0,
+        record {
+          file = ended.1.file;
+          file_is = ended.1.file_is;
+          part = subst (λ files. LeavesPart fault ended.1.file files (files_at after)) kept.files ended.1.part;
+          status_is = ended.1.status_is;
+          shelf_counts = subst (λ n. Counts n after.faults) same ended.1.shelf_counts;
+          shelf_rose = subst (λ n. Rose n after.faults) same ended.1.shelf_rose;
+          out = ended.1.out;
+          err = ended.1.err;
+        },
+      ),
+    ),
+  ),
+)
+job_ended job question before mid after out_before out_after err_before err_after status asked leaves printing kept same (output_failed answer, ended) = (
+  output_failed answer,
+  (
+    leaves_both job question (files_at before) before mid after asked leaves printing,
+    (
+      question,
+      asked,
+      (
+        ended.0,
+        record {
+          status_is = ended.1.status_is;
+          shelf = WroteFile-after answer.file before mid after kept same ended.1.shelf;
+          out = ended.1.out;
+          out_counts = ended.1.out_counts;
+          out_rose = ended.1.out_rose;
+          err = ended.1.err;
+        },
+      ),
+    ),
+  ),
+)
+job_ended job question before mid after out_before out_after err_before err_after status asked leaves printing kept same (lacked, ended) = (
+  lacked,
+  (
+    leaves_both job question (files_at before) before mid after asked leaves printing,
+    record {
       status_is = ended.status_is;
       shelf = record { files = ended.shelf.files ∙ kept.files; target = ended.shelf.target ∙ kept.target; has_output = ended.shelf.has_output ∙ kept.has_output };
       shelf_counts = subst (λ n. Counts n after.faults) same ended.shelf_counts;
       out = ended.out;
       err = ended.err;
-    }))
+    },
+  ),
+)
 job_ended job question before mid after out_before out_after err_before err_after status asked leaves printing kept same (refused fault, ended) = absurd ended
 job_ended job question before mid after out_before out_after err_before err_after status asked leaves printing kept same (input_failed fault, ended) = absurd ended

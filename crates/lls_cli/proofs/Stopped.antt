@@ -1,5 +1,5 @@
 -- Readings that stop at their first input.
-use Rattle.std.proofs.Common.{◌≡◌, ℕ, Bool, List, [], Option, None, Some, Result, Ok, Err, refl, ap}
+use Rattle.std.proofs.Common.{ℕ, Bool, List, [], Option, None, Some, Result, Ok, Err, refl, ap}
 use Rattle.lls_base.specs.Results.{and_then}
 use Rattle.lls_base.specs.Shelf.{Files}
 use Rattle.lls_problem.specs.declared.demands.Demands.{Demands}
@@ -22,6 +22,7 @@ Stops-along (faults.Outside outside.WriteFailed) One Two before after along stop
 Stops-along (faults.Outside outside.OutFailed) One Two before after along stops = absurd stops
 Stops-along (faults.Words error) One Two before after along stops = absurd stops
 Stops-along (faults.Posed error) One Two before after along stops = (along stops.0, stops.1)
+Stops-along (faults.Demands error) One Two before after along stops = (along stops.0, stops.1)
 Stops-along (faults.NotPlain t y x) One Two before after along stops = (along stops.0, stops.1)
 Stops-along (faults.TooLong limit) One Two before after along stops = (along stops.0, stops.1)
 

@@ -1,6 +1,5 @@
 -- What a whole write leaves on a sink, and the file of an answer that wasn't written.
 use Rattle.std.proofs.Common.{◌≡◌, ◌≤◌, ℕ, List, length, take, Result, Ok, Err, Option, None, Some, OnOk, OnErr, refl, ap, sym, ◌∙◌, arith, inl, inr}
-use Rattle.std.specs.Prelude.{IsErrOf}
 use Rattle.std.proofs.Math.Seq.{take-length}
 use Rattle.std.specs.Io.KnownBytes.{append_known}
 use Rattle.std.specs.Option.{option_map}
@@ -11,10 +10,9 @@ use Rattle.lls_base.specs.Writing.{with_output, without_output}
 use Rattle.lls_base.specs.declared.sink.Failed.{Failed}
 use Rattle.lls_base.specs.declared.writing.FileFault.{FileFault}
 use Rattle.lls_base.specs.declared.writing.FileFault.TheVariants as writes
-use Rattle.lls_cli.specs.declared.fault.Fault.TheVariants.{Outside}
 use Rattle.lls_cli.specs.Answer.{NamedFile}
-use Rattle.lls_cli.specs.Moment.{SinkMoment, ShelfMoment, files_at}
-use Rattle.lls_cli.specs.Ends.{GrewBy, LeavesPart}
+use Rattle.lls_cli.specs.Moment.{SinkMoment, ShelfMoment}
+use Rattle.lls_cli.specs.Ends.{GrewBy}
 use Rattle.lls_cli.specs.Steps.{Unwritten, file_fault}
 
 pub grew_by : (answer : Result (Unit {0}) Failed) (text : List ℕ) (before after : SinkMoment)

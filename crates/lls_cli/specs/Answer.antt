@@ -11,7 +11,7 @@ use Rattle.lls_lrat.specs.declared.error.CheckError.TheVariants as proof
 use Rattle.lls_lrat.specs.Verdict.{verdict}
 use Rattle.lls_cli.specs.declared.status.Status.{Status}
 use Rattle.lls_cli.specs.declared.status.Status.TheVariants as statuses
-use Rattle.lls_cli.specs.Interim.{judgement_text}
+use Rattle.lls_problem.specs.Texts.{judgement_text}
 use Rattle.lls_cli.specs.Question.{Question, checks, judges, prints}
 
 -- a file that is written: its name and its bytes

@@ -1,5 +1,5 @@
 -- What a run's end says in plain sentences. Each follows from how the run ends.
-use Rattle.std.specs.Prelude.{◌≡◌, ◌≤◌, ◌⊎◌, ℕ, Bool, List, Option, None, Some, Result, Ok, Err, IsErr, IfSome}
+use Rattle.std.specs.Prelude.{◌≡◌, ◌≤◌, ◌⊎◌, Option, None, Some, Result, Ok, Err}
 use Rattle.lls_base.specs.Faults.{Rose}
 use Rattle.lls_base.specs.Shelf.{Files}
 use Rattle.lls_words.specs.declared.error.WordsError.{WordsError}

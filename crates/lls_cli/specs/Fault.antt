@@ -5,7 +5,10 @@ use Rattle.lls_search_file.specs.declared.error.PosedError.TheVariants as posed
 use Rattle.lls_words.specs.declared.error.WordsError.{WordsError}
 use Rattle.lls_words.specs.declared.error.WordsError.TheVariants as words
 use Rattle.lls_words.specs.Texts.{words_error_text}
-use Rattle.lls_cli.specs.Interim.{is_limit, posed_error_text}
+use Rattle.lls_search_file.specs.Faults.{is_limit, posed_error_text}
+use Rattle.lls_problem.specs.declared.demands.DemandError.{DemandError}
+use Rattle.lls_problem.specs.declared.demands.DemandError.TheVariants as demands
+use Rattle.lls_problem.specs.Texts.{demand_error_text}
 use Rattle.lls_cli.specs.declared.fault.Fault.{Fault}
 use Rattle.lls_cli.specs.declared.fault.Fault.TheVariants as faults
 use Rattle.lls_cli.specs.declared.fault.OutsideFault.{OutsideFault}
@@ -18,6 +21,11 @@ abbrev pub posed_status : PosedError → Status
 posed_status posed.Memory = statuses.Memory
 posed_status error = if is_limit error then statuses.Limit else statuses.Content
 
+-- the counters of bounds pass a limit; any other demand is at odds with the file
+abbrev pub demand_status : DemandError → Status
+demand_status (demands.Counters n) = statuses.Limit
+demand_status error = statuses.Content
+
 abbrev pub words_status : WordsError → Status
 words_status words.Memory = statuses.Memory
 words_status error = statuses.Words
@@ -25,10 +33,16 @@ words_status error = statuses.Words
 abbrev pub status_of : Fault → Status
 status_of (faults.Words error) = words_status error
 status_of (faults.Posed error) = posed_status error
+status_of (faults.Demands error) = demand_status error
 status_of (faults.NotPlain t y x) = statuses.Content
 status_of (faults.Outside fault) = statuses.Outside
 status_of (faults.TooLong limit) = statuses.Limit
 status_of faults.Memory = statuses.Memory
+
+-- what a demand that doesn't fit is called
+abbrev pub demand_kind : DemandError → List ℕ
+demand_kind (demands.Counters n) = codes "limit: "
+demand_kind error = codes "content: "
 
 abbrev pub outside_text : OutsideFault → List ℕ
 outside_text outside.NoFile = codes "NoFile"
@@ -42,6 +56,7 @@ outside_text outside.OutFailed = codes "OutFailed"
 abbrev pub fault_text : Fault → List ℕ
 fault_text (faults.Words error) = codes "words: " ++ words_error_text error
 fault_text (faults.Posed error) = (if is_limit error then codes "limit: " else codes "content: ") ++ posed_error_text error
+fault_text (faults.Demands error) = demand_kind error ++ demand_error_text error
 fault_text (faults.NotPlain t y x) = codes "content: NotPlain " ++ decimal t ++ codes " " ++ decimal y ++ codes " " ++ decimal x
 fault_text (faults.Outside fault) = codes "outside: " ++ outside_text fault
 fault_text (faults.TooLong limit) = codes "limit: TooLong " ++ decimal limit

@@ -1,5 +1,4 @@
 pub mod Status
-pub mod Interim
 pub mod Fault
 pub mod Question
 pub mod Answer

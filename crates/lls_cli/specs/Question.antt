@@ -12,7 +12,8 @@ use Rattle.lls_search_file.specs.Posed.{PosedFile}
 use Rattle.lls_search_file.specs.Reading.{posed_of}
 use Rattle.lls_search_file.specs.Plain.{plain_of}
 use Rattle.lls_problem.specs.declared.demands.Demands.{Demands}
-use Rattle.lls_problem.specs.Problem.{PosedProblem}
+use Rattle.lls_problem.specs.declared.demands.DemandError.{DemandError}
+use Rattle.lls_problem.specs.Problem.{PosedProblem, problem_made}
 use Rattle.lls_words.specs.declared.job.Job.{Job}
 use Rattle.lls_words.specs.declared.job.Job.TheVariants as jobs
 use Rattle.lls_cli.specs.declared.fault.Fault.{Fault}
@@ -39,9 +40,14 @@ abbrev pub posed_in : Result PosedFile PosedError → Result PosedFile Fault
 posed_in (Ok posed) = Ok posed
 posed_in (Err error) = Err (faults.Posed error)
 
+-- the problem that the demands make of it
+abbrev pub demanded : Result PosedProblem DemandError → Result PosedProblem Fault
+demanded (Ok problem) = Ok problem
+demanded (Err error) = Err (faults.Demands error)
+
 -- the problem that the bytes of a search file pose
 abbrev pub problem_in : List Bool → Demands → List ℕ → Result PosedProblem Fault
-problem_in rule demands bytes = and_then (posed_in (posed_of bytes)) (λ posed. Ok (record { posed = posed; rule = rule; demands = demands }))
+problem_in rule demands bytes = and_then (posed_in (posed_of bytes)) (λ posed. demanded (problem_made posed rule demands))
 
 -- the history of a pattern's bytes
 abbrev pub plain_in : Result History HistoryError → Result History Fault

@@ -1,5 +1,4 @@
 -- For private contracts alone: questions and answers as contracts see them.
-use Rattle.std.specs.Prelude.{◌≡◌, Option}
 use Rattle.std.specs.Option.{option_map}
 use Rattle.lls_hensel.specs.Isotropy.{IsIsotropic}
 use Rattle.lls_cli.specs.declared.question.Question as code

@@ -1,5 +1,5 @@
 -- For private contracts alone: the steps of a run, from reading an input to giving an answer.
-use Rattle.std.specs.Prelude.{◌≡◌, ◌≤◌, ◌⊎◌, ℕ, Bool, List, length, take, Option, Some, Result, Ok, Err, IfOk, IfErr, OnOk}
+use Rattle.std.specs.Prelude.{◌≡◌, ◌≤◌, ◌⊎◌, ℕ, List, length, take, Option, Some, Result, Ok, Err, IfOk, IfErr}
 use Rattle.std.specs.Io.KnownBytes.{append_known}
 use Rattle.lls_base.specs.Faults.{Counts, Rose}
 use Rattle.lls_base.specs.Shelf.{Files}
@@ -17,7 +17,7 @@ use Rattle.lls_cli.specs.Fault.{fault_line, status_of}
 use Rattle.lls_cli.specs.Question.{Question, checks, judges, prints, IsInput}
 use Rattle.lls_cli.specs.Answer.{GivenAnswer, NamedFile}
 use Rattle.lls_cli.specs.Moment.{ShelfMoment, SinkMoment, Moment, files_at}
-use Rattle.lls_cli.specs.Ends.{GrewBy, KeepsFiles, WroteFile, LeavesPart, LacksMemory, Delivered, FileFailed, OutputFailed, End, refused, lacked, input_failed, answered, file_failed, output_failed}
+use Rattle.lls_cli.specs.Ends.{GrewBy, KeepsFiles, LeavesPart, Delivered, FileFailed, OutputFailed, End, refused, lacked, input_failed, answered, file_failed, output_failed}
 
 -- why reading stopped: for want of memory; since a call of the shelf failed; or for what the inputs say, and no call failed
 abbrev pub Stops : Fault → (Fault → Type 0) → ShelfMoment → ShelfMoment → Type 0

@@ -15,16 +15,16 @@ use lls_words::Job;
 use std::alloc::Global;
 
 /// What a job asks, read from the shelf.
-pub fn ask<S: Shelf>(alloc: Global, shelf: &mut S, job: &Job) -> Result<Question, Fault>
-    requires { IsPrintable job.now }
-    ensures read { Reads seen_question (Asks job.now (files_at (shelf_moment (S.told shelf.old) (S.has_output shelf.old) (S.faults shelf.old)))) result
+pub fn ask<S: Shelf>(alloc: Global, shelf: &mut S, job: Job) -> Result<Question, Fault>
+    requires { IsPrintable job }
+    ensures read { Reads seen_question (Asks job (files_at (shelf_moment (S.told shelf.old) (S.has_output shelf.old) (S.faults shelf.old)))) result
         (shelf_moment (S.told shelf.old) (S.has_output shelf.old) (S.faults shelf.old))
         (shelf_moment (S.told shelf.new) (S.has_output shelf.new) (S.faults shelf.new)) }
-    ensures leaves { LeavesShelf job.now
+    ensures leaves { LeavesShelf job
         (shelf_moment (S.told shelf.old) (S.has_output shelf.old) (S.faults shelf.old))
         (shelf_moment (S.told shelf.new) (S.has_output shelf.new) (S.faults shelf.new)) }
     ensures printable { IfOk result CanPrint }
-    ensures inputs { OnErr result (HasInputs job.now) }
+    ensures inputs { OnErr result (HasInputs job) }
 {
     match job {
         Job::Check {
@@ -33,8 +33,8 @@ pub fn ask<S: Shelf>(alloc: Global, shelf: &mut S, job: &Job) -> Result<Question
             rule,
             demands,
         } => {
-            let problem = read_problem(alloc, shelf, search, *rule, *demands)?;
-            let proof = read_input(alloc, shelf, proof, PROOF_LIMIT)?;
+            let problem = read_problem(alloc, shelf, &search, rule, demands)?;
+            let proof = read_input(alloc, shelf, &proof, PROOF_LIMIT)?;
             Ok(Question::Check { problem, proof })
         }
         Job::Judge {
@@ -43,10 +43,10 @@ pub fn ask<S: Shelf>(alloc: Global, shelf: &mut S, job: &Job) -> Result<Question
             rule,
             demands,
         } => {
-            let problem = read_problem(alloc, shelf, search, *rule, *demands)?;
-            let history = read_pattern(alloc, shelf, pattern)?;
+            let problem = read_problem(alloc, shelf, &search, rule, demands)?;
+            let history = read_pattern(alloc, shelf, &pattern)?;
             Ok(Question::Judge { problem, history })
         }
-        Job::Rule { rule } => Ok(Question::Print { rule: *rule }),
+        Job::Rule { rule } => Ok(Question::Print { rule }),
     }
 }

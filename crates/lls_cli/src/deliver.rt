@@ -63,10 +63,7 @@ fn file_fault(fault: FileFault) -> OutsideFault
 }
 
 /// Writes the file of an answer, if it has one.
-fn write_answer_file<S: Shelf>(
-    file: &Option<AnswerFile>,
-    shelf: &mut S,
-) -> Result<(), OutsideFault>
+fn write_answer_file<S: Shelf>(file: &Option<AnswerFile>, shelf: &mut S) -> Result<(), OutsideFault>
     ensures written { OnOk result (WroteFile (option_map seen_file file.now)
         (shelf_moment (S.told shelf.old) (S.has_output shelf.old) (S.faults shelf.old))
         (shelf_moment (S.told shelf.new) (S.has_output shelf.new) (S.faults shelf.new))) }

@@ -2,9 +2,9 @@
 ghost use Rattle.std.specs.Prelude.{◌≡◌, IfOk, string_bytes};
 ghost use Rattle.lls_cli.specs.Fault.{status_of, fault_line};
 
-use crate::interim::PosedText;
 use crate::status::Status;
 use lls_base::Memory;
+use lls_problem::DemandError;
 use lls_search_file::PosedError;
 use lls_words::WordsError;
 use std::alloc::{AllocError, AllocFailed, Global};
@@ -72,6 +72,8 @@ pub enum Fault {
     Words(WordsError),
     /// The search file isn't in its grammar, or is too large.
     Posed(PosedError),
+    /// The demands don't fit the search file, or need too many counters.
+    Demands(DemandError),
     /// The cell of this generation, row and column of the pattern is the first that is marked, or neither
     /// dead nor live.
     NotPlain(u64, u64, u64),
@@ -92,11 +94,17 @@ impl fmt::Display for Fault {
         match self {
             Fault::Words(error) => write!(f, "words: {error}"),
             Fault::Posed(error) => {
-                let text = PosedText(*error);
-                if text.is_limit() {
-                    write!(f, "limit: {text}")
+                if error.is_limit() {
+                    write!(f, "limit: {error}")
                 } else {
-                    write!(f, "content: {text}")
+                    write!(f, "content: {error}")
+                }
+            }
+            Fault::Demands(error) => {
+                if let DemandError::Counters(_) = error {
+                    write!(f, "limit: {error}")
+                } else {
+                    write!(f, "content: {error}")
                 }
             }
             Fault::NotPlain(t, y, x) => write!(f, "content: NotPlain {t} {y} {x}"),
@@ -118,12 +126,14 @@ impl Fault {
             Fault::Words(_) => Status::Words,
             Fault::Posed(PosedError::Memory) => Status::Memory,
             Fault::Posed(error) => {
-                if PosedText(error).is_limit() {
+                if error.is_limit() {
                     Status::Limit
                 } else {
                     Status::Content
                 }
             }
+            Fault::Demands(DemandError::Counters(_)) => Status::Limit,
+            Fault::Demands(_) => Status::Content,
             Fault::NotPlain(_, _, _) => Status::Content,
             Fault::Outside(_) => Status::Outside,
             Fault::TooLong(_) => Status::Limit,
@@ -150,6 +160,17 @@ impl From<WordsError> for Fault {
             WordsError::Memory => Fault::Memory,
             _ => Fault::Words(error),
         }
+    }
+}
+
+impl From<DemandError> for Fault {
+    ghost use Rattle.std.specs.Prelude.{◌≡◌};
+    ghost use Rattle.lls_cli.specs.declared.fault.Fault.TheVariants as faults;
+
+    ghost from_gives = { λ error fault. fault ≡ faults.Demands error };
+
+    fn from(error: DemandError) -> Self {
+        Fault::Demands(error)
     }
 }
 

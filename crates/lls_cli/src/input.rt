@@ -63,11 +63,16 @@ fn posed_input(alloc: Global, bytes: &[u8]) -> Result<Posed, Fault>
 }
 
 /// The problem that the bytes of a search file pose.
-fn problem_input(alloc: Global, bytes: &[u8], rule: Rule, demands: Demands) -> Result<Problem, Fault>
+fn problem_input(
+    alloc: Global,
+    bytes: &[u8],
+    rule: Rule,
+    demands: Demands,
+) -> Result<Problem, Fault>
     ensures { Gives Fault.Memory (λ problem. problem) result (problem_in rule demands bytes.now) }
 {
     let posed = posed_input(alloc, bytes)?;
-    Ok(make_problem(posed, rule, demands).unwrap())
+    Ok(make_problem(posed, rule, demands)?)
 }
 
 /// The problem of a search file.

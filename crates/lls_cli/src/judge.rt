@@ -8,7 +8,6 @@ ghost use Rattle.lls_cli.specs.Seen.{seen_answer};
 
 use crate::answer::Answer;
 use crate::deliver::{deliver, lack};
-use crate::interim::JudgementText;
 use crate::status::Status;
 use lls_base::{Memory, Shelf, Sink};
 use lls_grid::History;
@@ -26,7 +25,6 @@ fn answer(alloc: Global, judgement: &Judgement) -> Result<Answer, Memory>
             file: None,
         });
     }
-    let judgement = JudgementText(*judgement);
     let text = format!(in alloc; "broken: {judgement}\n")?;
     Ok(Answer {
         status: Status::Refused,

@@ -7,7 +7,6 @@ mod check;
 mod deliver;
 mod fault;
 mod input;
-mod interim;
 mod judge;
 mod print;
 mod question;

@@ -62,7 +62,7 @@ fn run_words<S: Shelf, O: Sink, E: Sink>(
         Ok(job) => job,
         Err(error) => return refuse(alloc, Fault::from(error), err),
     };
-    match ask(alloc, shelf, &job) {
+    match ask(alloc, shelf, job) {
         Ok(question) => answer(alloc, &question, shelf, out, err),
         Err(fault) => refuse(alloc, fault, err),
     }

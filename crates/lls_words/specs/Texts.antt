@@ -1,7 +1,7 @@
 -- The text of a fault of words: its name and its numbers, each after one blank. The fault of a rule text has its place before its column.
-use Rattle.std.specs.Prelude.{ℕ, List, ◌++◌, codes, decimal}
+use Rattle.std.specs.Prelude.{ℕ, List, ◌++◌, codes, decimal, Option, None, Some}
 use Rattle.lls_hensel.specs.declared.read.RuleError.{RuleError}
-use Rattle.lls_hensel.specs.declared.read.RuleError.TheVariants as rule
+use Rattle.lls_hensel.specs.Faults.{fault_name, fault_column}
 use Rattle.lls_words.specs.declared.error.WordsError.{WordsError}
 use Rattle.lls_words.specs.declared.error.WordsError.TheVariants as words
 
@@ -9,13 +9,13 @@ use Rattle.lls_words.specs.declared.error.WordsError.TheVariants as words
 abbrev pub pair_text : ℕ → ℕ → List ℕ
 pair_text first second = decimal first ++ codes " " ++ decimal second
 
+-- a name, the place of a word, and a column of it
+abbrev pub placed_text : List ℕ → ℕ → Option ℕ → List ℕ
+placed_text name place None = name ++ codes " " ++ decimal place
+placed_text name place (Some column) = name ++ codes " " ++ pair_text place column
+
 abbrev pub bad_rule_text : ℕ → RuleError → List ℕ
-bad_rule_text place rule.Empty = codes "Empty " ++ decimal place
-bad_rule_text place (rule.BadLetter column) = codes "BadLetter " ++ pair_text place column
-bad_rule_text place (rule.RepeatedDigit column) = codes "RepeatedDigit " ++ pair_text place column
-bad_rule_text place (rule.RepeatedLetter column) = codes "RepeatedLetter " ++ pair_text place column
-bad_rule_text place (rule.NoLetters column) = codes "NoLetters " ++ pair_text place column
-bad_rule_text place (rule.Stray column) = codes "Stray " ++ pair_text place column
+bad_rule_text place fault = placed_text (fault_name fault) place (fault_column fault)
 
 abbrev pub words_error_text : WordsError → List ℕ
 words_error_text words.NoCommand = codes "NoCommand"

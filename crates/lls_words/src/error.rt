@@ -73,13 +73,10 @@ impl fmt::Display for BadRule {
 
     fn fmt<W: fmt::Write>(&self, f: &mut fmt::Formatter<W>) -> fmt::Result {
         let place = self.place;
-        match self.fault {
-            RuleError::Empty => write!(f, "Empty {place}"),
-            RuleError::BadLetter(column) => write!(f, "BadLetter {place} {column}"),
-            RuleError::RepeatedDigit(column) => write!(f, "RepeatedDigit {place} {column}"),
-            RuleError::RepeatedLetter(column) => write!(f, "RepeatedLetter {place} {column}"),
-            RuleError::NoLetters(column) => write!(f, "NoLetters {place} {column}"),
-            RuleError::Stray(column) => write!(f, "Stray {place} {column}"),
+        let name = self.fault.name();
+        match self.fault.column() {
+            None => write!(f, "{name} {place}"),
+            Some(column) => write!(f, "{name} {place} {column}"),
         }
     }
 }

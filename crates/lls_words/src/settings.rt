@@ -12,7 +12,7 @@ use lls_problem::{Demands, Edge};
 use lls_rule::Rule;
 
 /// The values of all options.
-#[derive(Clone, Copy)]
+#[derive(Drop)]
 pub struct Settings {
     pub rule: Rule,
     pub demands: Demands,

@@ -52,3 +52,82 @@ fn a_failing_error_stream_changes_no_status(rt: HostRuntime) -> Result<(), Fail>
     }
     Ok(())
 }
+
+/// A command line, the files `f` and `p`, what fails, and the status and the text that are wanted.
+type Row = (
+    &'static str,
+    &'static str,
+    &'static str,
+    Failing,
+    Status,
+    &'static str,
+);
+
+#[test]
+fn the_first_refusal_is_answered(rt: HostRuntime) -> Result<(), Fail> {
+    let alloc = rt.alloc();
+    let open = Failing { open: 2, ..NOTHING };
+    let read = Failing { read: 1, ..NOTHING };
+    let out = Failing { out: 1, ..NOTHING };
+    let rows: [Row; 5] = [
+        // The search file is refused before the second input is opened.
+        (
+            "check f p",
+            "1 2\n",
+            "",
+            open,
+            Status::Content,
+            "content: BadCell 1 3",
+        ),
+        (
+            "judge f p",
+            "",
+            "1\n",
+            open,
+            Status::Content,
+            "content: Empty",
+        ),
+        // An input that can't be read has no fault of its content.
+        (
+            "judge f p",
+            "*\n",
+            "a\n",
+            read,
+            Status::Outside,
+            "outside: ReadFailed",
+        ),
+        // A no that isn't given is a failure of the output.
+        (
+            "check f p",
+            "1\n\n1\n",
+            "",
+            out,
+            Status::Outside,
+            "outside: OutFailed",
+        ),
+        (
+            "judge f p",
+            "1\n",
+            "0\n",
+            out,
+            Status::Outside,
+            "outside: OutFailed",
+        ),
+    ];
+    for (line, f, p, failing, status, text) in rows {
+        let words = words_of(alloc, line)?;
+        let ended = run_over(alloc, &words, f.as_bytes(), p.as_bytes(), failing)?;
+        is_fault(&rt, alloc, &ended, status, text)?;
+        assert!(rt; ended.out.bytes().is_empty());
+    }
+    Ok(())
+}
+
+#[test]
+fn a_long_search_file_is_refused_before_the_proof_is_opened(rt: HostRuntime) -> Result<(), Fail> {
+    let alloc = rt.alloc();
+    let words = words_of(alloc, "check f p")?;
+    let file = vec![in alloc; b'#'; 1_048_577]?;
+    let ended = run_over(alloc, &words, &file, b"", Failing { open: 2, ..NOTHING })?;
+    is_fault(&rt, alloc, &ended, Status::Limit, "limit: TooLong 1048576")
+}

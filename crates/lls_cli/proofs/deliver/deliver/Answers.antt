@@ -7,17 +7,22 @@ use Rattle.lls_cli.proofs.deliver.deliver.Goals as goal
 pub returns-in-Err : goal.returns-in-Err
 returns-in-Err g c =
     let answer = seen_answer c.args.answer.now in
-    let file = c.in-Err.ensures.unwritten in
-    (file_failed answer (Outside c.in-Err.fault), (refl, record {
-      file = file.file_is.0;
-      file_is = file.file_is.1;
-      part = file.file_is.2;
-      status_is = c.say.ensures.status;
-      shelf_counts = file.counts;
-      shelf_rose = file.rose;
-      out = refl;
-      err = c.say.ensures.line;
-    }))
+    let file = c.in-Err.ensures.unwritten in (
+      file_failed answer (Outside c.in-Err.fault),
+      (
+        refl,
+        record {
+          file = file.file_is.0;
+          file_is = file.file_is.1;
+          part = file.file_is.2;
+          status_is = c.say.ensures.status;
+          shelf_counts = file.counts;
+          shelf_rose = file.rose;
+          out = refl;
+          err = c.say.ensures.line;
+        },
+      ),
+    )
 
 pub returns-in-Ok : goal.returns-in-Ok
 returns-in-Ok g c =

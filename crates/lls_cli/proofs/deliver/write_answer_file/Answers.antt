@@ -1,5 +1,4 @@
 use Rattle.std.proofs.Common.{Err, ap}
-use Rattle.std.specs.Option.{option_map}
 use Rattle.lls_cli.specs.Seen.{seen_file}
 use Rattle.lls_cli.proofs.Written.{unwritten}
 use Rattle.lls_cli.proofs.deliver.write_answer_file.Goals as goal

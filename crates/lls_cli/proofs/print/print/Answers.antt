@@ -1,4 +1,4 @@
-use Rattle.std.proofs.Common.{refl, sym}
+use Rattle.std.proofs.Common.{refl}
 use Rattle.lls_hensel.specs.Printing.{rule_text}
 use Rattle.lls_cli.specs.declared.status.Status.TheVariants.{Done}
 use Rattle.lls_cli.specs.Answer.{said}

@@ -6,8 +6,8 @@ pub returns-in-Err : goal.returns-in-Err
 returns-in-Err g c =
     words_ended c.in-Err.error _ _ _ _ _ _ (g.met.S.Shelf.faults_fit c.args.shelf.now) c.in-Err.ensures.job (rw c.from.ensures at c.refuse.ensures)
 
-pub returns : goal.returns
-returns g c =
+pub returns-in-Err-ask : goal.returns-in-Err-ask
+returns-in-Err-ask g c =
     let read = c.in-Err-ask.ensures in
     rw c.in-Ok.ensures.job
     (stopped c.in-Ok.job c.in-Err-ask.fault _ _ _ _ _ _ read.leaves read.read.kept read.read.counts read.inputs read.read.err c.refuse-in-Err-ask.ensures)
