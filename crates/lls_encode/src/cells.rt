@@ -10,13 +10,14 @@ ghost use Rattle.lls_encode.specs.Room.{with_clauses, HasRoom};
 
 use lls_base::Memory;
 use lls_cnf::Formula;
+use lls_grid::History;
 use lls_lit::Lit;
 use lls_search_file::{Cell, Kind};
 use std::alloc::{AllocError, Global};
 
 /// The literal of the kth cell, or of its negation.
 pub fn cell_literal(k: usize) -> Lit
-    requires { k < 8192 }
+    requires { k < History.MOST_CELLS }
     ensures { result ≡ pos (k + 1) }
 {
     Lit::from_number(1 + k as i32).unwrap()
@@ -25,7 +26,7 @@ pub fn cell_literal(k: usize) -> Lit
 /// Pushes the clause of the kth cell, where it is fixed.
 fn push_fixed_cell(formula: &mut Formula, k: usize, kind: Kind) -> Result<(), Memory>
     requires cell { k < formula.old.vars }
-    requires most { formula.old.vars ≤ 8192 }
+    requires most { formula.old.vars ≤ History.MOST_CELLS }
     requires room { HasRoom formula.old 1 }
     ensures { OnOk result (formula.new ≡ with_clauses formula.old (fixed_clauses k kind)) }
 {
@@ -39,7 +40,7 @@ fn push_fixed_cell(formula: &mut Formula, k: usize, kind: Kind) -> Result<(), Me
 /// Pushes a clause for each fixed cell.
 pub fn push_fixed(formula: &mut Formula, cells: &[Cell]) -> Result<(), Memory>
     requires vars { formula.old.vars ≡ length cells.now }
-    requires most { length cells.now ≤ 8192 }
+    requires most { length cells.now ≤ History.MOST_CELLS }
     requires room { HasRoom formula.old (length cells.now) }
     ensures { OnOk result (formula.new ≡ with_clauses formula.old
         (flat_map (λ k. fixed_clauses k (cell_number cells.now k).kind) (range_with_len 0 (length cells.now)))) }
@@ -62,7 +63,7 @@ fn push_same(formula: &mut Formula, a: Lit, b: Lit) -> Result<(), Memory>
 
 /// The literal by which the kth cell says its name's value.
 fn name_literal(k: usize, kind: Kind) -> Lit
-    requires { k < 8192 }
+    requires { k < History.MOST_CELLS }
     ensures { result ≡ name_literal k kind }
 {
     let literal = cell_literal(k);
@@ -82,7 +83,7 @@ fn push_name(
     k: usize,
 ) -> Result<(), Memory>
     requires cell { k < length cells.now }
-    requires most { length cells.now ≤ 8192 }
+    requires most { length cells.now ≤ History.MOST_CELLS }
     requires vars { formula.old.vars ≡ length cells.now }
     requires known { IfSome (name_of (cell_number cells.now k).kind) (λ n. n < length firsts.old.items) }
     requires firsts { firsts.old.items ≡ first_literals cells.now k (length firsts.old.items) }
@@ -124,7 +125,7 @@ pub fn push_names(
     names: usize,
 ) -> Result<(), Memory>
     requires vars { formula.old.vars ≡ length cells.now }
-    requires most { length cells.now ≤ 8192 }
+    requires most { length cells.now ≤ History.MOST_CELLS }
     requires numbered { are_numbered cells.now names (Some 0) ≡ true }
     requires room { HasRoom formula.old (2 * length cells.now) }
     ensures { OnOk result (formula.new ≡ with_clauses formula.old

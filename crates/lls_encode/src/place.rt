@@ -4,9 +4,12 @@ ghost use Rattle.std.specs.List.{list_all};
 ghost use Rattle.lls_encode.specs.Place.{place_at, inputs_at, place_within};
 
 use crate::cells::cell_literal;
-use lls_grid::{GridPlace, index_within};
+use lls_grid::{GridPlace, History, index_within};
 use lls_lit::Lit;
 use lls_problem::Problem;
+
+/// A cell and its nine cells in the generation before.
+pub const INPUTS: usize = 10;
 
 /// A known value, or the literal of a cell.
 #[derive(Clone, Copy, Debug, PartialEq, Eq)]
@@ -30,13 +33,14 @@ pub fn place_at(problem: &Problem, t: u32, y: i32, x: i32) -> Place
 
 /// The ten inputs of the transition into a place of generation t + 1: its neighbourhood in generation t from top left
 /// to bottom right, and itself.
-pub fn inputs_at(problem: &Problem, t: u32, y: i32, x: i32) -> [Place; 10]
+pub fn inputs_at(problem: &Problem, t: u32, y: i32, x: i32) -> [Place; INPUTS]
     requires generation { t + 1 < problem.now.posed.generations }
-    requires row { (negsuc 0 ≤ℤ y) × (y ≤ℤ pos 64) }
-    requires column { (negsuc 0 ≤ℤ x) × (x ≤ℤ pos 64) }
+    requires row { (negsuc 0 ≤ℤ y) × (y ≤ℤ pos History.MOST_HEIGHT) }
+    requires column { (negsuc 0 ≤ℤ x) × (x ≤ℤ pos History.MOST_WIDTH) }
     ensures inputs { result ≡ inputs_at problem.now t y x }
     ensures within { list_all (place_within (length problem.now.posed.cells)) result ≡ true }
 {
+    // The limits of the file's sizes are known from here on.
     let _generations = problem.posed().generations;
     [
         place_at(problem, t, y - 1, x - 1),

@@ -8,18 +8,34 @@ ghost use Rattle.lls_encode.specs.Place.{differs, place_within};
 ghost use Rattle.lls_encode.specs.Formula.{row_bits, is_forbidden, row_clauses, transition_clauses, place_clauses, line_clauses, generation_clauses, transition_part, first_framed, framed_count};
 ghost use Rattle.lls_encode.specs.Room.{with_clauses, HasRoom};
 
-use crate::place::{Place, inputs_at};
+use crate::place::{INPUTS, Place, inputs_at};
 use lls_base::Memory;
 use lls_cnf::Formula;
+use lls_grid::History;
 use lls_lit::Lit;
 use lls_problem::{Edge, Problem};
 use lls_rule::Rule;
 use std::alloc::{AllocError, Global};
 
+/// The rows of a transition's table: each input is dead or live.
+const ROWS: u16 = 1024;
+
+/// A line has at most 64 cells and one cell of the ring at each end.
+const MOST_LINE: u32 = 66;
+
+/// The clauses of one transition, of a line's transitions, of a generation's and of all.
+const MOST_CLAUSES_EACH: u32 = 1024;
+
+const MOST_CLAUSES_LINE: u32 = MOST_LINE * MOST_CLAUSES_EACH;
+
+const MOST_CLAUSES_GENERATION: u32 = MOST_LINE * MOST_CLAUSES_LINE;
+
+const MOST_CLAUSES_ALL: u32 = (History::MOST_GENERATIONS - 1) * MOST_CLAUSES_GENERATION;
+
 /// The bit of the ith input in a row of a transition's table.
 fn row_bit(row: u16, i: usize) -> bool
-    requires row { row < 1024 }
-    requires input { i < 10 }
+    requires row { row < ROWS }
+    requires input { i < INPUTS }
     ensures { result ≡ (bit_at row (9 - i) == 1) }
 {
     row >> (9 - i) & 1 == 1
@@ -34,8 +50,8 @@ fn differing(literal: Lit, bit: bool) -> Lit
 
 /// Puts the clause that some input differs from its bit of the row into `clause`, and answers whether there is one:
 /// there is none where a known input differs.
-fn differs(inputs: &[Place; 10], row: u16, clause: &mut Vec<Lit>) -> Result<bool, AllocError>
-    requires { row < 1024 }
+fn differs(inputs: &[Place; INPUTS], row: u16, clause: &mut Vec<Lit>) -> Result<bool, AllocError>
+    requires { row < ROWS }
     ensures clause { IfOk result (λ found. differs inputs.now (row_bits row) ≡ (if found then Some clause.new.items else None)) }
 {
     clause.clear();
@@ -55,7 +71,7 @@ fn differs(inputs: &[Place; 10], row: u16, clause: &mut Vec<Lit>) -> Result<bool
 
 /// Whether the row's last bit isn't the rule's successor of the nine before it.
 fn is_forbidden(rule: &Rule, row: u16) -> bool
-    requires { row < 1024 }
+    requires { row < ROWS }
     ensures { result ≡ is_forbidden rule.now row }
 {
     rule.next(row / 2) != (row % 2 == 1)
@@ -66,10 +82,10 @@ fn push_row(
     formula: &mut Formula,
     clause: &mut Vec<Lit>,
     rule: &Rule,
-    inputs: &[Place; 10],
+    inputs: &[Place; INPUTS],
     row: u16,
 ) -> Result<(), Memory>
-    requires row { row < 1024 }
+    requires row { row < ROWS }
     requires within { list_all (place_within formula.old.vars) inputs.now ≡ true }
     requires room { HasRoom formula.old 1 }
     ensures { OnOk result (formula.new ≡ with_clauses formula.old (row_clauses rule.now inputs.now row)) }
@@ -85,13 +101,13 @@ fn push_transition(
     formula: &mut Formula,
     clause: &mut Vec<Lit>,
     rule: &Rule,
-    inputs: &[Place; 10],
+    inputs: &[Place; INPUTS],
 ) -> Result<(), Memory>
     requires within { list_all (place_within formula.old.vars) inputs.now ≡ true }
-    requires room { HasRoom formula.old 1024 }
+    requires room { HasRoom formula.old MOST_CLAUSES_EACH }
     ensures { OnOk result (formula.new ≡ with_clauses formula.old (transition_clauses rule.now inputs.now)) }
 {
-    for row in 0..1024 {
+    for row in 0..ROWS {
         push_row(formula, clause, rule, inputs, row)?;
     }
     Ok(())
@@ -108,12 +124,13 @@ fn push_place(
     column: u32,
 ) -> Result<(), Memory>
     requires generation { t + 1 < problem.now.posed.generations }
-    requires line { line ≤ 65 }
-    requires column { column ≤ 65 }
+    requires line { line < MOST_LINE }
+    requires column { column < MOST_LINE }
     requires vars { formula.old.vars ≡ length problem.now.posed.cells }
-    requires room { HasRoom formula.old 1024 }
+    requires room { HasRoom formula.old MOST_CLAUSES_EACH }
     ensures { OnOk result (formula.new ≡ with_clauses formula.old (place_clauses problem.now t (pos line -ℤ pos 1) (pos column -ℤ pos 1))) }
 {
+    // The limits of the file's sizes are known from here on.
     let _posed = problem.posed();
     let y = line as i32 - 1;
     let x = column as i32 - 1;
@@ -141,7 +158,7 @@ fn first_framed(edge: Edge) -> u32
 
 /// How many rows or columns are framed where the grid has `size`.
 fn framed_count(edge: Edge, size: u32) -> u32
-    requires { size ≤ 64 }
+    requires { size ≤ History.MOST_WIDTH }
     ensures value { result ≡ framed_count edge size }
     ensures small { result + first_framed edge ≤ size + 2 }
 {
@@ -160,9 +177,9 @@ fn push_line(
     line: u32,
 ) -> Result<(), Memory>
     requires generation { t + 1 < problem.now.posed.generations }
-    requires line { line ≤ 65 }
+    requires line { line < MOST_LINE }
     requires vars { formula.old.vars ≡ length problem.now.posed.cells }
-    requires room { HasRoom formula.old 67584 }
+    requires room { HasRoom formula.old MOST_CLAUSES_LINE }
     ensures { OnOk result (formula.new ≡ with_clauses formula.old (line_clauses problem.now t (pos line -ℤ pos 1))) }
 {
     let edge = problem.demands().edge;
@@ -182,7 +199,7 @@ fn push_generation(
 ) -> Result<(), Memory>
     requires generation { t + 1 < problem.now.posed.generations }
     requires vars { formula.old.vars ≡ length problem.now.posed.cells }
-    requires room { HasRoom formula.old 4460544 }
+    requires room { HasRoom formula.old MOST_CLAUSES_GENERATION }
     ensures { OnOk result (formula.new ≡ with_clauses formula.old (generation_clauses problem.now t)) }
 {
     let edge = problem.demands().edge;
@@ -200,7 +217,7 @@ pub fn push_transitions(
     problem: &Problem,
 ) -> Result<(), Memory>
     requires vars { formula.old.vars ≡ length problem.now.posed.cells }
-    requires room { HasRoom formula.old 281014272 }
+    requires room { HasRoom formula.old MOST_CLAUSES_ALL }
     ensures { OnOk result (formula.new ≡ with_clauses formula.old (transition_part problem.now)) }
 {
     let mut clause = Vec::new(alloc);
