@@ -1,0 +1,43 @@
+// Cubes of rows.
+ghost use Rattle.std.specs.Prelude.{◌≡◌, ℕ, ◌<◌, ◌^◌, map, All, IfOk, bit_and};
+ghost use Rattle.std.specs.List.{list_any};
+ghost use Rattle.lls_cube.specs.Table.{is_forbidden, forbidden_rows};
+ghost use Rattle.lls_cube.specs.Cube.{row_cube, contains};
+
+use crate::Table;
+use lls_base::Memory;
+use std::alloc::Global;
+
+/// The rows that agree with `value` in the bits of `care`.
+#[derive(Clone, Copy, Debug, PartialEq, Eq)]
+pub struct Cube {
+    pub care: u16,
+    pub value: u16,
+}
+
+/// A cube for each forbidden row, ascending, that holds that row alone: it cares for every bit.
+pub fn rows<const K: usize, const W: usize>(
+    alloc: Global,
+    table: &Table<K, W>,
+) -> Result<Vec<Cube>, Memory>
+    ensures rows { IfOk result (λ cubes. cubes.items ≡ map (row_cube K) (forbidden_rows table.now)) }
+
+    // A row is forbidden exactly where a listed cube contains it.
+    ensures covers { IfOk result (λ cubes. (row : ℕ) → row < 2 ^ K
+        → list_any (contains row) cubes.items ≡ is_forbidden table.now row) }
+
+    // No value has a bit that its cube doesn't care for.
+    ensures cared { IfOk result (λ cubes. All (λ cube. bit_and cube.value cube.care ≡ cube.value) cubes.items) }
+{
+    let every_input = (table.row_count() - 1) as u16;
+    let mut cubes = Vec::new(alloc);
+    for row in 0..table.row_count() {
+        if table.forbidden(row) {
+            cubes.push(Cube {
+                care: every_input,
+                value: row as u16,
+            })?;
+        }
+    }
+    Ok(cubes)
+}

@@ -1,0 +1,71 @@
+// A table of forbidden rows.
+ghost use Rattle.std.specs.Prelude.{◌≡◌, ◌≤◌, ◌<◌, ◌*◌, ◌^◌, false, true, length, replicate, slice_set};
+ghost use Rattle.lls_cube.specs.Table.{is_forbidden};
+
+use std::marker::Model;
+
+/// How many rows a word holds.
+pub const WORD_BITS: usize = 64;
+
+/// The least and the greatest number of inputs of a table.
+pub const LEAST_INPUTS: usize = 10;
+
+pub const MOST_INPUTS: usize = 11;
+
+/// For each assignment of `K` bits, whether it is forbidden, in `W` words of 64 bits.
+///
+/// A row is a number below 2 to the power of `K`; input i of it is the bit of weight 2 to the power of `K`-1-i. A
+/// contract sees the table as the list of its rows' answers.
+#[derive(Debug, Drop)]
+pub struct Table<const K: usize, const W: usize> {
+    words: [u64; W],
+}
+
+impl<const K: usize, const W: usize> Model for Table<K, W> {
+    ghost use Rattle.std.specs.Prelude.{List, Bool};
+    ghost use Rattle.lls_cube.specs.Words.{table_in, AreWords};
+
+    ghost Value = { List Bool };
+
+    ghost view = { λ t. table_in t.words };
+
+    ghost invariant = { λ t. AreWords K W t.words };
+}
+
+impl<const K: usize, const W: usize> Table<K, W> {
+    /// The table that forbids no row.
+    pub fn empty() -> Table<K, W>
+        requires rows { WORD_BITS * W ≡ 2 ^ K }
+        requires least { LEAST_INPUTS ≤ K }
+        requires most { K ≤ MOST_INPUTS }
+        ensures { result ≡ replicate (2 ^ K) false }
+    {
+        Table { words: [0; W] }
+    }
+
+    /// How many rows there are.
+    pub fn row_count(&self) -> usize
+        ensures rows { result ≡ length self.now }
+        ensures inputs { result ≡ 2 ^ K }
+        ensures most { result ≤ 2 ^ MOST_INPUTS }
+    {
+        let _words = &self.words;
+        WORD_BITS * W
+    }
+
+    /// Forbids a row.
+    pub fn forbid(&mut self, row: usize)
+        requires { row < 2 ^ K }
+        ensures { self.new ≡ slice_set self.old row true }
+    {
+        self.words[row / WORD_BITS] |= 1 << (row % WORD_BITS);
+    }
+
+    /// Whether a row is forbidden.
+    pub fn forbidden(&self, row: usize) -> bool
+        requires { row < 2 ^ K }
+        ensures { result ≡ is_forbidden self.now row }
+    {
+        self.words[row / WORD_BITS] >> (row % WORD_BITS) & 1 == 1
+    }
+}

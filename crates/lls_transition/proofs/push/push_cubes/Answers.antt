@@ -1,0 +1,20 @@
+use Rattle.std.proofs.Common.{refl}
+use Rattle.lls_transition.proofs.Excluded.{satisfies-cube_clauses}
+use Rattle.lls_transition.proofs.Pushed.{cube_clauses-more, room_after}
+use Rattle.lls_transition.proofs.push.push_cubes.Goals as goal
+
+pub push_cube-requires-clause-room : goal.push_cube-requires-clause-room
+push_cube-requires-clause-room c =
+    room_after c.args.formula.now c.loop-cube.formula c.args.inputs.now c.args.cubes.now c.loop-cube.cube-index _ c.loop-cube.invariant c.loop-cube-test.true c.requires.room
+
+pub loop-cube-preserved : goal.loop-cube-preserved
+loop-cube-preserved c =
+    cube_clauses-more c.args.formula.now c.loop-cube.formula c.push_cube.new.formula c.args.inputs.now c.args.cubes.now c.loop-cube.cube-index _ _ c.loop-cube-test.true refl c.loop-cube.invariant c.in-Ok.ensures.ok
+
+pub returns-in-Err-clause-excludes : goal.returns-in-Err-clause-excludes
+returns-in-Err-clause-excludes c =
+    λ values small. satisfies-cube_clauses values c.args.formula.now.vars c.args.inputs.now c.args.cubes.now c.requires.within c.type_inv.inputs small
+
+pub returns-clause-excludes : goal.returns-clause-excludes
+returns-clause-excludes c =
+    λ values small. satisfies-cube_clauses values c.args.formula.now.vars c.args.inputs.now c.args.cubes.now c.requires.within c.type_inv.inputs small

@@ -1,0 +1,25 @@
+use Rattle.std.proofs.Common.{◌∙◌, ap, arith, map}
+use Rattle.lls_cube.specs.Table.{forbidden_rows}
+use Rattle.lls_cube.specs.Cube.{row_cube}
+use Rattle.lls_transition.proofs.Pushed.{most_more}
+use Rattle.lls_transition.proofs.Obeyed.{satisfies_obeys, length-cubes}
+use Rattle.lls_transition.proofs.push.push_transition.Goals as goal
+
+pub returns-in_err-cubes-clause-obeys : goal.returns-in_err-cubes-clause-obeys
+returns-in_err-cubes-clause-obeys c =
+    λ values. satisfies_obeys values c.args.formula.now.vars c.args.rule.now c.args.inputs.now c.requires.within c.type_inv.inputs
+
+pub push_cubes-requires-clause-room : goal.push_cubes-requires-clause-room
+push_cubes-requires-clause-room c =
+    let few = length-cubes c.args.rule.now c.deref.result.now (c.deref.ensures.value ∙ c.in_ok-cubes.ensures.rows ∙ ap (λ t. map (row_cube 10) (forbidden_rows t)) c.table_of.ensures) in
+    let room = c.requires.room in
+    omega (arith, few, room)
+
+pub returns-clause-most : goal.returns-clause-most
+returns-clause-most c =
+    let few = length-cubes c.args.rule.now c.deref.result.now (c.deref.ensures.value ∙ c.in_ok-cubes.ensures.rows ∙ ap (λ t. map (row_cube 10) (forbidden_rows t)) c.table_of.ensures) in
+    omega (arith, few, most_more c.push_cubes.result c.args.formula.now c.push_cubes.new.formula c.args.inputs.now c.deref.result.now c.push_cubes.ensures.ok c.push_cubes.ensures.err)
+
+pub returns-clause-obeys : goal.returns-clause-obeys
+returns-clause-obeys c =
+    λ values. satisfies_obeys values c.args.formula.now.vars c.args.rule.now c.args.inputs.now c.requires.within c.type_inv.inputs

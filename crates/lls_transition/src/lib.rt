@@ -1,0 +1,13 @@
+//! The clauses of a transition: that a place has the rule's successor of its neighbourhood.
+#![tactic(auto)]
+
+mod clause;
+mod place;
+mod push;
+mod table;
+#[cfg(test)]
+mod tests;
+
+pub use place::Place;
+pub use push::{MOST_CLAUSES_EACH, push_cubes, push_transition};
+pub use table::{INPUTS, WORDS, table_of};
