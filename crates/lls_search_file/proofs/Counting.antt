@@ -6,12 +6,12 @@ use Rattle.std.proofs.lemmas.Bool.{ne_eqb}
 use Rattle.std.proofs.lemmas.Grind.{flat_map-append}
 use Rattle.std.proofs.lemmas.List.Sums.{sum_by_push}
 use Rattle.lls_base.specs.Results.{and_then}
+use Rattle.lls_text.specs.Lines.{lines_of, is_blank_line, begins_with}
 use Rattle.lls_search_file.specs.declared.error.PosedError.{PosedError}
 use Rattle.lls_search_file.specs.declared.shape.Shape.{Shape}
 use Rattle.lls_search_file.specs.Posed.{PosedFile}
-use Rattle.lls_search_file.specs.Lines.{lines_of, is_comment, is_separator}
 use Rattle.lls_search_file.specs.Words.{Word, row_of}
-use Rattle.lls_search_file.specs.Reading.{Rows, no_rows, joined, all_rows, unless_fault, too_many, ragged, too_high, too_low, row_faults, row_added, generations_ended, line_read, lines_read, file_read, end_read, posed_of}
+use Rattle.lls_search_file.specs.Reading.{hash, Rows, no_rows, joined, all_rows, unless_fault, too_many, ragged, too_high, too_low, row_faults, row_added, generations_ended, line_read, lines_read, file_read, end_read, posed_of}
 use Rattle.lls_search_file.specs.Counted as counts
 use Rattle.lls_search_file.specs.Counted.{Counts, no_shape, row_counted, end_counted, with_end, with_words, line_taken, lines_taken, at_end, file_of}
 
@@ -192,8 +192,8 @@ ended_read-counted rows filled = record {
 -- one more line is counted
 line_read-counted : (number : ℕ) (line : List ℕ) (rows : Rows) → IsFilled rows.ended → IsCounted (line_read number line rows) (line_taken number line (counts_in rows))
 line_read-counted number line rows filled =
-    IsCounted-cond (is_comment line) _ _ _ _ (record { same = refl; filled = filled })
-    (IsCounted-cond (is_separator line) _ _ _ _ (ended_read-counted rows filled) (row_read-counted number rows filled (row_of number line)))
+    IsCounted-cond (begins_with hash line) _ _ _ _ (record { same = refl; filled = filled })
+    (IsCounted-cond (is_blank_line line) _ _ _ _ (ended_read-counted rows filled) (row_read-counted number rows filled (row_of number line)))
 
 -- what comes after what is counted
 IsCounted-and_then : (read : Result Rows PosedError) (taken : Result Counts PosedError) (more : Rows → Result Rows PosedError) (after : Counts → Result Counts PosedError)

@@ -1,11 +1,10 @@
 -- How the reading of a text ends.
-use Rattle.std.proofs.Common.{◌≡◌, ℕ, ◌+◌, eqb, true, List, [], ◌∷◌, length, Some, Ok, Err, sym, ap, ◌∙◌, arith}
-use Rattle.std.proofs.lemmas.Bool.{eqb-true}
+use Rattle.std.proofs.Common.{◌≡◌, ℕ, ◌+◌, List, [], ◌∷◌, Some, Ok, Err, sym, ap, ◌∙◌}
 use Rattle.lls_base.specs.Results.{and_then}
+use Rattle.lls_text.specs.Lines.{lines_of}
 use Rattle.lls_search_file.specs.declared.cell.Cell.{Cell}
 use Rattle.lls_search_file.specs.declared.shape.Shape.{Shape}
 use Rattle.lls_search_file.specs.declared.error.PosedError.{PosedError}
-use Rattle.lls_search_file.specs.Lines.{lines_of}
 use Rattle.lls_search_file.specs.Reading.{names_of, posed_of}
 use Rattle.lls_search_file.specs.Counted.{Counts, no_shape, with_end, line_taken, lines_taken, at_end, file_of}
 use Rattle.lls_search_file.specs.Kept.{IsNumbered, words_in}
@@ -25,14 +24,14 @@ at_end-is shape end width height names cells ends wide high kept =
     ap (λ ns. Ok (record { generations = end.ended; height = height; width = width; cells = cells; names = ns })) (names_of-words_in names cells kept))))
 
 -- the lines left give what all lines give
-abbrev Leads : List ℕ → ℕ → List ℕ → Counts → Type 0
-Leads bytes number rest counts = lines_taken (number + 1) (lines_of rest) counts ≡ lines_taken 1 (lines_of bytes) (record { shape = no_shape; words = [] })
+abbrev Leads : List ℕ → ℕ → List (List ℕ) → Counts → Type 0
+Leads bytes number rest counts = lines_taken (number + 1) rest counts ≡ lines_taken 1 (lines_of bytes) (record { shape = no_shape; words = [] })
 
-pub posed_of-fault : (bytes rest behind line : List ℕ) (number : ℕ) (counts : Counts) (fault : PosedError) → Leads bytes number rest counts → lines_of rest ≡ line ∷ lines_of behind
+pub posed_of-fault : (bytes line : List ℕ) (rest behind : List (List ℕ)) (number : ℕ) (counts : Counts) (fault : PosedError) → Leads bytes number rest counts → rest ≡ line ∷ behind
     → line_taken (number + 1) line counts ≡ Err fault → posed_of bytes ≡ Err fault
-posed_of-fault bytes rest behind line number counts fault leads first bad =
-    posed_of-counted bytes ∙ ap (λ read. and_then read at_end) (sym leads ∙ (ap (λ lines. lines_taken (number + 1) lines counts) first ∙ ap (λ read. and_then read (lines_taken ((number + 1) + 1) (lines_of behind))) bad))
+posed_of-fault bytes line rest behind number counts fault leads first bad =
+    posed_of-counted bytes ∙ ap (λ read. and_then read at_end) (sym leads ∙ (ap (λ lines. lines_taken (number + 1) lines counts) first ∙ ap (λ read. and_then read (lines_taken ((number + 1) + 1) behind)) bad))
 
-pub posed_of-end : (bytes rest : List ℕ) (number : ℕ) (counts : Counts) → Leads bytes number rest counts → eqb (length rest) 0 ≡ true → posed_of bytes ≡ at_end counts
-posed_of-end bytes [] number counts leads none = posed_of-counted bytes ∙ ap (λ read. and_then read at_end) (sym leads)
-posed_of-end bytes (b ∷ rest) number counts leads none = absurd (omega (arith, eqb-true (length (b ∷ rest)) 0 none))
+pub posed_of-end : (bytes : List ℕ) (rest : List (List ℕ)) (number : ℕ) (counts : Counts) → Leads bytes number rest counts → rest ≡ [] → posed_of bytes ≡ at_end counts
+posed_of-end bytes rest number counts leads none =
+    posed_of-counted bytes ∙ ap (λ read. and_then read at_end) (sym leads ∙ ap (λ lines. lines_taken (number + 1) lines counts) none)

@@ -10,6 +10,6 @@ pub mod RoundTrip
 pub mod Rows
 pub mod Texts
 pub mod WordTexts
-pub mod Cuts
 pub mod Pieces
 pub mod HistoryTexts
+pub mod LineCounts

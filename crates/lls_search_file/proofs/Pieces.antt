@@ -5,9 +5,9 @@ use Rattle.std.proofs.lemmas.Bool.{and_parts}
 use Rattle.std.proofs.Math.Seq.{take-append_seam, drop-append_seam}
 use Rattle.std.proofs.lemmas.List.{drop-drop}
 use Rattle.lls_base.specs.Results.{and_then}
+use Rattle.lls_text.specs.Words.{is_blank}
 use Rattle.lls_search_file.specs.declared.error.PosedError.{PosedError}
 use Rattle.lls_search_file.specs.declared.error.PosedError.TheVariants.{BadCell}
-use Rattle.lls_search_file.specs.Lines.{is_blank}
 use Rattle.lls_search_file.specs.Words.{Word, word, pieces_of, before_word, begins_solid, is_solid, is_comma, cells_read, cell_before, word_of}
 
 none_solid : (bytes : List ℕ) → begins_solid bytes ≡ false → prefix_len is_solid bytes ≡ 0

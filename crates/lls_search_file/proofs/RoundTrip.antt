@@ -7,6 +7,7 @@ use Rattle.std.proofs.lemmas.List.{map-append, length-map}
 use Rattle.std.proofs.lemmas.Grind.{flat_map-append}
 use Rattle.std.proofs.Math.Nat.{mul-le-mul_left}
 use Rattle.lls_base.specs.Results.{and_then}
+use Rattle.lls_text.specs.Lines.{lines_of}
 use Rattle.lls_grid.specs.declared.history.TheConstants.History.{MOST_GENERATIONS, MOST_HEIGHT, MOST_WIDTH, MOST_CELLS}
 use Rattle.lls_grid.specs.Chunks.{chunked}
 use Rattle.lls_grid.specs.Text.{line_feed, rows_text, text_of}
@@ -16,7 +17,6 @@ use Rattle.lls_search_file.specs.declared.cell.Kind.{Kind}
 use Rattle.lls_search_file.specs.declared.cell.Kind.TheVariants.{Dead, Live, Free, Named, Negated}
 use Rattle.lls_search_file.specs.declared.shape.Shape.{Shape}
 use Rattle.lls_search_file.specs.Posed.{PosedFile, IsPosed, name_of, names_after, are_numbered, is_name}
-use Rattle.lls_search_file.specs.Lines.{lines_of}
 use Rattle.lls_search_file.specs.Words.{Word}
 use Rattle.lls_search_file.specs.Reading.{file_sized, posed_of}
 use Rattle.lls_search_file.specs.Counted.{Counts, no_shape, ragged, too_high, with_row, with_end, line_taken, lines_taken, at_end, file_of}

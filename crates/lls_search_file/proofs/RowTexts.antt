@@ -1,15 +1,17 @@
 -- The rows of a printed file, and what they read as.
 use Rattle.std.proofs.Common.{◌≡◌, ◌<◌, ◌≤◌, ℕ, zero, suc, ◌+◌, ◌-◌, leb, eqb, Bool, true, false, not, ◌&&◌, List, [], ◌∷◌, ◌++◌, length, get_or, map, None, Some, Ok, refl, sym, ap, ◌∙◌, arith, append_assoc, append-nil}
-use Rattle.std.specs.List.{list_all, prefix_len, position, join_with_byte, onto_first}
+use Rattle.std.specs.List.{list_all, prefix_len, position, join_with_byte}
 use Rattle.std.specs.Char.{is_ascii}
-use Rattle.std.specs.Str.Lines.{strip_carriage_return}
-use Rattle.std.proofs.lemmas.Bool.{and_parts, and_from, leb-true, le-leb, lt-ltb, le-ltb, ne_eqb}
+use Rattle.std.proofs.lemmas.Bool.{and_parts, and_from, or_from, leb-true, le-leb, lt-ltb, le-ltb, ne_eqb}
 use Rattle.std.proofs.lemmas.List.Folds.{list_all-append}
 use Rattle.lls_base.specs.Results.{and_then}
-use Rattle.lls_grid.specs.Text.{blank, line_feed, rows_text}
+use Rattle.lls_text.specs.Lines.{lines_of, is_line_feed, line_feed, is_blank_line, begins_with}
+use Rattle.lls_text.specs.Words.{is_blank}
+use Rattle.lls_text.proofs.Printed.{lines_of-front}
+use Rattle.lls_grid.specs.Text.{blank, rows_text}
 use Rattle.lls_search_file.specs.declared.cell.Cell.{Cell}
-use Rattle.lls_search_file.specs.Lines.{cut_lines, lines_of, is_blank, is_comment, is_separator}
-use Rattle.lls_search_file.specs.Words.{is_solid, pieces_of, cells_read, cell_before, row_of, ascii_or}
+use Rattle.lls_search_file.specs.Words.{mark_byte, is_solid, pieces_of, cells_read, cell_before, row_of, ascii_or}
+use Rattle.lls_search_file.specs.Reading.{hash}
 use Rattle.lls_search_file.specs.Counted.{Counts, line_taken, with_words}
 use Rattle.lls_search_file.specs.Kept.{word_in, words_in, is_spelled}
 use Rattle.lls_search_file.specs.Printing.{word_text}
@@ -26,7 +28,7 @@ are_spelled names cells = list_all (λ cell. is_spelled (word_in names cell)) ce
 
 -- a byte of a row
 abbrev pub is_row_byte : ℕ → Bool
-is_row_byte b = leb 32 b && leb b 122
+is_row_byte b = leb blank b && leb b 122
 
 all_as : (p q : ℕ → Bool) → ((b : ℕ) → p b ≡ true → q b ≡ true) → (bytes : List ℕ) → list_all p bytes ≡ true → list_all q bytes ≡ true
 all_as p q weaker [] e = refl
@@ -46,11 +48,10 @@ word_byte b e =
     untrue false e = refl
 
 not_blank : (b : ℕ) → is_word_byte b ≡ true → is_blank b ≡ false
-not_blank b e =
-    let facts = word_byte b e in
-    let space = ne_eqb b 32 (λ same. absurd (omega (arith, facts.0, same))) in
-    let tab = ne_eqb b 9 (λ same. absurd (omega (arith, facts.0, same))) in
-    rw (space, tab) refl
+not_blank b e = or_from _ _ (above _ (omega arith)) (above _ (omega arith))
+  where
+    above : (low : ℕ) → low < mark_byte → eqb b low ≡ false
+    above low below = ne_eqb b low (λ same. absurd (omega (arith, (word_byte b e).0, below, same)))
 
 solid_byte : (b : ℕ) → is_word_byte b ≡ true → is_solid b ≡ true
 solid_byte b e = rw (not_blank b e, (word_byte b e).2) refl
@@ -58,7 +59,10 @@ solid_byte b e = rw (not_blank b e, (word_byte b e).2) refl
 row_byte : (b : ℕ) → is_word_byte b ≡ true → is_row_byte b ≡ true
 row_byte b e =
     let facts = word_byte b e in
-    and_from (leb 32 b) (leb b 122) (le-leb 32 b (omega (arith, facts.0))) (le-leb b 122 facts.1)
+    and_from (leb blank b) (leb b 122) (le-leb blank b (omega (arith, facts.0))) (le-leb b 122 facts.1)
+
+low_byte : (b : ℕ) → is_row_byte b ≡ true → (low : ℕ) → low < blank → eqb b low ≡ false
+low_byte b e low below = ne_eqb b low (λ same. absurd (omega (arith, leb-true blank b (and_parts (leb blank b) (leb b 122) e).0, below, same)))
 
 -- a printed row reads as its cells
 line_reads : (names : List (List ℕ)) (number column : ℕ) (after_comma : Bool) (cells : List Cell) → are_spelled names cells ≡ true
@@ -101,7 +105,7 @@ low_front : (bytes : List ℕ) → list_all is_row_byte bytes ≡ true → prefi
 low_front [] e = refl
 low_front (b ∷ bytes) e =
     let parts = and_parts (is_row_byte b) (list_all is_row_byte bytes) e in
-    let low = lt-ltb b 128 (omega (arith, leb-true b 122 (and_parts (leb 32 b) (leb b 122) parts.0).1)) in
+    let low = lt-ltb b 128 (omega (arith, leb-true b 122 (and_parts (leb blank b) (leb b 122) parts.0).1)) in
     rw (low, low_front bytes parts.1) (omega arith)
 
 no_high : (bytes : List ℕ) → list_all is_row_byte bytes ≡ true → position (λ b. not (is_ascii b)) bytes ≡ None
@@ -125,13 +129,13 @@ line_begins names cell [] e =
 line_begins names cell (next ∷ cells) e =
     word_first (word_text names cell) (blank ∷ line_of names (next ∷ cells)) (some_word names cell e) (word_all names cell e)
 
-no_comment : (bytes : List ℕ) → begins_word bytes ≡ true → is_comment bytes ≡ false
+no_comment : (bytes : List ℕ) → begins_word bytes ≡ true → begins_with hash bytes ≡ false
 unfolding begins_word
 no_comment [] e = cc
 no_comment (b ∷ bytes) e =
-    rw (not_blank b e) (ne_eqb b 35 (λ same. absurd (omega (arith, (word_byte b e).0, same))))
+    rw (not_blank b e) (ne_eqb b hash (λ same. absurd (omega (arith, (word_byte b e).0, same))))
 
-no_separator : (bytes : List ℕ) → begins_word bytes ≡ true → is_separator bytes ≡ false
+no_separator : (bytes : List ℕ) → begins_word bytes ≡ true → is_blank_line bytes ≡ false
 unfolding begins_word
 no_separator [] e = cc
 no_separator (b ∷ bytes) e = rw (not_blank b e) refl
@@ -147,23 +151,20 @@ row_taken names number (cell ∷ cells) counts some e =
     ap (λ place. ascii_or number place (cells_read number true (pieces_of 1 line))) (no_high line (line_bytes names (cell ∷ cells) e)) ∙ line_reads names number 1 true (cell ∷ cells) e in
     rw (no_comment line begins, no_separator line begins) (ap (λ read. and_then read (with_words number counts)) read)
 
--- the lines of a text that begins with a printed row
-cut_row : (line rest : List ℕ) → list_all is_row_byte line ≡ true → cut_lines (line ++ line_feed ∷ rest) ≡ line ∷ cut_lines rest
-cut_row [] rest e = refl
-cut_row (b ∷ line) rest e =
-    let parts = and_parts (is_row_byte b) (list_all is_row_byte line) e in
-    let other = ne_eqb b 10 (λ same. absurd (omega (arith, leb-true 32 b (and_parts (leb 32 b) (leb b 122) parts.0).0, same))) in
-    rw other (ap (onto_first b) (cut_row line rest parts.1))
+-- CR, which is dropped at the end of a line
+abbrev carriage_return : ℕ
+carriage_return = 13
 
-no_return_at : (line : List ℕ) (i : ℕ) → list_all is_row_byte line ≡ true → eqb (get_or line i 0) 13 ≡ false
+no_return_at : (line : List ℕ) (i : ℕ) → list_all is_row_byte line ≡ true → eqb (get_or line i 0) carriage_return ≡ false
 no_return_at [] i e = refl
-no_return_at (b ∷ line) zero e =
-    ne_eqb b 13 (λ same. absurd (omega (arith, leb-true 32 b (and_parts (leb 32 b) (leb b 122) (and_parts (is_row_byte b) (list_all is_row_byte line) e).0).0, same)))
+no_return_at (b ∷ line) zero e = low_byte b (and_parts (is_row_byte b) (list_all is_row_byte line) e).0 carriage_return (omega arith)
 no_return_at (b ∷ line) (suc i) e = no_return_at line i (and_parts (is_row_byte b) (list_all is_row_byte line) e).1
 
+-- the lines of a text that begins with a printed row
 lines_row : (line rest : List ℕ) → list_all is_row_byte line ≡ true → lines_of (line ++ line_feed ∷ rest) ≡ line ∷ lines_of rest
 lines_row line rest e =
-    ap (map strip_carriage_return) (cut_row line rest e) ∙ rw (no_return_at line (length line - 1) e) refl
+    lines_of-front line rest (all_as is_row_byte (λ b. not (is_line_feed b)) (λ b is. rw (low_byte b is line_feed (omega arith)) refl) line e)
+    (rw (no_return_at line (length line - 1) e) refl)
 
 -- every row's names are spelled
 abbrev pub rows_spelled : List (List ℕ) → List (List Cell) → Bool

@@ -5,10 +5,11 @@ use Rattle.std.specs.Option.{option_map}
 use Rattle.std.specs.List.{list_all, position}
 use Rattle.std.specs.Char.{is_ascii}
 use Rattle.std.proofs.lemmas.Bool.{and_parts, leb-true, le-leb}
+use Rattle.lls_text.specs.Lines.{is_blank_line}
+use Rattle.lls_text.specs.Words.{is_blank}
 use Rattle.lls_search_file.specs.declared.error.PosedError.{PosedError}
 use Rattle.lls_search_file.specs.Posed.{is_name, same_text}
-use Rattle.lls_search_file.specs.Lines.{is_blank, is_separator}
-use Rattle.lls_search_file.specs.Words.{Said, dead, live, free, named, negated, Word, Piece, word, comma, said_of, name_said_of, negated_name, word_of, has_mark, marked, pieces_of, before_word, begins_solid, is_comma, cells_read, cell_before, row_of, ascii_or}
+use Rattle.lls_search_file.specs.Words.{minus_byte, Said, dead, live, free, named, negated, Word, Piece, word, comma, said_of, name_said_of, negated_name, word_of, has_mark, marked, pieces_of, before_word, begins_solid, is_comma, cells_read, cell_before, row_of, ascii_or}
 use Rattle.lls_search_file.specs.Kept.{is_spelled, is_said_spelled}
 
 spelled_said : Option Said → Bool
@@ -22,7 +23,7 @@ chosen_said false x y left right = right
 negated-spelled : (body : List ℕ) → spelled_said (negated_name body) ≡ true
 unfolding spelled_said
 negated-spelled [] = refl
-negated-spelled (b ∷ name) = chosen_said (eqb b 45 && is_name name) (Some (negated name)) None (λ e. (and_parts (eqb b 45) (is_name name) e).1) refl
+negated-spelled (b ∷ name) = chosen_said (eqb b minus_byte && is_name name) (Some (negated name)) None (λ e. (and_parts (eqb b minus_byte) (is_name name) e).1) refl
 
 said_of-spelled : (body : List ℕ) → spelled_said (said_of body) ≡ true
 unfolding spelled_said
@@ -110,7 +111,7 @@ unfolding spelled_read
 row-spelled line bytes cells e =
     sym (ap spelled_read e) ∙ ascii_or-holds spelled_read (λ fault. refl) line (position (λ b. not (is_ascii b)) bytes) (cells_read line true (pieces_of 1 bytes)) (cells_read-spelled line true (pieces_of 1 bytes))
 
-pub row-some : (line : ℕ) (bytes : List ℕ) (cells : List Word) → is_separator bytes ≡ false → row_of line bytes ≡ Ok cells → 1 ≤ length cells
+pub row-some : (line : ℕ) (bytes : List ℕ) (cells : List Word) → is_blank_line bytes ≡ false → row_of line bytes ≡ Ok cells → 1 ≤ length cells
 unfolding some_read
 row-some line bytes cells solid e =
     leb-true 1 (length cells)

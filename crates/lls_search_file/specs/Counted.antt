@@ -3,14 +3,14 @@
 use Rattle.std.specs.Prelude.{ℕ, ◌+◌, ◌==◌, ◌&&◌, nat_lt, not, if◌then◌else◌, List, [], ◌∷◌, ◌++◌, length, Option, None, Some, Result, Ok, Err}
 use Rattle.std.specs.Option.{option_or}
 use Rattle.lls_base.specs.Results.{and_then}
+use Rattle.lls_text.specs.Lines.{is_blank_line, begins_with}
 use Rattle.lls_grid.specs.declared.history.TheConstants.History.{MOST_GENERATIONS, MOST_HEIGHT, MOST_WIDTH, MOST_CELLS}
 use Rattle.lls_search_file.specs.declared.error.PosedError.{PosedError}
 use Rattle.lls_search_file.specs.declared.error.PosedError.TheVariants.{Empty, Ragged, Sizes, TooWide, TooHigh, TooMany, TooManyCells}
 use Rattle.lls_search_file.specs.declared.shape.Shape.{Shape}
 use Rattle.lls_search_file.specs.Posed.{PosedFile}
-use Rattle.lls_search_file.specs.Lines.{is_comment, is_separator}
 use Rattle.lls_search_file.specs.Words.{Word, row_of}
-use Rattle.lls_search_file.specs.Reading.{fault_if, unless_fault, file_sized}
+use Rattle.lls_search_file.specs.Reading.{hash, fault_if, unless_fault, file_sized}
 
 -- what may be wrong with one more row of that many cells, by the sizes so far
 abbrev pub too_wide : ℕ → Option PosedError
@@ -76,8 +76,8 @@ with_words line counts words =
 -- what one more line gives
 abbrev pub line_taken : ℕ → List ℕ → Counts → Result Counts PosedError
 line_taken number line counts =
-    if is_comment line then Ok counts else
-    if is_separator line then and_then (with_end counts.shape) (λ shape. Ok (record { shape = shape; words = counts.words })) else
+    if begins_with hash line then Ok counts else
+    if is_blank_line line then and_then (with_end counts.shape) (λ shape. Ok (record { shape = shape; words = counts.words })) else
     and_then (row_of number line) (with_words number counts)
 
 -- what the lines from a number on give

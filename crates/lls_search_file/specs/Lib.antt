@@ -1,7 +1,6 @@
 pub mod Counted
 pub mod Faults
 pub mod Kept
-pub mod Lines
 pub mod Plain
 pub mod Posed
 pub mod Printing

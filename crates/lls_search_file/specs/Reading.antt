@@ -2,6 +2,7 @@
 use Rattle.std.specs.Prelude.{ℕ, ◌+◌, ◌==◌, nat_lt, Bool, not, if◌then◌else◌, List, [], ◌∷◌, ◌++◌, length, map, filter, flat_map, sum_by, slice_index_or, Option, None, Some, Result, Ok, Err}
 use Rattle.std.specs.List.{filter_map, position_or_len}
 use Rattle.lls_base.specs.Results.{and_then}
+use Rattle.lls_text.specs.Lines.{lines_of, is_blank_line, begins_with}
 use Rattle.lls_grid.specs.declared.history.TheConstants.History.{MOST_GENERATIONS, MOST_HEIGHT, MOST_WIDTH, MOST_CELLS}
 use Rattle.lls_search_file.specs.declared.cell.Cell.{Cell}
 use Rattle.lls_search_file.specs.declared.cell.Kind.{Kind}
@@ -9,7 +10,6 @@ use Rattle.lls_search_file.specs.declared.cell.Kind.TheVariants.{Dead, Live, Fre
 use Rattle.lls_search_file.specs.declared.error.PosedError.{PosedError}
 use Rattle.lls_search_file.specs.declared.error.PosedError.TheVariants.{Empty, Ragged, Sizes, TooWide, TooHigh, TooMany, TooManyCells}
 use Rattle.lls_search_file.specs.Posed.{PosedFile, same_text}
-use Rattle.lls_search_file.specs.Lines.{lines_of, is_comment, is_separator}
 use Rattle.lls_search_file.specs.Words.{Said, dead, live, free, named, negated, Word, row_of}
 
 -- lists one behind another
@@ -86,11 +86,15 @@ abbrev pub generations_ended : List (List (List Word)) → List (List Word) → 
 generations_ended ended [] = Ok ended
 generations_ended ended (row ∷ rows) = unless_fault (too_low ended (row ∷ rows) ∷ []) (ended ++ (row ∷ rows) ∷ [])
 
+-- `#`, which begins a comment
+abbrev pub hash : ℕ
+hash = 35
+
 -- one more line: a comment, a line that separates generations, or a row
 abbrev pub line_read : ℕ → List ℕ → Rows → Result Rows PosedError
 line_read number line rows =
-    if is_comment line then Ok rows else
-    if is_separator line then and_then (generations_ended rows.ended rows.begun) (λ ended. Ok (record { ended = ended; begun = [] })) else
+    if begins_with hash line then Ok rows else
+    if is_blank_line line then and_then (generations_ended rows.ended rows.begun) (λ ended. Ok (record { ended = ended; begun = [] })) else
     and_then (row_of number line) (row_added number rows)
 
 -- the rows after the lines from a number on

@@ -4,10 +4,10 @@ use Rattle.std.specs.Option.{option_map}
 use Rattle.std.specs.List.{position}
 use Rattle.std.specs.Char.{is_ascii}
 use Rattle.lls_base.specs.Results.{and_then}
+use Rattle.lls_text.specs.Words.{is_blank}
 use Rattle.lls_search_file.specs.declared.error.PosedError.{PosedError}
 use Rattle.lls_search_file.specs.declared.error.PosedError.TheVariants.{BadCell, NotAscii}
 use Rattle.lls_search_file.specs.Posed.{is_name, same_text}
-use Rattle.lls_search_file.specs.Lines.{is_blank}
 
 -- the bytes with a meaning of their own: `,` between cells, `-` before a name, `'` behind a marked cell
 abbrev pub comma_byte : ℕ

@@ -3,7 +3,6 @@
 
 mod cell;
 mod error;
-mod lines;
 mod names;
 mod plain;
 mod posed;

@@ -8,13 +8,13 @@ ghost use Rattle.lls_search_file.specs.Seen.{seen_word};
 ghost use Rattle.lls_search_file.specs.Kept.{is_spelled};
 ghost use Rattle.lls_search_file.specs.Reader.{counts_of, IsReader};
 
-use crate::lines::{first_line, is_comment, is_separator};
 use crate::names::{owned_names, push_words};
 use crate::row::read_row;
 use crate::shape::Shape;
 use crate::word::Word;
 use crate::{Cell, Cells, Names, Posed, PosedError};
 use indexmap::IndexSet;
+use lls_text::{Lines, begins_with, is_blank_line};
 use std::alloc::Global;
 
 /// The value of a search file.
@@ -26,13 +26,10 @@ pub fn read_posed(alloc: Global, bytes: &[u8]) -> Result<Posed, PosedError>
         cells: Vec::new(alloc),
         names: IndexSet::new(alloc),
     };
-    let mut rest = bytes;
     let mut number = 0;
-    while !rest.is_empty() {
-        let (line, behind) = first_line(rest);
+    for line in Lines::new(bytes) {
         number += 1;
         reader.take_line(alloc, number, line)?;
-        rest = behind;
     }
     reader.finish(alloc)
 }
@@ -52,10 +49,10 @@ impl<'t> Reader<'t> {
         ensures counts { Gives PosedError.Memory (λ _. counts_of self.new) result (line_taken number line.entry.now (counts_of self.old)) }
         ensures kept { OnOk result (IsReader self.new) }
     {
-        if is_comment(line) {
+        if begins_with(line, b'#') {
             return Ok(());
         }
-        if is_separator(line) {
+        if is_blank_line(line) {
             self.shape = self.shape.with_end()?;
             return Ok(());
         }

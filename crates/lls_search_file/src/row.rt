@@ -6,8 +6,8 @@ ghost use Rattle.lls_search_file.specs.Words.{row_of, cells_read, pieces_of};
 ghost use Rattle.lls_search_file.specs.Seen.{seen_word};
 
 use crate::PosedError;
-use crate::lines::is_blank;
 use crate::word::{Word, read_word, word_len};
+use lls_text::is_blank;
 use std::alloc::Global;
 
 /// The cells of a row.

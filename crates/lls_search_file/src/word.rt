@@ -8,7 +8,7 @@ ghost use Rattle.lls_search_file.specs.Words.{said_of, name_said_of, word_of, is
 ghost use Rattle.lls_search_file.specs.Seen.{seen_said, seen_word};
 
 use crate::Names;
-use crate::lines::is_blank;
+use lls_text::is_blank;
 
 /// What a word says of a cell's value, with the name itself where it is a name.
 #[derive(Clone, Copy)]
