@@ -13,17 +13,19 @@ use Rattle.lls_search_file.specs.Posed.{name_of, IsPosed}
 use Rattle.lls_problem.specs.declared.demands.Edge.{Edge}
 use Rattle.lls_problem.specs.Problem.{PosedProblem}
 use Rattle.lls_problem.specs.Solution.{cell_number, HasItsBit, AreTied, MeetsCells, IsFramed, is_marked, IsSolution, IsAbsent}
+use Rattle.lls_transition.specs.Transition.{transition_clauses}
 use Rattle.lls_encode.specs.Place.{inputs_at}
-use Rattle.lls_encode.specs.Formula.{fixed_clauses, same, name_literal, has_name, tied_to, name_clauses, transition_clauses, first_framed, framed_count, framed, place_clauses, line_clauses, generation_clauses, fixed_part, name_part, transition_part, formula_of}
+use Rattle.lls_encode.specs.Formula.{fixed_clauses, same, name_literal, has_name, tied_to, name_clauses, first_framed, framed_count, framed, place_clauses, line_clauses, generation_clauses, fixed_part, name_part, transition_part, formula_of}
 use Rattle.lls_grid.proofs.InOrder.{length-cells_of}
-use Rattle.lls_encode.specs.Room.{with_clauses, HasRoom}
+use Rattle.lls_transition.specs.Clause.{with_clauses}
+use Rattle.lls_encode.specs.Room.{HasRoom}
 use Rattle.lls_encode.proofs.Steps.{flat_map-map, length-flat_map_most}
 use Rattle.lls_encode.proofs.Bounds.{length-fixed_clauses}
 use Rattle.lls_encode.proofs.Firsts.{length-name_clauses}
 use Rattle.lls_encode.proofs.Framed.{IsFramedLine, framed_place, framed_both}
 use Rattle.lls_encode.proofs.Values.{is_true-cell}
 use Rattle.lls_encode.proofs.Satisfied.{satisfies-range, is_true-negation, is_literal, or_left}
-use Rattle.lls_encode.proofs.Forbidden.{satisfies-transition_clauses}
+use Rattle.lls_encode.proofs.Obeyed.{satisfies-transition_clauses}
 
 not_not : (b : Bool) → not (not b) ≡ b
 not_not true = refl
@@ -167,7 +169,7 @@ made p empty fixed names all is is' is'' is''' =
 
 -- the room that is left for the transitions
 pub room_left : (p : PosedProblem) (empty fixed names : Cnf) → length p.posed.cells ≤ 8192 → empty ≡ record { vars = length p.posed.cells; clauses = [] }
-    → fixed ≡ with_clauses empty (fixed_part p) → names ≡ with_clauses fixed (name_part p) → HasRoom names 281014272
+    → fixed ≡ with_clauses empty (fixed_part p) → names ≡ with_clauses fixed (name_part p) → HasRoom names 140507136
 room_left p empty fixed names few is is' is'' =
     let none : length empty.clauses ≡ 0 = ap (λ f. length f.clauses) is in
     let first : length fixed.clauses ≡ length empty.clauses + length (fixed_part p) = ap (λ f. length f.clauses) is' ∙ length-append empty.clauses (fixed_part p) in

@@ -1,13 +1,11 @@
 pub mod Steps
 pub mod Bounds
-pub mod Rows
 pub mod Values
 pub mod Satisfied
-pub mod Forbidden
+pub mod Obeyed
 pub mod Framed
 pub mod Complete
 pub mod Firsts
 pub mod Parts
-pub mod Refuted
 pub mod Agree
 pub mod Sound

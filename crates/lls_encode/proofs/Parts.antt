@@ -7,7 +7,7 @@ use Rattle.lls_lit.specs.Formula.{Clause, satisfies_clause, satisfies}
 use Rattle.lls_problem.specs.declared.demands.Edge.{Edge}
 use Rattle.lls_encode.specs.Formula.{first_framed, framed_count, framed}
 use Rattle.lls_encode.proofs.Steps.{flat_map-map}
-use Rattle.lls_encode.proofs.Forbidden.{at_in_range}
+use Rattle.lls_encode.proofs.Satisfied.{at_in_range}
 use Rattle.lls_encode.proofs.Framed.{IsFramedLine, counted}
 
 pub satisfies-append : (values : List Bool) (a b : List Clause) → satisfies values (a ++ b) ≡ (satisfies values a && satisfies values b)

@@ -17,7 +17,7 @@ use Rattle.lls_encode.specs.History.{history_of}
 use Rattle.lls_encode.proofs.Framed.{framed_row, framed_column}
 use Rattle.lls_encode.proofs.Complete.{vars-formula_of}
 use Rattle.lls_encode.proofs.Parts.{satisfies-append, satisfied_in_range, satisfied_framed}
-use Rattle.lls_encode.proofs.Refuted.{successor-by_clauses}
+use Rattle.lls_encode.proofs.Obeyed.{successor-by_clauses}
 use Rattle.lls_encode.proofs.Agree.{MeetsCells-by_clauses}
 
 -- the cells of a history that is folded from its cells

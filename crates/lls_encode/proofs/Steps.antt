@@ -1,9 +1,10 @@
 -- A loop over numbers that appends the clauses of each: one more step, and how many clauses there are at most.
-use Rattle.std.proofs.Common.{◌≡◌, ◌<◌, ◌≤◌, ℕ, zero, suc, ◌+◌, ◌*◌, List, [], ◌∷◌, ◌++◌, map, length, refl, sym, ap, ◌∙◌, arith, append_assoc, length-append, add-one, add-zero, Result, Ok, Err, OnOk}
+use Rattle.std.proofs.Common.{Bool, true, false, cond, ◌≡◌, ◌<◌, ◌≤◌, ℕ, zero, suc, ◌+◌, ◌*◌, List, [], ◌∷◌, ◌++◌, map, length, refl, sym, ap, ◌∙◌, arith, append_assoc, length-append, add-one, add-zero, Result, Ok, Err, OnOk}
 use Rattle.std.specs.List.{flat_map, range_with_len}
 use Rattle.std.proofs.lemmas.List.{append-nil}
 use Rattle.lls_lit.specs.Formula.{Clause, Cnf}
-use Rattle.lls_encode.specs.Room.{with_clauses, HasRoom}
+use Rattle.lls_transition.specs.Clause.{with_clauses}
+use Rattle.lls_encode.specs.Room.{HasRoom}
 
 flat_map-range_suc : {A : Type 0} (f : ℕ → List A) (a n : ℕ) → flat_map f (range_with_len a (suc n)) ≡ flat_map f (range_with_len a n) ++ f (a + n)
 flat_map-range_suc f a zero = rw (append-nil, add-zero) refl
@@ -64,3 +65,8 @@ on_ok (Err e) P Q f h = h
 pub on_ok_always : {T E : Type 0} (r : Result T E) (Q : Type 0) → Q → OnOk r Q
 on_ok_always (Ok x) Q q = q
 on_ok_always (Err e) Q q = tt
+
+-- a choice of no clauses
+pub with_clauses-unless : (formula : Cnf) (b : Bool) (clauses : List Clause) → b ≡ true → formula ≡ with_clauses formula (cond b [] clauses)
+with_clauses-unless formula true clauses e = with_clauses-none formula
+with_clauses-unless formula false clauses e = cc

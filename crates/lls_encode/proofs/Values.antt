@@ -8,14 +8,8 @@ use Rattle.lls_grid.specs.History.{History, HasSizes, at, three, cells_of}
 use Rattle.lls_grid.proofs.InOrder.{place_cell-in_order, place_cell-above, place_cell-beside}
 use Rattle.lls_problem.specs.Problem.{PosedProblem}
 use Rattle.lls_problem.specs.Solution.{place_of}
-use Rattle.lls_encode.specs.declared.place.Place.{Place}
-use Rattle.lls_encode.specs.declared.place.Place.TheVariants.{Known, Of}
+use Rattle.lls_transition.specs.Place.{value_of}
 use Rattle.lls_encode.specs.Place.{place_at, place_in, inputs_at}
-
--- the value at a place of a transition under an assignment
-abbrev pub value_of : List Bool → Place → Bool
-value_of values (Known value) = value
-value_of values (Of literal) = is_true values literal
 
 -- the value of a cell's variable
 pub is_true-cell : (values : List Bool) (k : ℕ) → is_true values (pos (k + 1)) ≡ get_or values k false

@@ -1,11 +1,9 @@
 -- The formula of a problem, by its parts: fixed cells, names, transitions.
-use Rattle.std.specs.Prelude.{ℕ, ◌+◌, ◌-◌, ◌/◌, ℤ, pos, negsuc, ◌-ℤ◌, Bool, false, ◌==◌, List, [], ◌∷◌, ◌++◌, map, length, Option, None, Some, if◌then◌else◌}
-use Rattle.std.specs.Option.{option_map_or, option_to_list}
+use Rattle.std.specs.Prelude.{ℕ, ◌+◌, ◌-◌, ℤ, pos, negsuc, ◌-ℤ◌, Bool, false, ◌==◌, List, [], ◌∷◌, ◌++◌, map, length, Option, None, Some, if◌then◌else◌}
+use Rattle.std.specs.Option.{option_map_or}
 use Rattle.std.specs.List.{flat_map, range_with_len, position_from}
-use Rattle.std.specs.Int.{bit_at}
 use Rattle.lls_lit.specs.Literal.{negation}
 use Rattle.lls_lit.specs.Formula.{Clause, Cnf}
-use Rattle.lls_rule.specs.Rule.{answer}
 use Rattle.lls_search_file.specs.declared.cell.Cell.{Cell}
 use Rattle.lls_search_file.specs.declared.cell.Kind.{Kind}
 use Rattle.lls_search_file.specs.declared.cell.Kind.TheVariants.{Dead, Live, Free, Named, Negated}
@@ -14,8 +12,8 @@ use Rattle.lls_problem.specs.declared.demands.Edge.{Edge}
 use Rattle.lls_problem.specs.declared.demands.Edge.TheVariants.{Framed, Bare}
 use Rattle.lls_problem.specs.Problem.{PosedProblem}
 use Rattle.lls_problem.specs.Solution.{cell_number, is_marked}
-use Rattle.lls_encode.specs.declared.place.Place.{Place}
-use Rattle.lls_encode.specs.Place.{inputs_at, differs}
+use Rattle.lls_transition.specs.Transition.{transition_clauses}
+use Rattle.lls_encode.specs.Place.{inputs_at}
 
 -- The kth cell has the variable k + 1. A fixed cell gives it, or its negation.
 abbrev pub fixed_clauses : ℕ → Kind → List Clause
@@ -49,25 +47,6 @@ tied_to cells k (Some first) =
 
 abbrev pub name_clauses : List Cell → ℕ → List Clause
 name_clauses cells k = option_map_or (λ n. tied_to cells k (position_from (has_name n) 0 cells)) (name_of (cell_number cells k).kind) []
-
--- the ten bits of a row of a transition's table, from weight 512 down to 1
-abbrev pub row_bits : ℕ → List Bool
-row_bits row = map (λ i. bit_at row (9 - i) == 1) (range_with_len 0 10)
-
--- the row's last bit isn't the rule's successor of the nine before it
-abbrev pub is_forbidden : List Bool → ℕ → Bool
-is_forbidden rule row = if answer rule (row / 2) then bit_at row 0 == 0 else bit_at row 0 == 1
-
--- each forbidden row is ruled out
-abbrev pub row_clauses : List Bool → List Place → ℕ → List Clause
-row_clauses rule inputs row = if is_forbidden rule row then option_to_list (differs inputs (row_bits row)) else []
-
--- how many rows a table of ten inputs has
-unfoldable pub row_count : ℕ
-row_count = 1024
-
-abbrev pub transition_clauses : List Bool → List Place → List Clause
-transition_clauses rule inputs = flat_map (row_clauses rule inputs) (range_with_len 0 row_count)
 
 -- The framed rows or columns, where the grid has `size` of them: one before and one behind the grid under a closed edge.
 abbrev pub first_framed : Edge → ℕ

@@ -6,7 +6,8 @@ ghost use Rattle.std.specs.List.{flat_map, range_with_len};
 ghost use Rattle.lls_search_file.specs.Posed.{are_numbered, name_of};
 ghost use Rattle.lls_problem.specs.Solution.{cell_number};
 ghost use Rattle.lls_encode.specs.Formula.{fixed_clauses, name_clauses, name_literal, same};
-ghost use Rattle.lls_encode.specs.Room.{with_clauses, HasRoom};
+ghost use Rattle.lls_transition.specs.Clause.{with_clauses};
+ghost use Rattle.lls_encode.specs.Room.{HasRoom};
 
 use lls_base::Memory;
 use lls_cnf::Formula;

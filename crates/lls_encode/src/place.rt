@@ -1,22 +1,13 @@
 // What a transition reads at a place.
 ghost use Rattle.std.specs.Prelude.{◌≡◌, ◌<◌, ◌+◌, pos, negsuc, ◌≤ℤ◌, length, true};
 ghost use Rattle.std.specs.List.{list_all};
-ghost use Rattle.lls_encode.specs.Place.{place_at, inputs_at, place_within};
+ghost use Rattle.lls_transition.specs.Place.{place_within};
+ghost use Rattle.lls_encode.specs.Place.{place_at, inputs_at};
 
 use crate::cells::cell_literal;
 use lls_grid::{GridPlace, History, index_within};
-use lls_lit::Lit;
 use lls_problem::Problem;
-
-/// A cell and its nine cells in the generation before.
-pub const INPUTS: usize = 10;
-
-/// A known value, or the literal of a cell.
-#[derive(Clone, Copy, Debug, PartialEq, Eq)]
-pub enum Place {
-    Known(bool),
-    Of(Lit),
-}
+use lls_transition::{INPUTS, Place};
 
 /// What stands at a place of generation t; y counts down from the top row, x to the right from the left column.
 pub fn place_at(problem: &Problem, t: u32, y: i32, x: i32) -> Place

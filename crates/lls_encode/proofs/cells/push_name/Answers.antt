@@ -4,7 +4,7 @@ use Rattle.lls_search_file.specs.Posed.{name_of}
 use Rattle.lls_problem.specs.Solution.{cell_number}
 use Rattle.lls_encode.specs.Formula.{same}
 use Rattle.lls_encode.specs.Names.{first_literal, first_literals}
-use Rattle.lls_encode.specs.Room.{with_clauses}
+use Rattle.lls_transition.specs.Clause.{with_clauses}
 use Rattle.lls_encode.proofs.Steps.{with_clauses-none, on_ok, on_ok_always}
 use Rattle.lls_encode.proofs.Firsts.{first_literals-unnamed, first_literals-kept, first_literals-new, name_clauses-new, name_clauses-old, first_literal_at, is_within-names}
 use Rattle.lls_encode.proofs.cells.push_name.Goals as goal

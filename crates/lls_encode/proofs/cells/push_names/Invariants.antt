@@ -2,7 +2,7 @@ use Rattle.std.proofs.Common.{◌≡◌}
 use Rattle.std.specs.List.{flat_map, range_with_len}
 use Rattle.lls_encode.specs.Formula.{name_clauses}
 use Rattle.lls_encode.specs.Names.{first_literals}
-use Rattle.lls_encode.specs.Room.{with_clauses}
+use Rattle.lls_transition.specs.Clause.{with_clauses}
 use Rattle.lls_encode.proofs.cells.push_names.Given as goal
 
 -- the clauses of the cells so far, and the first cells of the names among them

@@ -6,7 +6,8 @@ use Rattle.lls_search_file.specs.declared.cell.Cell.{Cell}
 use Rattle.lls_grid.specs.History.{cells_of}
 use Rattle.lls_problem.specs.Solution.{cell_number}
 use Rattle.lls_encode.specs.Formula.{fixed_clauses, name_clauses, fixed_part, name_part}
-use Rattle.lls_encode.specs.Room.{with_clauses, HasRoom}
+use Rattle.lls_transition.specs.Clause.{with_clauses}
+use Rattle.lls_encode.specs.Room.{HasRoom}
 use Rattle.lls_encode.proofs.Complete.{satisfies-formula_of, absent_from, made, room_left, room_for_names}
 use Rattle.lls_encode.proofs.Sound.{IsSolution-history_of, unsatisfiable_from}
 use Rattle.lls_encode.proofs.formula.encode.Goals as goal

@@ -1,7 +1,7 @@
 use Rattle.std.proofs.Common.{ℕ, List, ◌≡◌, ◌+◌, ◌∙◌, arith, pos, ◌-ℤ◌, ap, sym}
 use Rattle.std.specs.List.{flat_map, range_with_len}
 use Rattle.lls_encode.specs.Formula.{line_clauses, framed_count, first_framed}
-use Rattle.lls_encode.specs.Room.{with_clauses}
+use Rattle.lls_transition.specs.Clause.{with_clauses}
 use Rattle.lls_lit.specs.Formula.{Clause}
 use Rattle.lls_encode.proofs.Steps.{pushed_more, pushed_all, HasRoom-after, flat_map-map}
 use Rattle.lls_encode.proofs.Bounds.{length-line_clauses}
@@ -9,7 +9,7 @@ use Rattle.lls_encode.proofs.transition.push_generation.Goals as goal
 
 pub push_line-requires-clause-room : goal.push_line-requires-clause-room
 push_line-requires-clause-room c =
-    HasRoom-after _ _ (λ k. line_clauses c.args.problem.now c.args.t (pos k -ℤ pos 1)) 67584 c.first_framed-first.result c.loop-line.line 66 4460544
+    HasRoom-after _ _ (λ k. line_clauses c.args.problem.now c.args.t (pos k -ℤ pos 1)) 33792 c.first_framed-first.result c.loop-line.line 66 2230272
     (λ k. length-line_clauses c.args.problem.now c.args.t (pos k -ℤ pos 1) c.posed.ensures.kept.width.1) c.loop-line.invariant (omega (arith, c.loop-line-test.true, c.framed_count-line-end.ensures.small, c.posed.ensures.kept.height)) (omega arith) c.requires.room
 
 pub loop-line-preserved : goal.loop-line-preserved

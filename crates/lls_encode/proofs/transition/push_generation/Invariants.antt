@@ -1,7 +1,7 @@
 use Rattle.std.proofs.Common.{◌≡◌, pos, ◌-ℤ◌}
 use Rattle.std.specs.List.{flat_map, range_with_len}
 use Rattle.lls_encode.specs.Formula.{line_clauses}
-use Rattle.lls_encode.specs.Room.{with_clauses}
+use Rattle.lls_transition.specs.Clause.{with_clauses}
 use Rattle.lls_encode.proofs.transition.push_generation.Given as goal
 
 -- the transitions into the lines so far

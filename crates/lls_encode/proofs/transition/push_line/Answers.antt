@@ -1,7 +1,7 @@
 use Rattle.std.proofs.Common.{ℕ, List, ◌≡◌, ◌+◌, ◌∙◌, arith, pos, ◌-ℤ◌, ap, sym}
 use Rattle.std.specs.List.{flat_map, range_with_len}
 use Rattle.lls_encode.specs.Formula.{place_clauses, framed_count, first_framed}
-use Rattle.lls_encode.specs.Room.{with_clauses}
+use Rattle.lls_transition.specs.Clause.{with_clauses}
 use Rattle.lls_lit.specs.Formula.{Clause}
 use Rattle.lls_encode.proofs.Steps.{pushed_more, pushed_all, HasRoom-after, flat_map-map}
 use Rattle.lls_encode.proofs.Bounds.{length-place_clauses}
@@ -9,7 +9,7 @@ use Rattle.lls_encode.proofs.transition.push_line.Goals as goal
 
 pub push_place-requires-clause-room : goal.push_place-requires-clause-room
 push_place-requires-clause-room c =
-    HasRoom-after _ _ (λ k. place_clauses c.args.problem.now c.args.t (pos c.args.line -ℤ pos 1) (pos k -ℤ pos 1)) 1024 c.first_framed-first.result c.loop-column.column 66 67584
+    HasRoom-after _ _ (λ k. place_clauses c.args.problem.now c.args.t (pos c.args.line -ℤ pos 1) (pos k -ℤ pos 1)) 512 c.first_framed-first.result c.loop-column.column 66 33792
     (λ k. length-place_clauses c.args.problem.now c.args.t (pos c.args.line -ℤ pos 1) (pos k -ℤ pos 1)) c.loop-column.invariant (omega (arith, c.loop-column-test.true, c.framed_count-column-end.ensures.small, c.posed.ensures.kept.width)) (omega arith) c.requires.room
 
 pub loop-column-preserved : goal.loop-column-preserved

@@ -6,7 +6,7 @@ use Rattle.lls_encode.proofs.transition.push_transitions.Goals as goal
 
 pub push_generation-requires-clause-room : goal.push_generation-requires-clause-room
 push_generation-requires-clause-room c =
-    HasRoom-after _ _ (generation_clauses c.args.problem.now) 4460544 0 c.loop-t.t 63 281014272 (λ t. length-generation_clauses c.args.problem.now t c.posed.ensures.kept.width.1 c.posed.ensures.kept.height.1) c.loop-t.invariant (omega (arith, c.loop-t-test.true, c.behind-problem.invariant.generations)) (omega arith) c.requires.room
+    HasRoom-after _ _ (generation_clauses c.args.problem.now) 2230272 0 c.loop-t.t 63 140507136 (λ t. length-generation_clauses c.args.problem.now t c.posed.ensures.kept.width.1 c.posed.ensures.kept.height.1) c.loop-t.invariant (omega (arith, c.loop-t-test.true, c.behind-problem.invariant.generations)) (omega arith) c.requires.room
 
 pub loop-t-preserved : goal.loop-t-preserved
 loop-t-preserved c =

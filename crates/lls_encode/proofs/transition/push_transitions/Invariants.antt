@@ -1,7 +1,7 @@
 use Rattle.std.proofs.Common.{◌≡◌}
 use Rattle.std.specs.List.{flat_map, range_with_len}
 use Rattle.lls_encode.specs.Formula.{generation_clauses}
-use Rattle.lls_encode.specs.Room.{with_clauses}
+use Rattle.lls_transition.specs.Clause.{with_clauses}
 use Rattle.lls_encode.proofs.transition.push_transitions.Given as goal
 
 -- the transitions into the generations so far
