@@ -4,6 +4,7 @@ use Rattle.std.specs.List.{list_all}
 use Rattle.std.specs.Str.{IsAscii}
 use Rattle.std.specs.Char.{is_ascii_alphabetic, is_ascii_alphanumeric}
 use Rattle.std.proofs.lemmas.Bool.{and_parts, leb-true}
+use Rattle.lls_search_file.specs.declared.posed.TheConstants.Names.{MOST_BYTES}
 use Rattle.lls_search_file.specs.Posed.{is_name}
 
 either_fits : (a b : Bool) (x y top : ℕ) → (a ≡ true → x < top) → (b ≡ true → x < top) → (a || b) ≡ true → x < top
@@ -32,6 +33,6 @@ all-lt (b ∷ bytes) e (suc i) = all-lt bytes (and_parts (is_ascii_alphanumeric 
 pub name_ascii : (name : List ℕ) → is_name name ≡ true → IsAscii name
 name_ascii [] e i = cc
 name_ascii (b ∷ bytes) e zero =
-    letter-lt b (and_parts (is_ascii_alphabetic b) (list_all is_ascii_alphanumeric bytes) (and_parts (is_ascii_alphabetic b && list_all is_ascii_alphanumeric bytes) (leb (length (b ∷ bytes)) 32) e).0).0
+    letter-lt b (and_parts (is_ascii_alphabetic b) (list_all is_ascii_alphanumeric bytes) (and_parts (is_ascii_alphabetic b && list_all is_ascii_alphanumeric bytes) (leb (length (b ∷ bytes)) MOST_BYTES) e).0).0
 name_ascii (b ∷ bytes) e (suc i) =
-    all-lt bytes (and_parts (is_ascii_alphabetic b) (list_all is_ascii_alphanumeric bytes) (and_parts (is_ascii_alphabetic b && list_all is_ascii_alphanumeric bytes) (leb (length (b ∷ bytes)) 32) e).0).1 i
+    all-lt bytes (and_parts (is_ascii_alphabetic b) (list_all is_ascii_alphanumeric bytes) (and_parts (is_ascii_alphabetic b && list_all is_ascii_alphanumeric bytes) (leb (length (b ∷ bytes)) MOST_BYTES) e).0).1 i

@@ -10,7 +10,7 @@ use Rattle.lls_text.specs.Words.{is_blank}
 use Rattle.lls_text.proofs.Printed.{lines_of-front}
 use Rattle.lls_grid.specs.Text.{blank, rows_text}
 use Rattle.lls_search_file.specs.declared.cell.Cell.{Cell}
-use Rattle.lls_search_file.specs.Words.{mark_byte, is_solid, pieces_of, cells_read, cell_before, row_of, ascii_or}
+use Rattle.lls_search_file.specs.Words.{comma_byte, mark_byte, is_solid, pieces_of, cells_read, cell_before, row_of, ascii_or}
 use Rattle.lls_search_file.specs.Reading.{hash}
 use Rattle.lls_search_file.specs.Counted.{Counts, line_taken, with_words}
 use Rattle.lls_search_file.specs.Kept.{word_in, words_in, is_spelled}
@@ -36,12 +36,12 @@ all_as p q weaker (b ∷ bytes) e =
     let parts = and_parts (p b) (list_all p bytes) e in
     and_from (q b) (list_all q bytes) (weaker b parts.0) (all_as p q weaker bytes parts.1)
 
--- what a byte of a word is: not below 39, not above 122, no comma
-word_byte : (b : ℕ) → is_word_byte b ≡ true → (39 ≤ b) × (b ≤ 122) × (eqb b 44 ≡ false)
+-- what a byte of a word is: not below `'`, not above 122, no comma
+word_byte : (b : ℕ) → is_word_byte b ≡ true → (mark_byte ≤ b) × (b ≤ 122) × (eqb b comma_byte ≡ false)
 word_byte b e =
-    let outer = and_parts (leb 39 b) (leb b 122 && not (eqb b 44)) e in
-    let inner = and_parts (leb b 122) (not (eqb b 44)) outer.1 in
-    (leb-true 39 b outer.0, leb-true b 122 inner.0, untrue (eqb b 44) inner.1)
+    let outer = and_parts (leb mark_byte b) (leb b 122 && not (eqb b comma_byte)) e in
+    let inner = and_parts (leb b 122) (not (eqb b comma_byte)) outer.1 in
+    (leb-true mark_byte b outer.0, leb-true b 122 inner.0, untrue (eqb b comma_byte) inner.1)
   where
     untrue : (v : Bool) → not v ≡ true → v ≡ false
     untrue true e = cc

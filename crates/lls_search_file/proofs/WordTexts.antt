@@ -8,20 +8,21 @@ use Rattle.std.proofs.Math.Seq.{get_or-append_seam, take-append_seam}
 use Rattle.lls_search_file.specs.declared.cell.Cell.{Cell}
 use Rattle.lls_search_file.specs.declared.cell.Kind.{Kind}
 use Rattle.lls_search_file.specs.declared.cell.Kind.TheVariants.{Dead, Live, Free, Named, Negated}
+use Rattle.lls_search_file.specs.declared.posed.TheConstants.Names.{MOST_BYTES}
 use Rattle.lls_search_file.specs.Posed.{is_name}
-use Rattle.lls_search_file.specs.Words.{named, said_of, word_of}
+use Rattle.lls_search_file.specs.Words.{comma_byte, mark_byte, named, said_of, word_of}
 use Rattle.lls_search_file.specs.Kept.{said_in, word_in, is_spelled, is_said_spelled}
 use Rattle.lls_search_file.specs.Printing.{word_text, body_text}
 
 -- a byte of a word without a mark: a letter, a digit, `*` or `-`
 abbrev pub is_body_byte : ℕ → Bool
-is_body_byte b = leb 42 b && (leb b 122 && not (eqb b 44))
+is_body_byte b = leb 42 b && (leb b 122 && not (eqb b comma_byte))
 
 -- a byte of a word
 abbrev pub is_word_byte : ℕ → Bool
-is_word_byte b = leb 39 b && (leb b 122 && not (eqb b 44))
+is_word_byte b = leb mark_byte b && (leb b 122 && not (eqb b comma_byte))
 
-in_range : (low b : ℕ) → low ≤ b → b ≤ 122 → (eqb b 44 ≡ false) → (leb low b && (leb b 122 && not (eqb b 44))) ≡ true
+in_range : (low b : ℕ) → low ≤ b → b ≤ 122 → (eqb b comma_byte ≡ false) → (leb low b && (leb b 122 && not (eqb b comma_byte))) ≡ true
 in_range low b from to other = rw (le-leb low b from, le-leb b 122 to, other) refl
 
 either_le : (x y : Bool) (low high b : ℕ) → (x ≡ true → (low ≤ b) × (b ≤ high)) → (y ≡ true → (low ≤ b) × (b ≤ high)) → (x || y) ≡ true → (low ≤ b) × (b ≤ high)
@@ -48,7 +49,7 @@ letter_or_digit-between b e =
 body_byte : (b : ℕ) → is_ascii_alphanumeric b ≡ true → is_body_byte b ≡ true
 body_byte b e =
     let range = letter_or_digit-between b e in
-    in_range 42 b (omega (arith, range.0)) range.1 (ne_eqb b 44 (λ same. absurd (omega (arith, range.0, same))))
+    in_range 42 b (omega (arith, range.0)) range.1 (ne_eqb b comma_byte (λ same. absurd (omega (arith, range.0, same))))
 
 all_weaker : (p q : ℕ → Bool) → ((b : ℕ) → p b ≡ true → q b ≡ true) → (bytes : List ℕ) → list_all p bytes ≡ true → list_all q bytes ≡ true
 all_weaker p q weaker [] e = refl
@@ -58,7 +59,7 @@ all_weaker p q weaker (b ∷ bytes) e =
 
 name_letters : (b : ℕ) (bytes : List ℕ) → is_name (b ∷ bytes) ≡ true → (is_ascii_alphabetic b ≡ true) × (list_all is_ascii_alphanumeric bytes ≡ true)
 name_letters b bytes e =
-    and_parts (is_ascii_alphabetic b) (list_all is_ascii_alphanumeric bytes) (and_parts (is_ascii_alphabetic b && list_all is_ascii_alphanumeric bytes) (leb (length (b ∷ bytes)) 32) e).0
+    and_parts (is_ascii_alphabetic b) (list_all is_ascii_alphanumeric bytes) (and_parts (is_ascii_alphabetic b && list_all is_ascii_alphanumeric bytes) (leb (length (b ∷ bytes)) MOST_BYTES) e).0
 
 name_body : (name : List ℕ) → is_name name ≡ true → list_all is_body_byte name ≡ true
 name_body [] e = refl
@@ -66,7 +67,7 @@ name_body (b ∷ bytes) e =
     let parts = name_letters b bytes e in
     let range = letter-between b parts.0 in
     and_from (is_body_byte b) (list_all is_body_byte bytes)
-    (in_range 42 b (omega (arith, range.0)) range.1 (ne_eqb b 44 (λ same. absurd (omega (arith, range.0, same)))))
+    (in_range 42 b (omega (arith, range.0)) range.1 (ne_eqb b comma_byte (λ same. absurd (omega (arith, range.0, same)))))
     (all_weaker is_ascii_alphanumeric is_body_byte body_byte bytes parts.1)
 
 body_all : (names : List (List ℕ)) (kind : Kind) → is_said_spelled (said_in names kind) ≡ true → list_all is_body_byte (body_text names kind) ≡ true
@@ -78,16 +79,16 @@ body_all names (Negated n) e = name_body (get_or names n []) e
 
 weaker_byte : (b : ℕ) → is_body_byte b ≡ true → is_word_byte b ≡ true
 weaker_byte b e =
-    let parts = and_parts (leb 42 b) (leb b 122 && not (eqb b 44)) e in
-    and_from (leb 39 b) (leb b 122 && not (eqb b 44)) (le-leb 39 b (omega (arith, leb-true 42 b parts.0))) parts.1
+    let parts = and_parts (leb 42 b) (leb b 122 && not (eqb b comma_byte)) e in
+    and_from (leb mark_byte b) (leb b 122 && not (eqb b comma_byte)) (le-leb mark_byte b (omega (arith, leb-true 42 b parts.0))) parts.1
 
 -- the bytes of a printed word
 pub word_all : (names : List (List ℕ)) (cell : Cell) → is_spelled (word_in names cell) ≡ true → list_all is_word_byte (word_text names cell) ≡ true
 word_all names cell e =
     let body = body_text names cell.kind in
     let all : list_all is_word_byte body ≡ true = all_weaker is_body_byte is_word_byte weaker_byte body (body_all names cell.kind e) in
-    elim cell.mark as (λ m. list_all is_word_byte (cond m (body ++ 39 ∷ []) body) ≡ true) [
-      | true ↦ list_all-append is_word_byte body (39 ∷ []) ∙ rw all refl
+    elim cell.mark as (λ m. list_all is_word_byte (cond m (body ++ mark_byte ∷ []) body) ≡ true) [
+      | true ↦ list_all-append is_word_byte body (mark_byte ∷ []) ∙ rw all refl
       | false ↦ all
     ]
 
@@ -107,8 +108,8 @@ pub some_word : (names : List (List ℕ)) (cell : Cell) → is_spelled (word_in 
 some_word names cell e =
     let body = body_text names cell.kind in
     let some = some_body names cell.kind e in
-    elim cell.mark as (λ m. 0 < length (cond m (body ++ 39 ∷ []) body)) [
-      | true ↦ omega (arith, length-append body (39 ∷ []), some)
+    elim cell.mark as (λ m. 0 < length (cond m (body ++ mark_byte ∷ []) body)) [
+      | true ↦ omega (arith, length-append body (mark_byte ∷ []), some)
       | false ↦ some
     ]
 
@@ -130,23 +131,23 @@ body_reads names (Named n) e = name_reads (get_or names n []) e
 body_reads names (Negated n) e = rw e refl
 
 -- a word without a mark doesn't end with one
-no_mark_at : (body : List ℕ) (i : ℕ) → list_all is_body_byte body ≡ true → eqb (get_or body i 0) 39 ≡ false
+no_mark_at : (body : List ℕ) (i : ℕ) → list_all is_body_byte body ≡ true → eqb (get_or body i 0) mark_byte ≡ false
 no_mark_at [] i e = refl
 no_mark_at (b ∷ body) zero e =
-    let low = leb-true 42 b (and_parts (leb 42 b) (leb b 122 && not (eqb b 44)) (and_parts (is_body_byte b) (list_all is_body_byte body) e).0).0 in
-    ne_eqb b 39 (λ same. absurd (omega (arith, low, same)))
+    let low = leb-true 42 b (and_parts (leb 42 b) (leb b 122 && not (eqb b comma_byte)) (and_parts (is_body_byte b) (list_all is_body_byte body) e).0).0 in
+    ne_eqb b mark_byte (λ same. absurd (omega (arith, low, same)))
 no_mark_at (b ∷ body) (suc i) e = no_mark_at body i (and_parts (is_body_byte b) (list_all is_body_byte body) e).1
 
 -- a printed word reads as its cell
 pub word_reads : (names : List (List ℕ)) (cell : Cell) → is_spelled (word_in names cell) ≡ true → word_of (word_text names cell) ≡ Some (word_in names cell)
 word_reads names cell e = by_mark cell.mark
   where
-    by_mark : (mark : Bool) → word_of (cond mark (body_text names cell.kind ++ 39 ∷ []) (body_text names cell.kind)) ≡ Some (record { mark = mark; says = said_in names cell.kind })
+    by_mark : (mark : Bool) → word_of (cond mark (body_text names cell.kind ++ mark_byte ∷ []) (body_text names cell.kind)) ≡ Some (record { mark = mark; says = said_in names cell.kind })
     by_mark true =
         let body = body_text names cell.kind in
-        let place : length (body ++ 39 ∷ []) - 1 ≡ length body = omega (arith, length-append body (39 ∷ [])) in
-        let front : take (length body) (body ++ 39 ∷ []) ≡ body = take-append_seam body (39 ∷ []) in
-        rw (place, get_or-append_seam body 39 [] 0, front, body_reads names cell.kind e) refl
+        let place : length (body ++ mark_byte ∷ []) - 1 ≡ length body = omega (arith, length-append body (mark_byte ∷ [])) in
+        let front : take (length body) (body ++ mark_byte ∷ []) ≡ body = take-append_seam body (mark_byte ∷ []) in
+        rw (place, get_or-append_seam body mark_byte [] 0, front, body_reads names cell.kind e) refl
     by_mark false =
         let body = body_text names cell.kind in
         rw (no_mark_at body (length body - 1) (body_all names cell.kind e), body_reads names cell.kind e) refl

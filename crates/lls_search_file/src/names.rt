@@ -2,7 +2,6 @@
 ghost use Rattle.std.specs.Prelude.{◌≡◌, ◌<◌, ◌≤◌, ◌+◌, ◌^◌, ◌++◌, true, length, map, IfOk, OnOk};
 ghost use Rattle.std.specs.List.{list_all, position_or_len};
 ghost use Rattle.lls_search_file.specs.Posed.{is_name, same_text};
-ghost use Rattle.lls_search_file.specs.Words.{Word};
 ghost use Rattle.lls_search_file.specs.Reading.{name_said, cell_said};
 ghost use Rattle.lls_search_file.specs.Seen.{seen_word};
 ghost use Rattle.lls_search_file.specs.Kept.{IsNumbered, is_spelled, texts, with_name, words_in};

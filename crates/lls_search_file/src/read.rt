@@ -1,5 +1,5 @@
 // The reading of search files.
-ghost use Rattle.std.specs.Prelude.{◌≡◌, ◌<◌, ◌≤◌, true, false, length, map, OnOk};
+ghost use Rattle.std.specs.Prelude.{◌≡◌, ◌≤◌, true, length, map, OnOk};
 ghost use Rattle.std.specs.List.{list_all};
 ghost use Rattle.lls_base.specs.Results.{Gives};
 ghost use Rattle.lls_search_file.specs.Reading.{posed_of};

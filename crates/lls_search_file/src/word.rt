@@ -1,5 +1,5 @@
 // The words of a row and the cells that they stand for.
-ghost use Rattle.std.specs.Prelude.{◌≡◌, ◌||◌, ◌<◌, not, length};
+ghost use Rattle.std.specs.Prelude.{◌≡◌, length};
 ghost use Rattle.std.specs.Option.{option_map};
 ghost use Rattle.std.specs.List.{take_while, list_all};
 ghost use Rattle.std.specs.Char.{is_ascii_alphanumeric};
