@@ -1,1 +1,4 @@
 pub mod Soundness
+pub mod Digits
+pub mod Lists
+pub mod InRange

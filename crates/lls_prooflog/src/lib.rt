@@ -5,12 +5,17 @@
 
 mod hints;
 mod ids;
+mod line_error;
 mod lits;
+mod number;
+mod read;
 mod step;
 
 pub use hints::Hints;
 pub use ids::Ids;
+pub use line_error::LineError;
 pub use lits::Lits;
+pub use read::read_line;
 pub use step::Step;
 
 #[cfg(test)]
