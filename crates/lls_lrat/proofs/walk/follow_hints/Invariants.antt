@@ -1,7 +1,7 @@
 use Rattle.std.proofs.Common.{◌≡◌, List, drop}
 use Rattle.std.specs.Prelude.{ℤ}
 use Rattle.lls_lrat.proofs.Walked.{Walked}
-use Rattle.lls_lrat.proofs.walk.closes.Given as goal
+use Rattle.lls_lrat.proofs.walk.follow_hints.Given as goal
 
 abbrev pub invariant-loop-hint : goal.invariant-loop-hint
 invariant-loop-hint l =
