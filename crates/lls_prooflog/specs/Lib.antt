@@ -5,3 +5,4 @@ pub mod Range
 pub mod LineError
 pub mod Number
 pub mod Line
+pub mod StepText
