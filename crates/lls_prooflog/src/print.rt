@@ -1,21 +1,23 @@
 // The line that writes a step.
-ghost use Rattle.std.specs.Prelude.{◌≡◌, ◌++◌, IfOk, OnOk, codes};
-ghost use Rattle.std.specs.Fmt.{decimal};
+ghost use Rattle.std.specs.Prelude.{◌≡◌, ◌++◌, true, IfOk, OnOk, Ok, Some};
+ghost use Rattle.lls_lit.specs.Formula.{is_within};
 ghost use Rattle.lls_prooflog.specs.declared.step.Step.TheVariants.{Add, Del};
 ghost use Rattle.lls_prooflog.specs.Range.{IsInRange};
+ghost use Rattle.lls_prooflog.specs.Line.{step_of_line};
 ghost use Rattle.lls_prooflog.specs.StepText.{signed_list_text, id_list_text, step_line, step_text};
 
 use crate::Step;
 use itoa::Buffer;
 use lls_base::Memory;
-use lls_lit::Lit;
+use lls_lit::{Lit, Var};
 use std::alloc::Global;
 
 /// The line that writes a step, with LF at its end: words with one blank between. A deletion's first number, which isn't
 /// used, is 0.
 pub fn print_step(alloc: Global, step: &Step) -> Result<Vec<u8>, Memory>
     requires { IsInRange step.now }
-    ensures { IfOk result (λ text. text.items ≡ step_text step.now) }
+    ensures text { IfOk result (λ text. text.items ≡ step_text step.now) }
+    ensures read_again { OnOk result (step_of_line (step_line step.now) ≡ Ok (Some step.now)) }
 {
     let mut text = match step {
         Step::Add { id, lits, hints } => print_addition(alloc, *id, lits.items(), hints.items())?,
@@ -26,7 +28,8 @@ pub fn print_step(alloc: Global, step: &Step) -> Result<Vec<u8>, Memory>
 }
 
 fn print_addition(alloc: Global, id: u64, lits: &[Lit], hints: &[i64]) -> Result<Vec<u8>, Memory>
-    ensures { IfOk result (λ text. text.items ≡ step_line (Add id lits.now hints.now)) }
+    ensures text { IfOk result (λ text. text.items ≡ step_line (Add id lits.now hints.now)) }
+    ensures within { OnOk result (is_within Var.MOST lits.now ≡ true) }
 {
     let mut digits = Buffer::new();
     let mut text = Vec::from_slice(alloc, digits.format(id).as_bytes())?;
@@ -46,7 +49,8 @@ fn print_deletion(alloc: Global, ids: &[u64]) -> Result<Vec<u8>, Memory>
 }
 
 fn push_lits(text: &mut Vec<u8>, lits: &[Lit]) -> Result<(), Memory>
-    ensures { OnOk result (text.new.items ≡ text.old.items ++ signed_list_text lits.now) }
+    ensures text { OnOk result (text.new.items ≡ text.old.items ++ signed_list_text lits.now) }
+    ensures within { OnOk result (is_within Var.MOST lits.now ≡ true) }
 {
     let mut digits = Buffer::new();
     for lit in lits {
