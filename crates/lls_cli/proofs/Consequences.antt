@@ -4,7 +4,6 @@ use Rattle.std.specs.Prelude.{IsErr}
 use Rattle.std.specs.Option.{option_map}
 use Rattle.lls_base.specs.Shelf.{Files}
 use Rattle.lls_lrat.specs.declared.error.CheckError.{CheckError}
-use Rattle.lls_lrat.specs.declared.error.CheckError.TheVariants as proof
 use Rattle.lls_search_file.specs.declared.error.PosedError.{PosedError}
 use Rattle.lls_search_file.specs.declared.error.PosedError.TheVariants as posed
 use Rattle.lls_problem.specs.declared.demands.DemandError.{DemandError}
@@ -156,10 +155,7 @@ yes_or_no question answer status right is = subst IsYesOrNo (sym is) (holds_stat
 
 check_answer-no_file : (verdict : Result (Unit {0}) CheckError) → (check_answer verdict).file ≡ None
 check_answer-no_file (Ok accepted) = refl
-check_answer-no_file (Err proof.Unbuilt) = refl
-check_answer-no_file (Err proof.NotGood) = refl
-check_answer-no_file (Err proof.NoEmpty) = refl
-check_answer-no_file (Err proof.Memory) = refl
+check_answer-no_file (Err error) = refl
 
 judge_answer-no_file : (judgement : Judgement) → (judge_answer judgement).file ≡ None
 judge_answer-no_file judgements.Meets = refl

@@ -1,5 +1,5 @@
 -- Which answers to a question are right.
-use Rattle.std.specs.Prelude.{◌≡◌, ℕ, ◌++◌, List, codes, Option, None, Result, Ok, Err, IsErr}
+use Rattle.std.specs.Prelude.{◌≡◌, ℕ, ◌++◌, List, codes, Option, None, Result, Ok, Err}
 use Rattle.lls_hensel.specs.Printing.{rule_text}
 use Rattle.lls_problem.specs.declared.judgement.Judgement.{Judgement}
 use Rattle.lls_problem.specs.declared.judgement.Judgement.TheVariants as judgements
@@ -7,8 +7,8 @@ use Rattle.lls_problem.specs.Judgement.{IsJudgement}
 use Rattle.lls_problem.specs.Solution.{IsSolution, IsAbsent}
 use Rattle.lls_encode.specs.Formula.{formula_of}
 use Rattle.lls_lrat.specs.declared.error.CheckError.{CheckError}
-use Rattle.lls_lrat.specs.declared.error.CheckError.TheVariants as proof
-use Rattle.lls_lrat.specs.Verdict.{verdict}
+use Rattle.lls_lrat.specs.FaultText.{check_error_text}
+use Rattle.lls_lrat.specs.Verdict.{Accepted, verdict, answer_of}
 use Rattle.lls_cli.specs.declared.status.Status.{Status}
 use Rattle.lls_cli.specs.declared.status.Status.TheVariants as statuses
 use Rattle.lls_problem.specs.Texts.{judgement_text}
@@ -29,13 +29,10 @@ pub record GivenAnswer : Type 0 where
 abbrev pub said : Status → List ℕ → GivenAnswer
 said status text = record { status = status; text = text ++ codes "\n"; file = None }
 
--- the answer of a proof that is accepted or refused
+-- the answer of a proof that is accepted, or refused with its first fault
 abbrev pub check_answer : Result (Unit {0}) CheckError → GivenAnswer
 check_answer (Ok accepted) = said statuses.Done (codes "accepted")
-check_answer (Err proof.Unbuilt) = said statuses.Refused (codes "refused: Unbuilt")
-check_answer (Err proof.NotGood) = said statuses.Refused (codes "refused: NotGood")
-check_answer (Err proof.NoEmpty) = said statuses.Refused (codes "refused: NoEmpty")
-check_answer (Err proof.Memory) = said statuses.Refused (codes "refused: Memory")
+check_answer (Err error) = said statuses.Refused (codes "refused: " ++ check_error_text error)
 
 -- the answer of a history that is judged: the first demand that it breaks, and where
 abbrev pub judge_answer : Judgement → GivenAnswer
@@ -44,13 +41,13 @@ judge_answer judgement = said statuses.Refused (codes "broken: " ++ judgement_te
 
 -- what the yes of a question says: of a check that the proof is accepted and that there is no solution, of a judging that the pattern is one
 abbrev pub YesHolds : Question → Type 0
-YesHolds (checks problem proof) = (verdict (formula_of problem) proof ≡ Ok tt) × IsAbsent problem
+YesHolds (checks problem proof) = (verdict (formula_of problem) proof ≡ Accepted) × IsAbsent problem
 YesHolds (judges problem history) = IsSolution problem history
 YesHolds (prints rule) = Unit {0}
 
 -- what its no says: of a check that the proof isn't accepted, of a judging that the pattern is no solution
 abbrev pub NoHolds : Question → Type 0
-NoHolds (checks problem proof) = IsErr (verdict (formula_of problem) proof)
+NoHolds (checks problem proof) = verdict (formula_of problem) proof ≡ Accepted → ⊥
 NoHolds (judges problem history) = IsSolution problem history → ⊥
 NoHolds (prints rule) = ⊥
 
@@ -62,7 +59,7 @@ Holds question status = ⊥
 
 -- the status, the text and the file that answer a question
 abbrev pub Answers : Question → GivenAnswer → Type 0
-Answers (checks problem bytes) answer = answer ≡ check_answer (verdict (formula_of problem) bytes)
+Answers (checks problem bytes) answer = answer ≡ check_answer (answer_of (verdict (formula_of problem) bytes))
 Answers (judges problem history) answer = (judgement : Judgement) × IsJudgement problem history judgement × (answer ≡ judge_answer judgement)
 Answers (prints rule) answer = answer ≡ said statuses.Done (rule_text rule)
 

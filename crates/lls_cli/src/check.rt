@@ -20,18 +20,19 @@ fn answer(alloc: Global, problem: &Problem, proof: &[u8]) -> Result<Answer, Memo
     ensures { IfOk result (λ answer. IsAnswer (checks problem.now proof.now) (seen_answer answer)) }
 {
     let formula = encode(alloc, problem)?;
-    let (status, text) = match check_bytes(alloc, &formula, proof) {
-        Ok(()) => (Status::Done, b"accepted\n".as_slice()),
-        Err(CheckError::Unbuilt) => (Status::Refused, b"refused: Unbuilt\n".as_slice()),
-        Err(CheckError::NotGood) => (Status::Refused, b"refused: NotGood\n".as_slice()),
-        Err(CheckError::NoEmpty) => (Status::Refused, b"refused: NoEmpty\n".as_slice()),
-        Err(CheckError::Memory) => return Err(Memory),
-    };
-    Ok(Answer {
-        status,
-        text: text.to_vec(alloc)?,
-        file: None,
-    })
+    match check_bytes(alloc, &formula, proof) {
+        Ok(_checked) => Ok(Answer {
+            status: Status::Done,
+            text: b"accepted\n".to_vec(alloc)?,
+            file: None,
+        }),
+        Err(CheckError::Memory) => Err(Memory),
+        Err(error) => Ok(Answer {
+            status: Status::Refused,
+            text: format!(in alloc; "refused: {error}\n")?.into_bytes(),
+            file: None,
+        }),
+    }
 }
 
 /// Checks the bytes of a proof that a problem has no solution, and gives the answer.

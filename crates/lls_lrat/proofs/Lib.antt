@@ -7,6 +7,4 @@ pub mod Lefts
 pub mod Walked
 pub mod Within
 pub mod Checks
-pub mod Fronts
-pub mod Items
-pub mod Numbers
+pub mod Verdicts

@@ -1,6 +1,6 @@
 -- Unit propagation by hints, as a loop goes through them.
 use Rattle.std.proofs.Common.{◌≡◌, ℕ, ◌+◌, ◌<◌, ◌≤◌, true, false, not, cond, List, [], ◌∷◌, ◌++◌, length, get_or, drop, Option, Some, None, refl, sym, ap, ◌∙◌}
-use Rattle.std.specs.Prelude.{ℤ, pos, negsuc, filter, is_none}
+use Rattle.std.specs.Prelude.{ℤ, pos, negsuc, filter, Ok, Err}
 use Rattle.std.specs.List.{list_all}
 use Rattle.std.specs.Ordering.{int_cmp, int_eq}
 use Rattle.std.specs.FinSet as set
@@ -10,11 +10,14 @@ use Rattle.std.proofs.lemmas.List.Elements.{filter_agree}
 use Rattle.lls_lit.specs.Literal.{negation}
 use Rattle.lls_lit.specs.Formula.{Clause}
 use Rattle.lls_lit.specs.Marked.{Marked}
-use Rattle.lls_prooflog.specs.UnitWalk.{Live, Fault, NotUnit, is_among, remaining, at_clause, at_hint, unit_walk}
+use Rattle.lls_prooflog.specs.UnitWalk.{Live, Fault, NotUnit, find_clause, is_among, remaining, at_clause, at_hint, unit_walk}
 use Rattle.lls_lrat.specs.declared.walk.Left.{Left}
 use Rattle.lls_lrat.specs.declared.walk.Left.TheVariants.{Nothing, One, More}
 use Rattle.lls_lrat.specs.Left.{left_in}
-use Rattle.lls_lrat.specs.Hinted.{hinted_clause}
+use Rattle.lls_lrat.specs.declared.refusal.Refusal.{Refusal}
+use Rattle.lls_lrat.specs.declared.refusal.Refusal.TheVariants as refusals
+use Rattle.lls_lrat.specs.Refusals.{unless_fault}
+use Rattle.lls_lrat.specs.Hinted.{known_clause, hinted_clause}
 
 -- with the assumed literals marked, the hints that are left lead where all lead from the literals
 pub record Walked (live : Live) (lits hints rest : List ℤ) (marks : Marked) (assumed : List ℤ) : Type 0 where
@@ -26,13 +29,23 @@ remaining_unmarked : (marks : Marked) (assumed clause : List ℤ) → marks.lits
 remaining_unmarked marks assumed clause same =
     filter_agree (λ l. not (set.contains marks.lits l)) (λ l. not (is_among assumed l)) (λ l. ap (λ (s : set.FinSet int_cmp). not (set.contains s l)) same ∙ ap not (set.contains-from_list int_cmp_total assumed l)) clause
 
-walk_at : (live : Live) (assumed : List ℤ) (hint : ℤ) (rest : List ℤ) (clause : Clause) → hinted_clause live hint ≡ Some clause → unit_walk live assumed (hint ∷ rest) ≡ at_clause hint (remaining assumed clause) (λ l. unit_walk live (assumed ++ negation l ∷ []) rest)
-walk_at live assumed (pos id) rest clause e = ap (λ (o : Option Clause). at_hint (pos id) assumed o (λ l. unit_walk live (assumed ++ negation l ∷ []) rest)) e
+walk_at : (live : Live) (assumed : List ℤ) (hint : ℤ) (rest : List ℤ) (clause : Clause) → hinted_clause live hint ≡ Ok clause → unit_walk live assumed (hint ∷ rest) ≡ at_clause hint (remaining assumed clause) (λ l. unit_walk live (assumed ++ negation l ∷ []) rest)
+walk_at live assumed (pos id) rest clause e =
+    let next : ℤ → Option Fault = λ l. unit_walk live (assumed ++ negation l ∷ []) rest in
+    elim (find_clause live id) as (λ o. known_clause (pos id) o ≡ Ok clause → at_hint (pos id) assumed o next ≡ at_clause (pos id) (remaining assumed clause) next) [
+      | None ↦ λ h. absurd cc
+      | Some found ↦ λ h. let same : found ≡ clause = cc in ap (λ (c : Clause). at_clause (pos id) (remaining assumed c) next) same
+    ] e
 walk_at live assumed (negsuc n) rest clause e = absurd cc
 
-walk_without : (live : Live) (assumed : List ℤ) (hint : ℤ) (rest : List ℤ) → hinted_clause live hint ≡ None → is_none (unit_walk live assumed (hint ∷ rest)) ≡ false
-walk_without live assumed (pos id) rest e = ap (λ (o : Option Clause). is_none (at_hint (pos id) assumed o (λ l. unit_walk live (assumed ++ negation l ∷ []) rest))) e
-walk_without live assumed (negsuc n) rest e = refl
+walk_without : (live : Live) (assumed : List ℤ) (hint : ℤ) (rest : List ℤ) (refusal : Refusal) → hinted_clause live hint ≡ Err refusal → unless_fault (unit_walk live assumed (hint ∷ rest)) ≡ Err refusal
+walk_without live assumed (pos id) rest refusal e =
+    let next : ℤ → Option Fault = λ l. unit_walk live (assumed ++ negation l ∷ []) rest in
+    elim (find_clause live id) as (λ o. known_clause (pos id) o ≡ Err refusal → unless_fault (at_hint (pos id) assumed o next) ≡ Err refusal) [
+      | None ↦ λ h. let same : refusals.NoClause (pos id) ≡ refusal = cc in ap (λ (r : Refusal). Err r) same
+      | Some found ↦ λ h. absurd cc
+    ] e
+walk_without live assumed (negsuc n) rest refusal e = let same : refusals.RatHint (negsuc n) ≡ refusal = cc in ap (λ (r : Refusal). Err r) same
 
 at_clause-nothing : (hint : ℤ) (lits : List ℤ) (goes_on : ℤ → Option Fault) → left_in lits ≡ Nothing → at_clause hint lits goes_on ≡ None
 at_clause-nothing hint [] goes_on e = refl
@@ -50,10 +63,10 @@ at_clause-one hint (m ∷ ms) goes_on l e =
       | false ↦ λ h. absurd cc
     ] e
 
-at_clause-more : (hint : ℤ) (lits : List ℤ) (goes_on : ℤ → Option Fault) → left_in lits ≡ More → is_none (at_clause hint lits goes_on) ≡ false
+at_clause-more : (hint : ℤ) (lits : List ℤ) (goes_on : ℤ → Option Fault) → left_in lits ≡ More → at_clause hint lits goes_on ≡ Some (NotUnit hint)
 at_clause-more hint [] goes_on e = absurd cc
 at_clause-more hint (l ∷ ls) goes_on e =
-    elim (list_all (int_eq l) ls) as (λ b. cond b (One l) More ≡ More → is_none (cond b (goes_on l) (Some (NotUnit hint))) ≡ false) [
+    elim (list_all (int_eq l) ls) as (λ b. cond b (One l) More ≡ More → cond b (goes_on l) (Some (NotUnit hint)) ≡ Some (NotUnit hint)) [
       | true ↦ λ h. absurd cc
       | false ↦ λ h. refl
     ] e
@@ -66,25 +79,25 @@ module _ (live : Live) (lits hints : List ℤ) (marks : Marked) (assumed : List 
       ∙ ap (unit_walk live assumed) (sym (drop_more hints i (pos 0) lt))
       ∙ w.walk
 
-  pub ends_without_clause : i < length hints → hint ≡ get_or hints i (pos 0) → Walked live lits hints (drop i hints) marks assumed → hinted_clause live hint ≡ None → is_none (unit_walk live lits hints) ≡ false
-  ends_without_clause lt is w none = ap is_none (sym (next_walk lt is w)) ∙ walk_without live assumed hint (drop (i + 1) hints) none
+  pub ends_without_clause : (refusal : Refusal) → i < length hints → hint ≡ get_or hints i (pos 0) → Walked live lits hints (drop i hints) marks assumed → hinted_clause live hint ≡ Err refusal → unless_fault (unit_walk live lits hints) ≡ Err refusal
+  ends_without_clause refusal lt is w none = ap unless_fault (sym (next_walk lt is w)) ∙ walk_without live assumed hint (drop (i + 1) hints) refusal none
 
   -- the next hint has a clause
-  clause_walk : (clause : Clause) (left : Left) → i < length hints → hint ≡ get_or hints i (pos 0) → Walked live lits hints (drop i hints) marks assumed → hinted_clause live hint ≡ Some clause → left ≡ left_in (filter (λ l. not (set.contains marks.lits l)) clause)
+  clause_walk : (clause : Clause) (left : Left) → i < length hints → hint ≡ get_or hints i (pos 0) → Walked live lits hints (drop i hints) marks assumed → hinted_clause live hint ≡ Ok clause → left ≡ left_in (filter (λ l. not (set.contains marks.lits l)) clause)
       → (left_in (remaining assumed clause) ≡ left) × (unit_walk live lits hints ≡ at_clause hint (remaining assumed clause) (λ l. unit_walk live (assumed ++ negation l ∷ []) (drop (i + 1) hints)))
   clause_walk clause left lt is w some e = (ap left_in (sym (remaining_unmarked marks assumed clause w.same)) ∙ sym e, sym (next_walk lt is w) ∙ walk_at live assumed hint (drop (i + 1) hints) clause some)
 
-  pub ends_in_conflict : (clause : Clause) → i < length hints → hint ≡ get_or hints i (pos 0) → Walked live lits hints (drop i hints) marks assumed → hinted_clause live hint ≡ Some clause → Nothing ≡ left_in (filter (λ l. not (set.contains marks.lits l)) clause) → is_none (unit_walk live lits hints) ≡ true
+  pub ends_in_conflict : (clause : Clause) → i < length hints → hint ≡ get_or hints i (pos 0) → Walked live lits hints (drop i hints) marks assumed → hinted_clause live hint ≡ Ok clause → Nothing ≡ left_in (filter (λ l. not (set.contains marks.lits l)) clause) → unless_fault (unit_walk live lits hints) ≡ Ok tt
   ends_in_conflict clause lt is w some e =
       let c = clause_walk clause Nothing lt is w some e in
-      ap is_none (c.1 ∙ at_clause-nothing hint (remaining assumed clause) (λ l. unit_walk live (assumed ++ negation l ∷ []) (drop (i + 1) hints)) c.0)
+      ap unless_fault (c.1 ∙ at_clause-nothing hint (remaining assumed clause) (λ l. unit_walk live (assumed ++ negation l ∷ []) (drop (i + 1) hints)) c.0)
 
-  pub ends_not_unit : (clause : Clause) → i < length hints → hint ≡ get_or hints i (pos 0) → Walked live lits hints (drop i hints) marks assumed → hinted_clause live hint ≡ Some clause → More ≡ left_in (filter (λ l. not (set.contains marks.lits l)) clause) → is_none (unit_walk live lits hints) ≡ false
+  pub ends_not_unit : (clause : Clause) → i < length hints → hint ≡ get_or hints i (pos 0) → Walked live lits hints (drop i hints) marks assumed → hinted_clause live hint ≡ Ok clause → More ≡ left_in (filter (λ l. not (set.contains marks.lits l)) clause) → unless_fault (unit_walk live lits hints) ≡ Err (refusals.NotUnit hint)
   ends_not_unit clause lt is w some e =
       let c = clause_walk clause More lt is w some e in
-      ap is_none c.1 ∙ at_clause-more hint (remaining assumed clause) (λ l. unit_walk live (assumed ++ negation l ∷ []) (drop (i + 1) hints)) c.0
+      ap unless_fault (c.1 ∙ at_clause-more hint (remaining assumed clause) (λ l. unit_walk live (assumed ++ negation l ∷ []) (drop (i + 1) hints)) c.0)
 
-  pub goes_on : (clause : Clause) (l : ℤ) → i < length hints → hint ≡ get_or hints i (pos 0) → Walked live lits hints (drop i hints) marks assumed → hinted_clause live hint ≡ Some clause → One l ≡ left_in (filter (λ m. not (set.contains marks.lits m)) clause)
+  pub goes_on : (clause : Clause) (l : ℤ) → i < length hints → hint ≡ get_or hints i (pos 0) → Walked live lits hints (drop i hints) marks assumed → hinted_clause live hint ≡ Ok clause → One l ≡ left_in (filter (λ m. not (set.contains marks.lits m)) clause)
       → Walked live lits hints (drop (i + 1) hints) (record { vars = marks.vars; lits = set.insert marks.lits (negation l) }) (assumed ++ negation l ∷ [])
   goes_on clause l lt is w some e =
       let c = clause_walk clause (One l) lt is w some e in
@@ -93,5 +106,5 @@ module _ (live : Live) (lits hints : List ℤ) (marks : Marked) (assumed : List 
         walk = sym (c.1 ∙ at_clause-one hint (remaining assumed clause) (λ m. unit_walk live (assumed ++ negation m ∷ []) (drop (i + 1) hints)) l c.0);
       }
 
-  pub ends_with_no_conflict : length hints ≤ i → Walked live lits hints (drop i hints) marks assumed → is_none (unit_walk live lits hints) ≡ false
-  ends_with_no_conflict le w = ap is_none (sym (ap (unit_walk live assumed) (sym (drop_all i hints le)) ∙ w.walk))
+  pub ends_with_no_conflict : length hints ≤ i → Walked live lits hints (drop i hints) marks assumed → unless_fault (unit_walk live lits hints) ≡ Err refusals.NoConflict
+  ends_with_no_conflict le w = ap unless_fault (sym (ap (unit_walk live assumed) (sym (drop_all i hints le)) ∙ w.walk))

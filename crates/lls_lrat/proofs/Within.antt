@@ -1,12 +1,12 @@
 -- Clauses and literals within the variables.
-use Rattle.std.proofs.Common.{◌≡◌, ℕ, zero, suc, ◌<◌, ◌≤◌, true, false, cond, eqb, [], ◌∷◌, length, get_or, Some, refl, arith, leb, leb-true}
-use Rattle.std.specs.Prelude.{ℤ, pos, negsuc}
+use Rattle.std.proofs.Common.{◌≡◌, ℕ, zero, suc, ◌<◌, ◌≤◌, true, false, cond, eqb, [], ◌∷◌, length, get_or, Some, None, refl, ap, ◌∙◌, arith, leb, leb-true}
+use Rattle.std.specs.Prelude.{ℤ, pos, negsuc, Ok}
 use Rattle.std.proofs.lemmas.Option.{same_Some, slice_get-get_or}
 use Rattle.lls_lit.specs.Literal.{variable_of, negation}
 use Rattle.lls_lit.specs.Formula.{Clause, is_literal_of, is_within}
 use Rattle.lls_cnf.proofs.Elements.{passes_at}
 use Rattle.lls_prooflog.specs.UnitWalk.{Live, find_clause}
-use Rattle.lls_lrat.specs.Hinted.{are_within, hinted_clause}
+use Rattle.lls_lrat.specs.Hinted.{are_within, known_clause, hinted_clause}
 use Rattle.lls_lrat.proofs.Booleans.{both_true}
 
 found_within : (vars : ℕ) (live : Live) (id : ℕ) (clause : Clause) → are_within vars live ≡ true → find_clause live id ≡ Some clause → is_within vars clause ≡ true
@@ -18,8 +18,12 @@ found_within vars (pair ∷ rest) id clause all e =
       | false ↦ λ h. found_within vars rest id clause both.1 h
     ] e
 
-pub hinted_within : (vars : ℕ) (live : Live) (hint : ℤ) (clause : Clause) → are_within vars live ≡ true → hinted_clause live hint ≡ Some clause → is_within vars clause ≡ true
-hinted_within vars live (pos id) clause all e = found_within vars live id clause all e
+pub hinted_within : (vars : ℕ) (live : Live) (hint : ℤ) (clause : Clause) → are_within vars live ≡ true → hinted_clause live hint ≡ Ok clause → is_within vars clause ≡ true
+hinted_within vars live (pos id) clause all e =
+    elim (find_clause live id) as (λ o. find_clause live id ≡ o → known_clause (pos id) o ≡ Ok clause → is_within vars clause ≡ true) [
+      | None ↦ λ _ h. absurd cc
+      | Some found ↦ λ is h. let same : found ≡ clause = cc in found_within vars live id clause all (is ∙ ap (λ (c : Clause). Some c) same)
+    ] refl e
 hinted_within vars live (negsuc n) clause all e = absurd cc
 
 -- a literal of a clause that is within the variables

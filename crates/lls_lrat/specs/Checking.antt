@@ -1,8 +1,10 @@
 -- What a checker is seen as, and what a step makes of it.
-use Rattle.std.specs.Prelude.{◌≡◌, ℕ, Bool, true, false, Option, Some, None, is_none, if◌then◌else◌}
+use Rattle.std.specs.Prelude.{◌≡◌, ℕ, Bool, true, false, Option, Some, None, Result, Ok, Err, if◌then◌else◌}
 use Rattle.lls_lit.specs.Formula.{Cnf, IsUnsatisfiable}
 use Rattle.lls_prooflog.specs.declared.step.Step.{Step}
-use Rattle.lls_prooflog.specs.Steps.{Live, fault_of, after, is_empty_addition, KeepsSatisfiable}
+use Rattle.lls_prooflog.specs.Steps.{Live, Fault, fault_of, after, is_empty_addition, KeepsSatisfiable}
+use Rattle.lls_lrat.specs.declared.refusal.Refusal.{Refusal}
+use Rattle.lls_lrat.specs.Refusals.{refusal_of}
 use Rattle.lls_lrat.specs.Hinted.{are_within}
 use Rattle.lls_lrat.specs.declared.checker.Progress.{Progress}
 use Rattle.lls_lrat.specs.declared.checker.Progress.TheVariants.{Going, Done}
@@ -13,12 +15,14 @@ pub record Checking : Type 0 where
   pub live : Live
   pub done : Bool
 
--- the checker after a step: None where the step isn't good. A checker that is done stays as it is
-abbrev pub stepped : Checking → Step → Option Checking
-stepped c step =
-    if c.done
-    then Some c
-    else (if is_none (fault_of c.live step) then Some (record c { live = after c.live step; done = is_empty_addition step }) else None)
+-- the checker after a step with that fault
+abbrev pub after_fault : Checking → Step → Option Fault → Result Checking Refusal
+after_fault c step None = Ok (record c { live = after c.live step; done = is_empty_addition step })
+after_fault c step (Some fault) = Err (refusal_of fault)
+
+-- the checker after a step, or why it is refused. A checker that is done stays as it is
+abbrev pub stepped : Checking → Step → Result Checking Refusal
+stepped c step = if c.done then Ok c else after_fault c step (fault_of c.live step)
 
 abbrev pub progress_of : Bool → Progress
 progress_of true = Done

@@ -1,13 +1,19 @@
--- The clause of a hint.
-use Rattle.std.specs.Prelude.{ℕ, ℤ, pos, negsuc, Bool, Option, None}
+-- For private contracts alone: the clause of a hint.
+use Rattle.std.specs.Prelude.{ℕ, ℤ, pos, negsuc, Bool, Option, Some, None, Result, Ok, Err}
 use Rattle.std.specs.List.{list_all}
 use Rattle.lls_lit.specs.Formula.{Clause, is_within}
 use Rattle.lls_prooflog.specs.UnitWalk.{Live, find_clause}
+use Rattle.lls_lrat.specs.declared.refusal.Refusal.{Refusal}
+use Rattle.lls_lrat.specs.declared.refusal.Refusal.TheVariants.{NoClause, RatHint}
+
+abbrev pub known_clause : ℤ → Option Clause → Result Clause Refusal
+known_clause hint None = Err (NoClause hint)
+known_clause hint (Some clause) = Ok clause
 
 -- a negative hint has none
-abbrev pub hinted_clause : Live → ℤ → Option Clause
-hinted_clause live (pos id) = find_clause live id
-hinted_clause live (negsuc n) = None
+abbrev pub hinted_clause : Live → ℤ → Result Clause Refusal
+hinted_clause live (pos id) = known_clause (pos id) (find_clause live id)
+hinted_clause live (negsuc n) = Err (RatHint (negsuc n))
 
 -- no clause has a literal beyond the variables
 abbrev pub are_within : ℕ → Live → Bool

@@ -1,9 +1,8 @@
+pub mod FaultText
+pub mod Refusals
 pub mod Stored
 pub mod Hinted
 pub mod Left
 pub mod Checking
-pub mod Texts
-pub mod Lines
-pub mod Split
 pub mod Verdict
-pub mod Refusals
+pub mod UnderWay

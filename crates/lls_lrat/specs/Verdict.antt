@@ -1,31 +1,92 @@
--- What the lines of a proof amount to.
-use Rattle.std.specs.Prelude.{◌≡◌, ℕ, List, [], ◌∷◌, Option, Some, None, Result, Ok, Err, is_none, if◌then◌else◌}
+-- What the lines of a proof amount to: a state, which each line takes a step on.
+use Rattle.std.specs.Prelude.{ℕ, ◌+◌, List, fold, Option, Some, None, Result, Ok, Err, if◌then◌else◌}
+use Rattle.lls_text.specs.Lines.{lines_of}
 use Rattle.lls_lit.specs.Formula.{Cnf}
+use Rattle.lls_prooflog.specs.declared.line_error.LineError.{LineError}
+use Rattle.lls_prooflog.specs.declared.line_error.LineError.TheVariants as lines
 use Rattle.lls_prooflog.specs.declared.step.Step.{Step}
-use Rattle.lls_prooflog.specs.Steps.{Live, numbered, fault_of, after, is_empty_addition}
+use Rattle.lls_prooflog.specs.Line.{step_of_line}
+use Rattle.lls_prooflog.specs.Steps.{Live, Fault, numbered, fault_of, after, is_empty_addition}
+use Rattle.lls_lrat.specs.Refusals.{refusal_of}
+use Rattle.lls_lrat.specs.declared.refusal.Refusal.{Refusal}
+use Rattle.lls_lrat.specs.declared.refusal.Refusal.TheVariants as refusals
 use Rattle.lls_lrat.specs.declared.error.CheckError.{CheckError}
-use Rattle.lls_lrat.specs.declared.error.CheckError.TheVariants.{Unbuilt, NotGood, NoEmpty, Memory}
-use Rattle.lls_lrat.specs.Texts.{lines_of}
-use Rattle.lls_lrat.specs.Lines.{step_of_line}
+use Rattle.lls_lrat.specs.declared.error.CheckError.TheVariants as errors
 
--- a line's step has to be good; after the empty clause no line counts
-abbrev pub after_line : Live → Option Step → (Live → Result (Unit {0}) CheckError) → Result (Unit {0}) CheckError
-after_line live None goes_on = Err Unbuilt
-after_line live (Some step) goes_on =
-    if is_none (fault_of live step) then (if is_empty_addition step then Ok tt else goes_on (after live step)) else Err NotGood
+-- a line's fault for a proof, and a refused step's: want of memory is the whole check's
+abbrev pub line_error : ℕ → LineError → CheckError
+line_error number lines.Memory = errors.Memory
+line_error number (lines.BadWord column) = errors.Line number (lines.BadWord column)
+line_error number lines.NoZero = errors.Line number lines.NoZero
+line_error number (lines.Extra column) = errors.Line number (lines.Extra column)
+line_error number (lines.Range column) = errors.Line number (lines.Range column)
 
-abbrev pub verdict_of_lines : Live → List (List ℕ) → Result (Unit {0}) CheckError
-verdict_of_lines live [] = Err NoEmpty
-verdict_of_lines live (line ∷ lines) = after_line live (step_of_line line) (λ now. verdict_of_lines now lines)
+abbrev pub step_error : ℕ → Refusal → CheckError
+step_error number refusals.Memory = errors.Memory
+step_error number (refusals.IdLive id) = errors.Step number (refusals.IdLive id)
+step_error number (refusals.NoClause hint) = errors.Step number (refusals.NoClause hint)
+step_error number (refusals.NotUnit hint) = errors.Step number (refusals.NotUnit hint)
+step_error number refusals.NoConflict = errors.Step number refusals.NoConflict
+step_error number (refusals.RatHint hint) = errors.Step number (refusals.RatHint hint)
 
--- Ok where the proof is accepted, else the first fault
-abbrev pub verdict : Cnf → List ℕ → Result (Unit {0}) CheckError
-verdict formula text = verdict_of_lines (numbered formula.clauses) (lines_of text)
+-- what a proof amounts to; lines are counted from 1
+pub data Verdict : Type 0 where
+  -- the empty clause was added, and every line up to it can be read and is good
+  Accepted : Verdict
+  -- the first line with a fault can't be read
+  BadLine : ℕ → LineError → Verdict
+  -- or its step isn't good
+  BadStep : ℕ → Fault → Verdict
+  -- the lines are good and don't add the empty clause
+  NoEmpty : Verdict
 
--- the answer is the verdict, or want of memory
-abbrev pub IsVerdict : Result (Unit {0}) CheckError → Result (Unit {0}) CheckError → Type 0
-IsVerdict (Ok u) verdict = verdict ≡ Ok tt
-IsVerdict (Err Unbuilt) verdict = verdict ≡ Err Unbuilt
-IsVerdict (Err NotGood) verdict = verdict ≡ Err NotGood
-IsVerdict (Err NoEmpty) verdict = verdict ≡ Err NoEmpty
-IsVerdict (Err Memory) verdict = Unit {0}
+-- a check under way: the live clauses, how many lines were read, and the verdict, once a line has brought it
+pub record State : Type 0 where
+  pub live : Live
+  pub lines : ℕ
+  pub end : Option Verdict
+
+abbrev pub start : Cnf → State
+start formula = record { live = numbered formula.clauses; lines = 0; end = None }
+
+abbrev pub ended : State → Verdict → State
+ended state verdict = record state { lines = state.lines + 1; end = Some verdict }
+
+-- the state after a step that the next line writes
+abbrev pub after_step : State → Step → Option Fault → State
+after_step state step (Some fault) = ended state (BadStep (state.lines + 1) fault)
+after_step state step None =
+    record {
+      live = after state.live step;
+      lines = state.lines + 1;
+      end = if is_empty_addition step then Some Accepted else None;
+    }
+
+abbrev pub after_reading : State → Result (Option Step) LineError → State
+after_reading state (Err fault) = ended state (BadLine (state.lines + 1) fault)
+after_reading state (Ok None) = record state { lines = state.lines + 1 }
+after_reading state (Ok (Some step)) = after_step state step (fault_of state.live step)
+
+-- the state after one more line; once there is an end no line is looked at
+abbrev pub take_line : State → Option Verdict → List ℕ → State
+take_line state (Some verdict) line = state
+take_line state None line = after_reading state (step_of_line line)
+
+abbrev pub line_taken : State → List ℕ → State
+line_taken state line = take_line state state.end line
+
+-- without an end the lines end before the empty clause was added
+abbrev pub closing : Option Verdict → Verdict
+closing None = NoEmpty
+closing (Some verdict) = verdict
+
+-- what a proof's text amounts to: its lines taken in turn
+abbrev pub verdict : Cnf → List ℕ → Verdict
+verdict formula text = closing ((fold line_taken (start formula) (lines_of text)).end)
+
+-- Ok where the proof is accepted, else why it isn't
+abbrev pub answer_of : Verdict → Result (Unit {0}) CheckError
+answer_of Accepted = Ok tt
+answer_of (BadLine number fault) = Err (errors.Line number fault)
+answer_of (BadStep number fault) = Err (errors.Step number (refusal_of fault))
+answer_of NoEmpty = Err errors.NoEmpty

@@ -1,33 +1,79 @@
 // The check of a proof's text.
-ghost use Rattle.std.specs.Prelude.{◌≡◌, OnOk};
+ghost use Rattle.std.specs.Prelude.{◌≡◌, ◌+◌, ◌<◌, ◌^◌, false, Ok, Err, OnOk, IfOk, if◌then◌else◌};
+ghost use Rattle.lls_base.specs.Results.{Gives};
 ghost use Rattle.lls_lit.specs.Formula.{IsUnsatisfiable};
-ghost use Rattle.lls_lrat.specs.Verdict.{verdict, IsVerdict};
+ghost use Rattle.lls_lrat.specs.Checking.{progress_of};
+ghost use Rattle.lls_lrat.specs.Verdict.{verdict, answer_of, line_taken};
+ghost use Rattle.lls_lrat.specs.UnderWay.{at_line, or_fault};
 
+use crate::checked::Checked;
 use crate::checker::{Checker, Progress};
 use crate::error::CheckError;
-use crate::line::read_step;
-use crate::texts::Lines;
 use lls_cnf::Formula;
+use lls_prooflog::read_line;
+use lls_text::Lines;
 use std::alloc::Global;
 
-/// Checks that a text is an accepted proof: additions of LRAT, one a line, that are good in turn up to the empty clause.
+/// Checks that a text is an accepted LRAT proof: one step a line, as `read_line` takes it, that are good in turn up to
+/// an addition of the empty clause.
 ///
-/// A line is an id, literals, `0`, hints and `0`, with one space between, and ends with LF, which the last may lack.
-/// The first line with a fault is answered. Lines after the empty clause aren't looked at.
-pub fn check_bytes(alloc: Global, formula: &Formula, text: &[u8]) -> Result<(), CheckError>
-    ensures exact { IsVerdict result (verdict formula.now text.now) }
+/// The first line with a fault is answered. Lines after the empty clause aren't looked at. LF ends a line; the last may
+/// have none.
+pub fn check_bytes<'f>(
+    alloc: Global,
+    formula: &'f Formula,
+    text: &[u8],
+) -> Result<Checked<'f>, CheckError>
+    ensures exact { Gives CheckError.Memory (λ _. tt) result (answer_of (verdict formula.now text.now)) }
+    ensures formula { IfOk result (λ checked. checked ≡ formula.now) }
     ensures sound { OnOk result (IsUnsatisfiable formula.now) }
 {
     let mut checker = Checker::new(alloc, formula)?;
     let mut lines = Lines::new(text);
+    let mut count = 0;
     while let Some(line) = lines.next() {
-        let Some(step) = read_step(alloc, line)? else {
-            return Err(CheckError::Unbuilt);
-        };
-        match checker.step(&step)? {
-            Progress::Done => return Ok(()),
-            Progress::Going => {}
+        match take_line(alloc, &mut checker, count, line) {
+            Ok(Progress::Done) => return finished(checker),
+            Ok(Progress::Going) => count += 1,
+            Err(error) => return Err(error),
         }
     }
-    Err(CheckError::NoEmpty)
+    finished(checker)
+}
+
+// Takes one more line behind so many.
+fn take_line(
+    alloc: Global,
+    checker: &mut Checker,
+    count: u64,
+    line: &[u8],
+) -> Result<Progress, CheckError>
+    requires going { checker.old.done ≡ false }
+    requires room { count + 1 < 2 ^ 64 }
+    ensures taken { Gives CheckError.Memory (λ _. at_line checker.new (count + 1)) result
+        (or_fault (line_taken (at_line checker.old count) line.now)) }
+    ensures progress { IfOk result (λ p. p ≡ progress_of checker.new.done) }
+    ensures formula { OnOk result (checker.new.formula ≡ checker.old.formula) }
+{
+    let number = count + 1;
+    let step = match read_line(alloc, line) {
+        Ok(Some(step)) => step,
+        Ok(None) => return Ok(Progress::Going),
+        Err(error) => return Err(CheckError::at_line(number, error)),
+    };
+    match checker.step(&step) {
+        Ok(progress) => Ok(progress),
+        Err(error) => Err(CheckError::at_step(number, error)),
+    }
+}
+
+// What a checker proves at the end of the lines.
+fn finished<'f>(checker: Checker<'f>) -> Result<Checked<'f>, CheckError>
+    ensures exact { result ≡ (if checker.entry.done then Ok checker.entry.formula else Err CheckError.NoEmpty) }
+    ensures sound { OnOk result (IsUnsatisfiable checker.entry.formula) }
+{
+    match checker.finish() {
+        Some(checked) => Ok(checked),
+        None => Err(CheckError::NoEmpty),
+    }
 }

@@ -1,11 +1,15 @@
 // The checker of proof steps.
-ghost use Rattle.std.specs.Prelude.{◌≡◌, ◌≤◌, true, false, IfOk, OnOk, OnErr};
+ghost use Rattle.std.specs.Prelude.{◌≡◌, ◌≤◌, true, false, Some, None, IfOk, OnOk, OnErr, if◌then◌else◌};
+ghost use Rattle.lls_base.specs.Results.{Gives};
 ghost use Rattle.lls_lit.specs.Formula.{is_within, IsUnsatisfiable};
+ghost use Rattle.lls_prooflog.specs.Range.{IsInRange};
 ghost use Rattle.lls_prooflog.specs.Steps.{numbered};
 ghost use Rattle.lls_prooflog.specs.declared.step.Step.TheVariants.{Add};
 
+use crate::checked::Checked;
 use crate::live::LiveClauses;
-use crate::walk::closes;
+use crate::refusal::Refusal;
+use crate::walk::follow_hints;
 use lls_base::Memory;
 use lls_cnf::Formula;
 use lls_lit::{Lit, Marks, Var};
@@ -20,26 +24,6 @@ pub enum Progress {
     Going,
     /// The empty clause was added, so the formula has no satisfying assignment.
     Done,
-}
-
-/// Why a step was refused.
-#[derive(Clone, Copy, Debug, PartialEq, Eq)]
-pub enum StepError {
-    /// The step's id is live, or its hints lead to no conflict.
-    NotGood,
-    /// An allocation was refused.
-    Memory,
-}
-
-impl From<Memory> for StepError {
-    ghost use Rattle.std.specs.Prelude.{◌≡◌};
-    ghost use Rattle.lls_lrat.specs.declared.checker.StepError.TheVariants as errors;
-
-    ghost from_gives = { λ _ e. e ≡ errors.Memory };
-
-    fn from(_: Memory) -> Self {
-        StepError::Memory
-    }
 }
 
 /// A checker of the steps of a proof that a formula has no satisfying assignment.
@@ -87,11 +71,11 @@ impl<'f> Checker<'f> {
         })
     }
 
-    /// Takes the next step of the proof. After an error the checker is as before.
-    pub fn step(&mut self, step: &Step) -> Result<Progress, StepError>
-        ensures stepped { IfOk result (λ _. stepped self.old step.now ≡ Some self.new) }
+    /// Takes the next step of the proof. After an error the checker is as before; after `Done` no step changes it.
+    pub fn step(&mut self, step: &Step) -> Result<Progress, Refusal>
+        requires { IsInRange step.now }
+        ensures stepped { Gives Refusal.Memory (λ _. self.new) result (stepped self.old step.now) }
         ensures progress { IfOk result (λ p. p ≡ progress_of self.new.done) }
-        ensures not_good { result ≡ Err StepError.NotGood → stepped self.old step.now ≡ None }
         ensures err { OnErr result (self.new ≡ self.old) }
         ensures sound { result ≡ Ok Progress.Done → IsUnsatisfiable self.new.formula }
     {
@@ -107,24 +91,31 @@ impl<'f> Checker<'f> {
         }
     }
 
+    /// What the steps prove: Some exactly after `Done`.
+    pub fn finish(self) -> Option<Checked<'f>>
+        ensures { result ≡ (if self.entry.done then Some self.entry.formula else None) }
+    {
+        if self.done {
+            Some(Checked::new(self.formula))
+        } else {
+            None
+        }
+    }
+
     // The step that adds a clause, where the empty clause wasn't added yet.
-    fn add(&mut self, id: u64, lits: &[Lit], hints: &[i64]) -> Result<Progress, StepError>
+    fn add(&mut self, id: u64, lits: &[Lit], hints: &[i64]) -> Result<Progress, Refusal>
         requires { self.old.done ≡ false }
-        ensures stepped { IfOk result
-            (λ _. stepped self.old (Add id lits.now hints.now) ≡ Some self.new) }
+        ensures stepped { Gives Refusal.Memory (λ _. self.new) result
+            (stepped self.old (Add id lits.now hints.now)) }
         ensures progress { IfOk result (λ p. p ≡ progress_of self.new.done) }
-        ensures not_good { result ≡ Err StepError.NotGood
-            → stepped self.old (Add id lits.now hints.now) ≡ None }
         ensures err { OnErr result (self.new ≡ self.old) }
         ensures sound { result ≡ Ok Progress.Done → IsUnsatisfiable self.new.formula }
     {
-        reach(self.alloc, &mut self.marks, lits)?;
         if self.live.find(id).is_some() {
-            return Err(StepError::NotGood);
+            return Err(Refusal::IdLive(id));
         }
-        if !closes(&self.live, &mut self.marks, lits, hints) {
-            return Err(StepError::NotGood);
-        }
+        reach(self.alloc, &mut self.marks, lits)?;
+        follow_hints(&self.live, &mut self.marks, lits, hints)?;
         self.live.push(id, lits)?;
         if lits.is_empty() {
             self.done = true;

@@ -2,17 +2,19 @@
 #![tactic(auto)]
 
 mod bytes;
+mod checked;
 mod checker;
 mod error;
-mod line;
 mod live;
 mod places;
-mod texts;
+mod refusal;
 mod walk;
 
 pub use bytes::check_bytes;
-pub use checker::{Checker, Progress, StepError};
+pub use checked::Checked;
+pub use checker::{Checker, Progress};
 pub use error::CheckError;
+pub use refusal::Refusal;
 
 #[cfg(test)]
 mod tests;

@@ -35,41 +35,81 @@ fn formula(rt: &impl Abort, alloc: Global) -> Result<Formula, Fail> {
     Ok(formula)
 }
 
+fn compare(rt: &impl Abort, alloc: Global, text: &[u8], want: &str) -> Result<(), Fail> {
+    let formula = formula(rt, alloc)?;
+    let found = match check_bytes(alloc, &formula, text) {
+        Ok(_) => String::from_str(alloc, "accepted")?,
+        Err(fault) => format!(in alloc; "{fault}")?,
+    };
+    assert_eq!(rt; found.as_str(), want, "at {text:?}");
+    Ok(())
+}
+
 #[test]
-fn proofs_as_text(rt: HostRuntime) -> Result<(), Fail> {
-    let formula = formula(&rt, rt.alloc())?;
+fn proofs_are_accepted_or_refused_as_worked(rt: HostRuntime) -> Result<(), Fail> {
     let rows = [
-        ("5 0 1 2 4 0\n", Ok(())),
-        ("5 0 1 2 4 0", Ok(())),
-        ("5 1 0 1 0\n6 0 5 2 4 0\nrubbish", Ok(())),
-        ("5 16777216 0 1 2 4 0\n6 0 1 2 4 0\n", Ok(())),
-        ("999999999999999999 0 1 2 4 0", Ok(())),
-        ("5 0 1 3 0", Err(CheckError::NotGood)),
-        ("5 0 1 0", Err(CheckError::NotGood)),
-        ("4 0 1 2 4 0", Err(CheckError::NotGood)),
-        ("5 0 9 0", Err(CheckError::NotGood)),
-        ("", Err(CheckError::NoEmpty)),
-        ("5 1 0 1 0\n", Err(CheckError::NoEmpty)),
-        ("5 0 1 2 4", Err(CheckError::Unbuilt)),
-        ("5 d 4 0", Err(CheckError::Unbuilt)),
-        ("5 0 1 x 0", Err(CheckError::Unbuilt)),
-        ("5  0 1 2 4 0", Err(CheckError::Unbuilt)),
-        ("05 0 1 2 4 0", Err(CheckError::Unbuilt)),
-        ("5 0 -1 0", Err(CheckError::Unbuilt)),
-        ("5 16777217 0 1 2 4 0", Err(CheckError::Unbuilt)),
-        ("1000000000000000000 0 1 2 4 0", Err(CheckError::Unbuilt)),
-        ("5 0 1 2 4 0 0", Err(CheckError::Unbuilt)),
-        ("5 0 1 2 4 0\r\n", Err(CheckError::Unbuilt)),
-        ("\n5 0 1 2 4 0\n", Err(CheckError::Unbuilt)),
+        ("5 0 1 2 4 0", "accepted"),
+        ("5 0 1 3 0", "NotUnit 1 3"),
+        ("", "NoEmpty"),
+        ("5 0 1 2 4", "NoZero 1"),
+        ("4 0 1 2 4 0", "IdLive 1 4"),
+        ("5 d 4 0\n6 0 1 2 4 0\n", "NoClause 2 4"),
+        ("5 0 1 0", "NoConflict 1"),
+        ("5 0 -1 0", "RatHint 1 -1"),
+        ("5 0 1 x 0", "BadWord 1 7"),
+        ("5 1 0 1 0\n5 d 1 0\n6 0 5 2 4 0\nrubbish", "accepted"),
+        ("5 1 0 1 0\r\nc rubbish\n \t\n5 0 1 2 4 0\r\n", "IdLive 4 5"),
+        ("5 1 0 1 0\n5 d 5 0\n5 0 1 2 4 0", "accepted"),
+        ("5 1 0 1 0\n", "NoEmpty"),
     ];
     for (text, want) in rows {
-        assert_eq!(rt;
-            check_bytes(rt.alloc(), &formula, text.as_bytes()),
-            want,
-            "at {text:?}"
-        );
+        compare(&rt, rt.alloc(), text.as_bytes(), want)?;
     }
     Ok(())
+}
+
+#[test]
+fn hostile_proofs(rt: HostRuntime) -> Result<(), Fail> {
+    let rows = [
+        ("9223372036854775807 0 1 2 4 0", "accepted"),
+        ("9223372036854775808 0 1 2 4 0", "Range 1 1"),
+        ("0 0 1 2 4 0", "Range 1 1"),
+        ("5 16777217 0 1 0", "Range 1 3"),
+        ("5 -0 0 0", "Range 1 3"),
+        ("5 0 1 2 4 0 0", "Extra 1 13"),
+        ("5 16777216 0 1 2 4 0\n6 0 1 2 4 0\n", "accepted"),
+        ("5 -2 -2 0 1 4 0\n6 0 2 5 0\n", "accepted"),
+        ("5 1 -1 0 1 0\n6 0 5 0\n", "NotUnit 2 5"),
+        ("5 0 1 3 2 4 0\n5 0 2 4 1 0", "NotUnit 1 3"),
+    ];
+    for (text, want) in rows {
+        compare(&rt, rt.alloc(), text.as_bytes(), want)?;
+    }
+    Ok(())
+}
+
+#[test]
+fn proofs_that_are_cut(rt: HostRuntime) -> Result<(), Fail> {
+    let text = b"5 0 1 2 4 0\n";
+    for len in 0..=text.len() {
+        let want = match len {
+            0 => "NoEmpty",
+            1..=10 => "NoZero 1",
+            _ => "accepted",
+        };
+        compare(&rt, rt.alloc(), &text[..len], want)?;
+    }
+    Ok(())
+}
+
+#[test]
+fn a_million_hints(rt: HostRuntime) -> Result<(), Fail> {
+    let mut text = Vec::from_slice(rt.alloc(), b"5 0")?;
+    for _ in 0..1_000_000 {
+        text.extend_from_slice(b" 1")?;
+    }
+    text.extend_from_slice(b" 0")?;
+    compare(&rt, rt.alloc(), &text, "NoConflict 1")
 }
 
 fn addition(alloc: Global, id: u64, lits: &[i32], hints: &[i64]) -> Result<Step, Fail> {
@@ -88,16 +128,32 @@ fn deletion(alloc: Global, ids: &[u64]) -> Result<Step, Fail> {
     })
 }
 
-fn steps(alloc: Global) -> Result<Vec<Step>, Fail> {
+type Taken = Result<Progress, Refusal>;
+
+fn steps(alloc: Global) -> Result<Vec<(Step, Taken)>, Fail> {
     let mut steps = Vec::new(alloc);
-    steps.push(addition(alloc, 5, &[1], &[1])?)?;
-    steps.push(deletion(alloc, &[1])?)?;
-    steps.push(addition(alloc, 6, &[], &[1, 2, 4])?)?;
-    steps.push(addition(alloc, 5, &[], &[5, 2, 4])?)?;
-    steps.push(addition(alloc, 6, &[], &[5, -2, 4])?)?;
-    steps.push(addition(alloc, 1, &[-2], &[5, 4])?)?;
-    steps.push(addition(alloc, 6, &[], &[5, 2, 4])?)?;
-    steps.push(addition(alloc, 6, &[], &[])?)?;
+    steps.push((addition(alloc, 5, &[1], &[1])?, Ok(Progress::Going)))?;
+    steps.push((deletion(alloc, &[1, 9])?, Ok(Progress::Going)))?;
+    steps.push((
+        addition(alloc, 6, &[], &[1, 2, 4])?,
+        Err(Refusal::NoClause(1)),
+    ))?;
+    steps.push((
+        addition(alloc, 5, &[], &[5, 2, 4])?,
+        Err(Refusal::IdLive(5)),
+    ))?;
+    steps.push((
+        addition(alloc, 6, &[], &[5, -2, 4])?,
+        Err(Refusal::RatHint(-2)),
+    ))?;
+    steps.push((
+        addition(alloc, 6, &[], &[3, 2, 4])?,
+        Err(Refusal::NotUnit(3)),
+    ))?;
+    steps.push((addition(alloc, 1, &[-2], &[5, 4])?, Ok(Progress::Going)))?;
+    steps.push((addition(alloc, 6, &[], &[5])?, Err(Refusal::NoConflict)))?;
+    steps.push((addition(alloc, 6, &[], &[5, 2, 4])?, Ok(Progress::Done)))?;
+    steps.push((addition(alloc, 6, &[], &[])?, Ok(Progress::Done)))?;
     Ok(steps)
 }
 
@@ -105,18 +161,18 @@ fn steps(alloc: Global) -> Result<Vec<Step>, Fail> {
 fn steps_in_turn(rt: HostRuntime) -> Result<(), Fail> {
     let formula = formula(&rt, rt.alloc())?;
     let mut checker = Checker::new(rt.alloc(), &formula)?;
-    let wanted = [
-        Ok(Progress::Going),
-        Ok(Progress::Going),
-        Err(StepError::NotGood),
-        Err(StepError::NotGood),
-        Err(StepError::NotGood),
-        Ok(Progress::Going),
-        Ok(Progress::Done),
-        Ok(Progress::Done),
-    ];
-    for (step, want) in steps(rt.alloc())?.iter().zip(wanted) {
-        assert_eq!(rt; checker.step(step), want, "at {step:?}");
+    for (step, want) in &steps(rt.alloc())? {
+        assert!(rt; step.is_in_range());
+        assert_eq!(rt; checker.step(step), *want, "at {step:?}");
     }
+    assert!(rt; checker.finish().is_some());
+    Ok(())
+}
+
+#[test]
+fn nothing_is_proved_before_the_empty_clause(rt: HostRuntime) -> Result<(), Fail> {
+    let formula = formula(&rt, rt.alloc())?;
+    let checker = Checker::new(rt.alloc(), &formula)?;
+    assert!(rt; checker.finish().is_none());
     Ok(())
 }

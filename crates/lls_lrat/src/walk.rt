@@ -1,14 +1,15 @@
 // Unit propagation by hints, over marked literals.
-ghost use Rattle.std.specs.Prelude.{◌≡◌, true, not, filter, is_none};
+ghost use Rattle.std.specs.Prelude.{◌≡◌, true, not, Ok, Err, IfOk, IfErr, filter};
 ghost use Rattle.std.specs.List.{list_all};
-ghost use Rattle.std.specs.Option.{option_copied};
 ghost use Rattle.std.specs.FinSet as set;
 ghost use Rattle.lls_lit.specs.Formula.{is_within};
 ghost use Rattle.lls_prooflog.specs.UnitWalk.{unit_walk};
 ghost use Rattle.lls_lrat.specs.Left.{left_in, IsOneWithin};
 ghost use Rattle.lls_lrat.specs.Hinted.{are_within, hinted_clause};
+ghost use Rattle.lls_lrat.specs.Refusals.{unless_fault};
 
 use crate::live::LiveClauses;
+use crate::refusal::Refusal;
 use lls_lit::{Lit, Marks};
 
 /// The different literals of a clause that aren't marked.
@@ -19,25 +20,28 @@ enum Left {
     More,
 }
 
-/// Whether the hints lead to a conflict where the literals are taken as false. The marks begin anew.
-pub(crate) fn closes(live: &LiveClauses, marks: &mut Marks, lits: &[Lit], hints: &[i64]) -> bool
+/// Follows the hints to a conflict where the literals are taken as false. The marks begin anew.
+pub(crate) fn follow_hints(
+    live: &LiveClauses,
+    marks: &mut Marks,
+    lits: &[Lit],
+    hints: &[i64],
+) -> Result<(), Refusal>
     requires lits { is_within marks.old.vars lits.now ≡ true }
     requires live { are_within marks.old.vars live.now ≡ true }
-    ensures exact { result ≡ is_none (unit_walk live.now lits.now hints.now) }
+    ensures exact { result ≡ unless_fault (unit_walk live.now lits.now hints.now) }
     ensures vars { marks.new.vars ≡ marks.old.vars }
 {
     mark_all(marks, lits);
     for hint in hints {
-        let Some(clause) = hinted(live, hint) else {
-            return false;
-        };
+        let clause = hinted(live, hint)?;
         match unmarked(clause, marks) {
-            Left::Nothing => return true,
+            Left::Nothing => return Ok(()),
             Left::One(lit) => marks.put(lit.negated()),
-            Left::More => return false,
+            Left::More => return Err(not_unit(hint)),
         }
     }
-    false
+    Err(Refusal::NoConflict)
 }
 
 // Marks these literals and no others.
@@ -52,13 +56,24 @@ fn mark_all(marks: &mut Marks, lits: &[Lit])
 }
 
 // The clause of a hint. A negative hint has none.
-fn hinted<'a>(live: &'a LiveClauses, hint: &i64) -> Option<&'a [Lit]>
-    ensures { option_copied result ≡ hinted_clause live.now hint.now }
+fn hinted<'a>(live: &'a LiveClauses, hint: &i64) -> Result<&'a [Lit], Refusal>
+    ensures clause { IfOk result (λ clause. hinted_clause live.now hint.now ≡ Ok clause.now) }
+    ensures refusal { IfErr result (λ refusal. hinted_clause live.now hint.now ≡ Err refusal) }
 {
     if *hint < 0 {
-        return None;
+        return Err(Refusal::RatHint(*hint));
     }
-    live.find(*hint as u64)
+    match live.find(*hint as u64) {
+        Some(clause) => Ok(clause),
+        None => Err(Refusal::NoClause(*hint)),
+    }
+}
+
+// The refusal of a hint whose clause has two literals left.
+fn not_unit(hint: &i64) -> Refusal
+    ensures { result ≡ Refusal.NotUnit hint.now }
+{
+    Refusal::NotUnit(*hint)
 }
 
 // What is left of a clause without the marked literals.

@@ -5,13 +5,22 @@
 
 mod hints;
 mod ids;
+mod line_error;
 mod lits;
+mod number;
+mod print;
+mod read;
 mod step;
 
 pub use hints::Hints;
 pub use ids::Ids;
+pub use line_error::LineError;
 pub use lits::Lits;
+pub use print::print_step;
+pub use read::read_line;
 pub use step::Step;
 
+#[cfg(test)]
+mod line_tests;
 #[cfg(test)]
 mod tests;

@@ -6,7 +6,7 @@ use std::test::Fail;
 // Any call may answer want of memory, and no clause excludes it. With ample memory none does.
 #[test]
 fn answers_with_ample_memory(rt: HostRuntime) -> Result<(), Fail> {
-    let rows: [Row; 18] = [
+    let rows: [Row; 21] = [
         (
             "check f p",
             "1\n\n1\n",
@@ -26,21 +26,21 @@ fn answers_with_ample_memory(rt: HostRuntime) -> Result<(), Fail> {
             "1\n\n1\n",
             "5 0 1 3 0\n",
             Status::Refused,
-            "refused: NotGood\n",
+            "refused: NotUnit 1 3\n",
         ),
         (
             "check f p",
             "1\n\n1\n",
             "4 0 1 2 4 0\n",
             Status::Refused,
-            "refused: NotGood\n",
+            "refused: IdLive 1 4\n",
         ),
         (
             "check f p",
             "1\n\n1\n",
             "5 0 1 0\n",
             Status::Refused,
-            "refused: NotGood\n",
+            "refused: NoConflict 1\n",
         ),
         (
             "check f p",
@@ -61,21 +61,21 @@ fn answers_with_ample_memory(rt: HostRuntime) -> Result<(), Fail> {
             "1\n\n1\n",
             "5 0 1 2 4\n",
             Status::Refused,
-            "refused: Unbuilt\n",
+            "refused: NoZero 1\n",
         ),
         (
             "check f p",
             "1\n\n1\n",
             "5 d 4 0\n6 0 1 2 4 0\n",
             Status::Refused,
-            "refused: Unbuilt\n",
+            "refused: NoClause 2 4\n",
         ),
         (
             "check f p",
             "1\n\n1'\n",
             "5 0 1 2 4 0\n",
             Status::Refused,
-            "refused: NotGood\n",
+            "refused: NoClause 1 4\n",
         ),
         (
             "check f p",
@@ -89,7 +89,7 @@ fn answers_with_ample_memory(rt: HostRuntime) -> Result<(), Fail> {
             "1\n\n1\n",
             "5 0 1 2 4 0\n",
             Status::Refused,
-            "refused: NotGood\n",
+            "refused: NoConflict 1\n",
         ),
         (
             "check f p --rule=23/3",
@@ -117,21 +117,42 @@ fn answers_with_ample_memory(rt: HostRuntime) -> Result<(), Fail> {
             "1 1 1\n\n* * *\n",
             "900 0 1 2 3 4 0\n",
             Status::Refused,
-            "refused: NotGood\n",
+            "refused: NotUnit 1 4\n",
         ),
         (
             "check f p",
             "a -a 1\n",
             "900 0 1 0\n",
             Status::Refused,
-            "refused: NotGood\n",
+            "refused: NoConflict 1\n",
         ),
         (
             "check --rule B0/S f p",
             "*\n\n0\n",
             "900 0 1 0\n",
             Status::Refused,
-            "refused: NotGood\n",
+            "refused: NoConflict 1\n",
+        ),
+        (
+            "check f p",
+            "1\n\n1\n",
+            "c a comment\n\n5\t1 0 1 0\r\n5 d 5 0\n6 0 1 2 4 0\n",
+            Status::Done,
+            "accepted\n",
+        ),
+        (
+            "check f p",
+            "1\n\n1\n",
+            "5 0 -1 0\n",
+            Status::Refused,
+            "refused: RatHint 1 -1\n",
+        ),
+        (
+            "check f p",
+            "1\n\n1\n",
+            "\n5 x 0 1 0\n",
+            Status::Refused,
+            "refused: BadWord 2 3\n",
         ),
     ];
     for row in rows {
@@ -156,7 +177,7 @@ fn proofs_made_elsewhere_are_checked(rt: HostRuntime) -> Result<(), Fail> {
             "1 *\n1 *\n1 *\n\n* *\n* *\n* *\n",
             "198 0 1 2 3 36 0\n",
             Status::Refused,
-            "refused: NotGood\n",
+            "refused: NotUnit 1 36\n",
         ),
         (
             "check f p",
@@ -205,7 +226,7 @@ fn proofs_made_elsewhere_are_checked(rt: HostRuntime) -> Result<(), Fail> {
             "* -a\na *\n\n1 1\n1' 1\n",
             "55 -1 -2 0 1 6 19 20 0\n56 -1 2 0 1 5 17 18 0\n57 -1 0 55 56 0\n58 1 -2 0 1 2 6 11 28 0\n59 1 2 0 1 4 5 9 42 0\n60 1 0 58 59 0\n61 0 57 58 59 0\n",
             Status::Refused,
-            "refused: NotGood\n",
+            "refused: IdLive 1 55\n",
         ),
         (
             "check f p --rule B2/S",
@@ -226,7 +247,7 @@ fn proofs_made_elsewhere_are_checked(rt: HostRuntime) -> Result<(), Fail> {
             "*\n\n*\n\n1\n",
             "14 0 1 2 6 13 0\n",
             Status::Refused,
-            "refused: NotGood\n",
+            "refused: NotUnit 1 2\n",
         ),
     ];
     for row in rows {

@@ -1,0 +1,102 @@
+-- What a line writes is in range.
+use Rattle.std.proofs.Common.{◌≡◌, ℕ, zero, suc, Bool, true, false, not, cond, ◌&&◌, List, [], ◌∷◌, map, Option, Some, None, refl, arith}
+use Rattle.std.specs.Prelude.{ℤ, pos, Result, Ok, Err, IfOk, IfSome}
+use Rattle.std.specs.List.{list_all, list_any}
+use Rattle.lls_base.specs.Results.{and_then, Gives}
+use Rattle.lls_text.specs.Words.{PlacedWord}
+use Rattle.lls_lit.specs.Literal.{variable_of, negation}
+use Rattle.lls_prooflog.specs.declared.line_error.LineError.{LineError}
+use Rattle.lls_prooflog.specs.declared.line_error.LineError.TheVariants.{Memory}
+use Rattle.lls_prooflog.specs.declared.number.Number.{Number}
+use Rattle.lls_prooflog.specs.declared.step.Step.{Step}
+use Rattle.lls_prooflog.specs.declared.step.Step.TheVariants.{Add, Del}
+use Rattle.lls_prooflog.specs.Number.{number_in, value_of, id_in, hint_in, leading_in, literal_in, in_range, ranged, item}
+use Rattle.lls_prooflog.specs.Range.{is_id, is_hint, is_in_range, IsInRange}
+use Rattle.lls_prooflog.specs.Line.{is_end, before_end, behind_end, all_of, if_ended, listed, step_alone, addition, deletion}
+
+-- a value that follows from a part: the part has a value
+and_then-Ok : {A B : Type 0} (part : Result A LineError) (more : A → Result B LineError) (b : B) → and_then part more ≡ Ok b → (a : A) × ((part ≡ Ok a) × (more a ≡ Ok b))
+and_then-Ok (Ok a) more b e = (a, (refl, e))
+and_then-Ok (Err fault) more b e = absurd cc
+
+id_within : (number : Number) (column n : ℕ) → in_range column (id_in number) ≡ Ok n → is_id n ≡ true
+id_within number column n e =
+    let size = number.size in
+    elim number.is_negative as (λ s. in_range column (cond (not s && is_id size) (Some size) None) ≡ Ok n → is_id n ≡ true) [
+      | true ↦ λ h. absurd cc
+      | false ↦ λ h. elim (is_id size) as (λ b. is_id size ≡ b → in_range column (cond b (Some size) None) ≡ Ok n → is_id n ≡ true) [
+        | true ↦ λ is k. let same : size ≡ n = cc in rw (← same) is
+        | false ↦ λ _ k. absurd cc
+      ] refl h
+    ] e
+
+variable_of-value : (number : Number) → variable_of (value_of number) ≡ number.size
+variable_of-value number = elim number.is_negative as (λ s. variable_of (cond s (negation (pos number.size)) (pos number.size)) ≡ number.size) [ true ↦ minus number.size | false ↦ refl ] where
+  minus : (n : ℕ) → variable_of (negation (pos n)) ≡ n
+  minus zero = refl
+  minus (suc n) = omega arith
+
+hint_within : (number : Number) (column : ℕ) (z : ℤ) → in_range column (hint_in number) ≡ Ok z → is_hint z ≡ true
+hint_within number column z e =
+    elim (is_id number.size) as (λ b. is_id number.size ≡ b → in_range column (cond b (Some (value_of number)) None) ≡ Ok z → is_hint z ≡ true) [
+      | true ↦ λ is k. let same : value_of number ≡ z = cc in rw (← same, variable_of-value number) is
+      | false ↦ λ _ k. absurd cc
+    ] refl e
+
+id_item : (word : PlacedWord) (n : ℕ) → item id_in word ≡ Ok n → is_id n ≡ true
+id_item word n e = elim (number_in word.text) as (λ o. ranged id_in word.column o ≡ Ok n → is_id n ≡ true) [ None ↦ λ h. absurd cc | Some number ↦ λ h. id_within number word.column n h ] e
+
+hint_item : (word : PlacedWord) (z : ℤ) → item hint_in word ≡ Ok z → is_hint z ≡ true
+hint_item word z e = elim (number_in word.text) as (λ o. ranged hint_in word.column o ≡ Ok z → is_hint z ≡ true) [ None ↦ λ h. absurd cc | Some number ↦ λ h. hint_within number word.column z h ] e
+
+module _ {X : Type 0} (item_of : PlacedWord → Result X LineError) (test : X → Bool) (each : (word : PlacedWord) (x : X) → item_of word ≡ Ok x → test x ≡ true) where
+  all_pass : (words : List PlacedWord) (xs : List X) → all_of (map item_of words) ≡ Ok xs → list_all test xs ≡ true
+  all_pass [] xs e = let same : [] ≡ xs = cc in rw (← same) refl
+  all_pass (word ∷ words) xs e =
+      let first = and_then-Ok (item_of word) (λ value. and_then (all_of (map item_of words)) (λ values. Ok (value ∷ values))) xs e in
+      let rest = and_then-Ok (all_of (map item_of words)) (λ values. Ok (first.0 ∷ values)) xs first.1.1 in
+      let same : first.0 ∷ rest.0 ≡ xs = same_Ok (first.0 ∷ rest.0) xs (Ok (first.0 ∷ rest.0)) refl rest.1.1 in
+      rw (← same, each word first.0 first.1.0, all_pass words rest.0 rest.1.0) refl
+    where
+      same_Ok : (a b : List X) (r : Result (List X) LineError) → r ≡ Ok a → r ≡ Ok b → a ≡ b
+      same_Ok a b r h k = cc
+
+  listed_pass : (words : List PlacedWord) (xs : List X) → listed item_of words ≡ Ok xs → list_all test xs ≡ true
+  listed_pass words xs e =
+      let all = and_then-Ok (all_of (map item_of (before_end words))) (if_ended (list_any is_end words)) xs e in
+      let same : all.0 ≡ xs = ended (list_any is_end words) all.0 xs all.1.1 in
+      rw (← same) (all_pass (before_end words) all.0 all.1.0)
+    where
+      ended : (has : Bool) (a b : List X) → if_ended has a ≡ Ok b → a ≡ b
+      ended true a b h = cc
+      ended false a b h = absurd cc
+
+alone : (one step : Step) (words : List PlacedWord) → step_alone one words ≡ Ok (Some step) → one ≡ step
+alone one step [] e = cc
+alone one step (word ∷ words) e = absurd cc
+
+addition_in_range : (first : PlacedWord) (words : List PlacedWord) (step : Step) → addition first words ≡ Ok (Some step) → is_in_range step ≡ true
+addition_in_range first words step e =
+    let id = and_then-Ok (item id_in first) _ (Some step) e in
+    let lits = and_then-Ok (listed (item literal_in) words) _ (Some step) id.1.1 in
+    let hints = and_then-Ok (listed (item hint_in) (behind_end words)) _ (Some step) lits.1.1 in
+    let same : Add id.0 lits.0 hints.0 ≡ step = alone (Add id.0 lits.0 hints.0) step (behind_end (behind_end words)) hints.1.1 in
+    rw (← same, id_item first id.0 id.1.0, listed_pass (item hint_in) is_hint hint_item (behind_end words) hints.0 hints.1.0) refl
+
+deletion_in_range : (first : PlacedWord) (words : List PlacedWord) (step : Step) → deletion first words ≡ Ok (Some step) → is_in_range step ≡ true
+deletion_in_range first words step e =
+    let leading = and_then-Ok (item leading_in first) _ (Some step) e in
+    let ids = and_then-Ok (listed (item id_in) words) _ (Some step) leading.1.1 in
+    let same : Del ids.0 ≡ step = alone (Del ids.0) step (behind_end words) ids.1.1 in
+    rw (← same) (listed_pass (item id_in) is_id id_item words ids.0 ids.1.0)
+
+-- the same of what a call answers
+pub addition_given : (first : PlacedWord) (words : List PlacedWord) (result : Result (Option Step) LineError) → Gives Memory (λ step. step) result (addition first words) → IfOk result (λ step. IfSome step IsInRange)
+addition_given first words (Ok None) h = tt
+addition_given first words (Ok (Some step)) h = addition_in_range first words step h
+addition_given first words (Err fault) h = tt
+
+pub deletion_given : (first : PlacedWord) (words : List PlacedWord) (result : Result (Option Step) LineError) → Gives Memory (λ step. step) result (deletion first words) → IfOk result (λ step. IfSome step IsInRange)
+deletion_given first words (Ok None) h = tt
+deletion_given first words (Ok (Some step)) h = deletion_in_range first words step h
+deletion_given first words (Err fault) h = tt
