@@ -1,5 +1,5 @@
 // Whole reads of a file, up to a limit.
-ghost use Rattle.std.specs.Prelude.{◌≡◌, ◌<◌, ◌≤◌, ◌++◌, [], ℕ, List, false, length, take, IsTrue, IsNone, IsErrOf, IfErr, IfSome, OnOk};
+ghost use Rattle.std.specs.Prelude.{◌≡◌, ◌<◌, ◌≤◌, ◌+◌, ◌++◌, [], ℕ, List, false, length, take, IsTrue, IsNone, IsErrOf, IfErr, IfSome, OnOk};
 ghost use Rattle.std.specs.FinMap as map;
 ghost use Rattle.lls_base.specs.Faults.{Counts, Rose};
 ghost use Rattle.lls_base.specs.Shelf.{known_files, known_target, known_rest, bytes_of};
@@ -66,6 +66,7 @@ pub fn read_all<S: Shelf>(
     ensures ok { OnOk result (IfSome (known_files (S.told shelf.old))
         (λ files. GrewByFile files name.now limit into.old.items into.new.items)) }
     ensures rest { OnOk result (IfSome (known_rest (S.told shelf.new)) (λ rest. rest ≡ [])) }
+    ensures fits { OnOk result (length into.new.items ≤ length into.old.items + limit) }
     ensures grew { (bytes : List ℕ) × (into.new.items ≡ into.old.items ++ bytes) }
     ensures prefix { IfSome (known_files (S.told shelf.old))
         (λ files. (n : ℕ) × (into.new.items ≡ into.old.items ++ take n (bytes_of files name.now))) }
@@ -101,6 +102,7 @@ fn read_rest<S: Shelf>(shelf: &mut S, limit: u64, into: &mut Vec<u8>) -> Result<
     ensures ok { OnOk result (IfSome (known_rest (S.told shelf.old))
         (λ rest. GrewByAll limit into.old.items into.new.items rest)) }
     ensures rest { OnOk result (IfSome (known_rest (S.told shelf.new)) (λ rest. rest ≡ [])) }
+    ensures fits { OnOk result (length into.new.items ≤ length into.old.items + limit) }
     ensures grew { (bytes : List ℕ) × (into.new.items ≡ into.old.items ++ bytes) }
     ensures prefix { IfSome (known_rest (S.told shelf.old))
         (λ rest. (n : ℕ) × (into.new.items ≡ into.old.items ++ take n rest)) }

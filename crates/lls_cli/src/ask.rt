@@ -17,12 +17,12 @@ use std::alloc::Global;
 /// What a job asks, read from the shelf.
 pub fn ask<S: Shelf>(alloc: Global, shelf: &mut S, job: Job) -> Result<Question, Fault>
     requires { IsPrintable job }
-    ensures read { Reads seen_question (Asks job (files_at (shelf_moment (S.told shelf.old) (S.has_output shelf.old) (S.faults shelf.old)))) result
-        (shelf_moment (S.told shelf.old) (S.has_output shelf.old) (S.faults shelf.old))
-        (shelf_moment (S.told shelf.new) (S.has_output shelf.new) (S.faults shelf.new)) }
+    ensures read { Reads seen_question (Asks job (files_at (shelf_moment (S.told shelf.old) (S.has_input shelf.old) (S.has_output shelf.old) (S.faults shelf.old)))) result
+        (shelf_moment (S.told shelf.old) (S.has_input shelf.old) (S.has_output shelf.old) (S.faults shelf.old))
+        (shelf_moment (S.told shelf.new) (S.has_input shelf.new) (S.has_output shelf.new) (S.faults shelf.new)) }
     ensures leaves { LeavesShelf job
-        (shelf_moment (S.told shelf.old) (S.has_output shelf.old) (S.faults shelf.old))
-        (shelf_moment (S.told shelf.new) (S.has_output shelf.new) (S.faults shelf.new)) }
+        (shelf_moment (S.told shelf.old) (S.has_input shelf.old) (S.has_output shelf.old) (S.faults shelf.old))
+        (shelf_moment (S.told shelf.new) (S.has_input shelf.new) (S.has_output shelf.new) (S.faults shelf.new)) }
     ensures printable { IfOk result CanPrint }
     ensures inputs { OnErr result (HasInputs job) }
 {

@@ -45,8 +45,8 @@ pub fn check<S: Shelf, O: Sink, E: Sink>(
     err: &mut E,
 ) -> Status
     ensures { (end : End) × IsEndOf (checks problem.now proof.now)
-        (moment (shelf_moment (S.told shelf.old) (S.has_output shelf.old) (S.faults shelf.old)) (sink_moment (O.written out.old) (O.faults out.old)) (sink_moment (E.written err.old) (E.faults err.old)))
-        (moment (shelf_moment (S.told shelf.new) (S.has_output shelf.new) (S.faults shelf.new)) (sink_moment (O.written out.new) (O.faults out.new)) (sink_moment (E.written err.new) (E.faults err.new)))
+        (moment (shelf_moment (S.told shelf.old) (S.has_input shelf.old) (S.has_output shelf.old) (S.faults shelf.old)) (sink_moment (O.written out.old) (O.faults out.old)) (sink_moment (E.written err.old) (E.faults err.old)))
+        (moment (shelf_moment (S.told shelf.new) (S.has_input shelf.new) (S.has_output shelf.new) (S.faults shelf.new)) (sink_moment (O.written out.new) (O.faults out.new)) (sink_moment (E.written err.new) (E.faults err.new)))
         result end }
 {
     match answer(alloc, problem, proof) {

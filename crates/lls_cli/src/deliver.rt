@@ -65,11 +65,11 @@ fn file_fault(fault: FileFault) -> OutsideFault
 /// Writes the file of an answer, if it has one.
 fn write_answer_file<S: Shelf>(file: &Option<AnswerFile>, shelf: &mut S) -> Result<(), OutsideFault>
     ensures written { OnOk result (WroteFile (option_map seen_file file.now)
-        (shelf_moment (S.told shelf.old) (S.has_output shelf.old) (S.faults shelf.old))
-        (shelf_moment (S.told shelf.new) (S.has_output shelf.new) (S.faults shelf.new))) }
+        (shelf_moment (S.told shelf.old) (S.has_input shelf.old) (S.has_output shelf.old) (S.faults shelf.old))
+        (shelf_moment (S.told shelf.new) (S.has_input shelf.new) (S.has_output shelf.new) (S.faults shelf.new))) }
     ensures unwritten { IfErr result (λ fault. Unwritten (option_map seen_file file.now) fault
-        (shelf_moment (S.told shelf.old) (S.has_output shelf.old) (S.faults shelf.old))
-        (shelf_moment (S.told shelf.new) (S.has_output shelf.new) (S.faults shelf.new))) }
+        (shelf_moment (S.told shelf.old) (S.has_input shelf.old) (S.has_output shelf.old) (S.faults shelf.old))
+        (shelf_moment (S.told shelf.new) (S.has_input shelf.new) (S.has_output shelf.new) (S.faults shelf.new))) }
 {
     let Some(file) = file else {
         return Ok(());
@@ -100,8 +100,8 @@ pub fn deliver<S: Shelf, O: Sink, E: Sink>(
     err: &mut E,
 ) -> Status
     ensures { (end : End) × IsDelivery (seen_answer answer.now)
-        (moment (shelf_moment (S.told shelf.old) (S.has_output shelf.old) (S.faults shelf.old)) (sink_moment (O.written out.old) (O.faults out.old)) (sink_moment (E.written err.old) (E.faults err.old)))
-        (moment (shelf_moment (S.told shelf.new) (S.has_output shelf.new) (S.faults shelf.new)) (sink_moment (O.written out.new) (O.faults out.new)) (sink_moment (E.written err.new) (E.faults err.new)))
+        (moment (shelf_moment (S.told shelf.old) (S.has_input shelf.old) (S.has_output shelf.old) (S.faults shelf.old)) (sink_moment (O.written out.old) (O.faults out.old)) (sink_moment (E.written err.old) (E.faults err.old)))
+        (moment (shelf_moment (S.told shelf.new) (S.has_input shelf.new) (S.has_output shelf.new) (S.faults shelf.new)) (sink_moment (O.written out.new) (O.faults out.new)) (sink_moment (E.written err.new) (E.faults err.new)))
         result end }
 {
     match write_answer_file(&answer.file, shelf) {

@@ -40,9 +40,9 @@ pub fn read_input<S: Shelf>(
     name: &Name,
     limit: u64,
 ) -> Result<Vec<u8>, Fault>
-    ensures { Reads (λ bytes. bytes.items) (IsInput (files_at (shelf_moment (S.told shelf.old) (S.has_output shelf.old) (S.faults shelf.old))) name.now limit) result
-        (shelf_moment (S.told shelf.old) (S.has_output shelf.old) (S.faults shelf.old))
-        (shelf_moment (S.told shelf.new) (S.has_output shelf.new) (S.faults shelf.new)) }
+    ensures { Reads (λ bytes. bytes.items) (IsInput (files_at (shelf_moment (S.told shelf.old) (S.has_input shelf.old) (S.has_output shelf.old) (S.faults shelf.old))) name.now limit) result
+        (shelf_moment (S.told shelf.old) (S.has_input shelf.old) (S.has_output shelf.old) (S.faults shelf.old))
+        (shelf_moment (S.told shelf.new) (S.has_input shelf.new) (S.has_output shelf.new) (S.faults shelf.new)) }
 {
     let mut bytes = Vec::new(alloc);
     match read_all(shelf, name, limit, &mut bytes) {
@@ -83,10 +83,10 @@ pub fn read_problem<S: Shelf>(
     rule: Rule,
     demands: Demands,
 ) -> Result<Problem, Fault>
-    ensures { Reads (λ problem. problem) (OneInput (files_at (shelf_moment (S.told shelf.old) (S.has_output shelf.old) (S.faults shelf.old))) search.now SEARCH_LIMIT
+    ensures { Reads (λ problem. problem) (OneInput (files_at (shelf_moment (S.told shelf.old) (S.has_input shelf.old) (S.has_output shelf.old) (S.faults shelf.old))) search.now SEARCH_LIMIT
         (λ first. and_then first (problem_in rule demands))) result
-        (shelf_moment (S.told shelf.old) (S.has_output shelf.old) (S.faults shelf.old))
-        (shelf_moment (S.told shelf.new) (S.has_output shelf.new) (S.faults shelf.new)) }
+        (shelf_moment (S.told shelf.old) (S.has_input shelf.old) (S.has_output shelf.old) (S.faults shelf.old))
+        (shelf_moment (S.told shelf.new) (S.has_input shelf.new) (S.has_output shelf.new) (S.faults shelf.new)) }
 {
     let bytes = read_input(alloc, shelf, search, SEARCH_LIMIT)?;
     problem_input(alloc, &bytes, rule, demands)
@@ -110,10 +110,10 @@ pub fn read_pattern<S: Shelf>(
     shelf: &mut S,
     pattern: &Name,
 ) -> Result<History, Fault>
-    ensures { Reads (λ history. history) (OneInput (files_at (shelf_moment (S.told shelf.old) (S.has_output shelf.old) (S.faults shelf.old))) pattern.now SEARCH_LIMIT
+    ensures { Reads (λ history. history) (OneInput (files_at (shelf_moment (S.told shelf.old) (S.has_input shelf.old) (S.has_output shelf.old) (S.faults shelf.old))) pattern.now SEARCH_LIMIT
         (λ second. and_then second history_in)) result
-        (shelf_moment (S.told shelf.old) (S.has_output shelf.old) (S.faults shelf.old))
-        (shelf_moment (S.told shelf.new) (S.has_output shelf.new) (S.faults shelf.new)) }
+        (shelf_moment (S.told shelf.old) (S.has_input shelf.old) (S.has_output shelf.old) (S.faults shelf.old))
+        (shelf_moment (S.told shelf.new) (S.has_input shelf.new) (S.has_output shelf.new) (S.faults shelf.new)) }
 {
     let bytes = read_input(alloc, shelf, pattern, SEARCH_LIMIT)?;
     history_input(alloc, &bytes)

@@ -31,12 +31,12 @@ fn answer<S: Shelf, O: Sink, E: Sink>(
 ) -> Status
     requires { CanPrint question.now }
     ensures end { (end : End) × IsEndOf (seen_question question.now)
-        (moment (shelf_moment (S.told shelf.old) (S.has_output shelf.old) (S.faults shelf.old)) (sink_moment (O.written out.old) (O.faults out.old)) (sink_moment (E.written err.old) (E.faults err.old)))
-        (moment (shelf_moment (S.told shelf.new) (S.has_output shelf.new) (S.faults shelf.new)) (sink_moment (O.written out.new) (O.faults out.new)) (sink_moment (E.written err.new) (E.faults err.new)))
+        (moment (shelf_moment (S.told shelf.old) (S.has_input shelf.old) (S.has_output shelf.old) (S.faults shelf.old)) (sink_moment (O.written out.old) (O.faults out.old)) (sink_moment (E.written err.old) (E.faults err.old)))
+        (moment (shelf_moment (S.told shelf.new) (S.has_input shelf.new) (S.has_output shelf.new) (S.faults shelf.new)) (sink_moment (O.written out.new) (O.faults out.new)) (sink_moment (E.written err.new) (E.faults err.new)))
         result end }
     ensures shelf { LeavesPrinting (seen_question question.now)
-        (shelf_moment (S.told shelf.old) (S.has_output shelf.old) (S.faults shelf.old))
-        (shelf_moment (S.told shelf.new) (S.has_output shelf.new) (S.faults shelf.new)) }
+        (shelf_moment (S.told shelf.old) (S.has_input shelf.old) (S.has_output shelf.old) (S.faults shelf.old))
+        (shelf_moment (S.told shelf.new) (S.has_input shelf.new) (S.has_output shelf.new) (S.faults shelf.new)) }
 {
     match question {
         Question::Check { problem, proof } => check(alloc, problem, proof, shelf, out, err),
@@ -54,8 +54,8 @@ fn run_words<S: Shelf, O: Sink, E: Sink>(
     err: &mut E,
 ) -> Status
     ensures { (end : End) × IsEnd (job_of (map string_bytes words.now))
-        (moment (shelf_moment (S.told shelf.old) (S.has_output shelf.old) (S.faults shelf.old)) (sink_moment (O.written out.old) (O.faults out.old)) (sink_moment (E.written err.old) (E.faults err.old)))
-        (moment (shelf_moment (S.told shelf.new) (S.has_output shelf.new) (S.faults shelf.new)) (sink_moment (O.written out.new) (O.faults out.new)) (sink_moment (E.written err.new) (E.faults err.new)))
+        (moment (shelf_moment (S.told shelf.old) (S.has_input shelf.old) (S.has_output shelf.old) (S.faults shelf.old)) (sink_moment (O.written out.old) (O.faults out.old)) (sink_moment (E.written err.old) (E.faults err.old)))
+        (moment (shelf_moment (S.told shelf.new) (S.has_input shelf.new) (S.has_output shelf.new) (S.faults shelf.new)) (sink_moment (O.written out.new) (O.faults out.new)) (sink_moment (E.written err.new) (E.faults err.new)))
         result end }
 {
     let job = match read_job(alloc, words) {
@@ -79,8 +79,8 @@ pub fn run<S: Shelf, O: Sink, E: Sink>(
     // How the outside stands at the exit, by the ways to end: an answer is right and was given whole, or the outside
     // failed while it was given; or the words, the inputs or an allocation were refused, or an input failed.
     ensures ends { (end : End) × IsEnd (job_of (map string_bytes words.now))
-        (moment (shelf_moment (S.told shelf.old) (S.has_output shelf.old) (S.faults shelf.old)) (sink_moment (O.written out.old) (O.faults out.old)) (sink_moment (E.written err.old) (E.faults err.old)))
-        (moment (shelf_moment (S.told shelf.new) (S.has_output shelf.new) (S.faults shelf.new)) (sink_moment (O.written out.new) (O.faults out.new)) (sink_moment (E.written err.new) (E.faults err.new)))
+        (moment (shelf_moment (S.told shelf.old) (S.has_input shelf.old) (S.has_output shelf.old) (S.faults shelf.old)) (sink_moment (O.written out.old) (O.faults out.old)) (sink_moment (E.written err.old) (E.faults err.old)))
+        (moment (shelf_moment (S.told shelf.new) (S.has_input shelf.new) (S.has_output shelf.new) (S.faults shelf.new)) (sink_moment (O.written out.new) (O.faults out.new)) (sink_moment (E.written err.new) (E.faults err.new)))
         result end }
 
     // What follows from it. The yes of a check says that the proof is accepted and no history is a solution, and that
@@ -96,18 +96,18 @@ pub fn run<S: Shelf, O: Sink, E: Sink>(
     // A failure of the outside comes only where a count of faults rose, or where an input isn't there. A yes or a no
     // comes only where nothing failed.
     ensures outside { result ≡ Status.Outside → HasCause (job_of (map string_bytes words.now))
-        (moment (shelf_moment (S.told shelf.old) (S.has_output shelf.old) (S.faults shelf.old)) (sink_moment (O.written out.old) (O.faults out.old)) (sink_moment (E.written err.old) (E.faults err.old)))
-        (moment (shelf_moment (S.told shelf.new) (S.has_output shelf.new) (S.faults shelf.new)) (sink_moment (O.written out.new) (O.faults out.new)) (sink_moment (E.written err.new) (E.faults err.new))) }
+        (moment (shelf_moment (S.told shelf.old) (S.has_input shelf.old) (S.has_output shelf.old) (S.faults shelf.old)) (sink_moment (O.written out.old) (O.faults out.old)) (sink_moment (E.written err.old) (E.faults err.old)))
+        (moment (shelf_moment (S.told shelf.new) (S.has_input shelf.new) (S.has_output shelf.new) (S.faults shelf.new)) (sink_moment (O.written out.new) (O.faults out.new)) (sink_moment (E.written err.new) (E.faults err.new))) }
     ensures nothing_failed { IsYesOrNo result → NothingFailed
-        (moment (shelf_moment (S.told shelf.old) (S.has_output shelf.old) (S.faults shelf.old)) (sink_moment (O.written out.old) (O.faults out.old)) (sink_moment (E.written err.old) (E.faults err.old)))
-        (moment (shelf_moment (S.told shelf.new) (S.has_output shelf.new) (S.faults shelf.new)) (sink_moment (O.written out.new) (O.faults out.new)) (sink_moment (E.written err.new) (E.faults err.new))) }
+        (moment (shelf_moment (S.told shelf.old) (S.has_input shelf.old) (S.has_output shelf.old) (S.faults shelf.old)) (sink_moment (O.written out.old) (O.faults out.old)) (sink_moment (E.written err.old) (E.faults err.old)))
+        (moment (shelf_moment (S.told shelf.new) (S.has_input shelf.new) (S.has_output shelf.new) (S.faults shelf.new)) (sink_moment (O.written out.new) (O.faults out.new)) (sink_moment (E.written err.new) (E.faults err.new))) }
 
     // What stands after it.
     ensures silent { IsSilent result → O.written out.new ≡ O.written out.old }
     ensures files { known_files (S.told shelf.new) ≡ known_files (S.told shelf.old) }
     ensures counts { CountsNeverFall
-        (moment (shelf_moment (S.told shelf.old) (S.has_output shelf.old) (S.faults shelf.old)) (sink_moment (O.written out.old) (O.faults out.old)) (sink_moment (E.written err.old) (E.faults err.old)))
-        (moment (shelf_moment (S.told shelf.new) (S.has_output shelf.new) (S.faults shelf.new)) (sink_moment (O.written out.new) (O.faults out.new)) (sink_moment (E.written err.new) (E.faults err.new))) }
+        (moment (shelf_moment (S.told shelf.old) (S.has_input shelf.old) (S.has_output shelf.old) (S.faults shelf.old)) (sink_moment (O.written out.old) (O.faults out.old)) (sink_moment (E.written err.old) (E.faults err.old)))
+        (moment (shelf_moment (S.told shelf.new) (S.has_input shelf.new) (S.has_output shelf.new) (S.faults shelf.new)) (sink_moment (O.written out.new) (O.faults out.new)) (sink_moment (E.written err.new) (E.faults err.new))) }
 {
     run_words(alloc, words, shelf, out, err)
 }

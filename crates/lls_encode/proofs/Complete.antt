@@ -15,6 +15,8 @@ use Rattle.lls_problem.specs.Problem.{PosedProblem}
 use Rattle.lls_problem.specs.Solution.{cell_number, HasItsBit, AreTied, MeetsCells, IsFramed, is_marked, IsSolution, IsAbsent}
 use Rattle.lls_transition.specs.Transition.{transition_clauses}
 use Rattle.lls_encode.specs.Place.{inputs_at}
+use Rattle.lls_encode.specs.History.{HasAssignment}
+use Rattle.std.proofs.lemmas.List.{take_all}
 use Rattle.lls_encode.specs.Formula.{fixed_clauses, same, name_literal, has_name, tied_to, name_clauses, first_framed, framed_count, framed, place_clauses, line_clauses, generation_clauses, fixed_part, name_part, transition_part, formula_of}
 use Rattle.lls_grid.proofs.InOrder.{length-cells_of}
 use Rattle.lls_transition.specs.Clause.{with_clauses}
@@ -152,12 +154,24 @@ pub vars-formula_of : (p : PosedProblem) → (formula_of p).vars ≡ length p.po
 unfolding formula_of
 vars-formula_of p = refl
 
+length-cells : (p : PosedProblem) → IsPosed p.posed → (history : History) → IsSolution p history → length (cells_of history) ≡ (formula_of p).vars
+length-cells p kept history solution =
+    length-cells_of p.posed.generations p.posed.height p.posed.width history solution.sizes ∙ sym kept.count ∙ sym (vars-formula_of p)
+
+-- each variable is a cell's
+pub HasAssignment-cells : (p : PosedProblem) → IsPosed p.posed → (history : History) → IsSolution p history → HasAssignment (formula_of p) history
+HasAssignment-cells p kept history solution =
+    record {
+      values = cells_of history;
+      count = length-cells p kept history solution;
+      cells = take_all (length (cells_of history)) (cells_of history) (omega arith);
+      satisfied = satisfies-formula_of p history solution;
+    }
+
 -- a formula that nothing satisfies has no solution
 pub absent_from : (p : PosedProblem) → IsPosed p.posed → IsUnsatisfiable (formula_of p) → IsAbsent p
 absent_from p kept unsatisfiable history solution =
-    let count : length (cells_of history) ≡ (formula_of p).vars =
-    length-cells_of p.posed.generations p.posed.height p.posed.width history solution.sizes ∙ sym kept.count ∙ sym (vars-formula_of p) in
-    let none = unsatisfiable (cells_of history) count in
+    let none = unsatisfiable (cells_of history) (length-cells p kept history solution) in
     let all = satisfies-formula_of p history solution in
     cc
 

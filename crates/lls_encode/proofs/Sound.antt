@@ -1,8 +1,8 @@
 -- The history of every assignment that satisfies the formula is a solution.
-use Rattle.std.proofs.Common.{◌≡◌, ◌<◌, ℕ, ◌+◌, ◌-◌, ◌*◌, Bool, true, false, cond, List, [], ◌∷◌, ◌++◌, length, refl, sym, ap, ◌∙◌, subst, arith}
+use Rattle.std.proofs.Common.{◌≡◌, ◌<◌, ◌≤◌, take, ℕ, ◌+◌, ◌-◌, ◌*◌, Bool, true, false, cond, List, [], ◌∷◌, ◌++◌, length, refl, sym, ap, ◌∙◌, subst, arith}
 use Rattle.std.specs.List.{flat_map}
 use Rattle.std.proofs.lemmas.Bool.{and_parts, false_from_ne_true}
-use Rattle.std.proofs.lemmas.List.{take_all}
+use Rattle.std.proofs.lemmas.List.{take_all, length-take-le}
 use Rattle.std.proofs.lemmas.Grind.{flat_map-append}
 use Rattle.lls_lit.specs.Formula.{Clause, satisfies, IsUnsatisfiable}
 use Rattle.lls_grid.specs.Chunks.{chunked}
@@ -35,16 +35,21 @@ cells_of-folded generations height width cells count =
     ∙ joined-chunked width (height * generations) cells
     ∙ take_all (width * (height * generations)) cells (omega (arith, count))
 
-pub cells_of-history_of : (p : PosedProblem) (values : List Bool) → IsPosed p.posed → length values ≡ length p.posed.cells → cells_of (history_of p values) ≡ values
-cells_of-history_of p values kept len = cells_of-folded p.posed.generations p.posed.height p.posed.width values (len ∙ kept.count)
+pub cells_of-history_of : (p : PosedProblem) (values : List Bool) → IsPosed p.posed → length p.posed.cells ≤ length values
+    → cells_of (history_of p values) ≡ take (length p.posed.cells) values
+cells_of-history_of p values kept enough =
+    let count : length (take (length p.posed.cells) values) ≡ p.posed.width * (p.posed.height * p.posed.generations) =
+    length-take-le (length p.posed.cells) values enough ∙ kept.count in
+    cells_of-folded p.posed.generations p.posed.height p.posed.width (take (length p.posed.cells) values) count
 
 HasSizes-history_of : (p : PosedProblem) (values : List Bool) → IsPosed p.posed → HasSizes p.posed.generations p.posed.height p.posed.width (history_of p values)
 HasSizes-history_of p values kept =
     let some : 0 < p.posed.generations = omega (arith, kept.generations.0) in
     let rows : 0 < p.posed.height = omega (arith, kept.height.0) in
-    let sizes = HasSizes-folded p.posed.generations p.posed.height p.posed.width values some rows in (
-      length-folded p.posed.generations p.posed.height p.posed.width values,
-      rw (height_of-folded p.posed.generations p.posed.height p.posed.width values some, width_of-folded p.posed.generations p.posed.height p.posed.width values some rows) at sizes.1,
+    let cells = take (length p.posed.cells) values in
+    let sizes = HasSizes-folded p.posed.generations p.posed.height p.posed.width cells some rows in (
+      length-folded p.posed.generations p.posed.height p.posed.width cells,
+      rw (height_of-folded p.posed.generations p.posed.height p.posed.width cells some, width_of-folded p.posed.generations p.posed.height p.posed.width cells some rows) at sizes.1,
     )
 
 -- the clauses of a place that no mark frees
@@ -79,7 +84,9 @@ pub IsSolution-history_of : (p : PosedProblem) → IsPosed p.posed → (values :
 IsSolution-history_of p kept values len satisfied =
     let parts = parts_of p values satisfied in
     let sizes = HasSizes-history_of p values kept in
-    let cells : cells_of (history_of p values) ≡ values = cells_of-history_of p values kept (len ∙ vars-formula_of p) in
+    let many : length values ≡ length p.posed.cells = len ∙ vars-formula_of p in
+    let cells : cells_of (history_of p values) ≡ values =
+    cells_of-history_of p values kept (omega (arith, many)) ∙ take_all (length p.posed.cells) values (omega (arith, many)) in
     record {
       sizes = sizes;
       cells = subst (MeetsCells p.posed.cells) (sym cells) (MeetsCells-by_clauses values p.posed.cells parts.fixed parts.names);

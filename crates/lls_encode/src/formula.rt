@@ -1,10 +1,10 @@
 // The formula of a problem.
 ghost use Rattle.std.specs.Prelude.{◌≡◌, Bool, true, List, length, IfOk};
-ghost use Rattle.lls_grid.specs.History.{History, cells_of};
+ghost use Rattle.lls_grid.specs.History.{History};
 ghost use Rattle.lls_lit.specs.Formula.{satisfies, IsUnsatisfiable};
 ghost use Rattle.lls_problem.specs.Solution.{IsSolution, IsAbsent};
 ghost use Rattle.lls_encode.specs.Formula.{formula_of};
-ghost use Rattle.lls_encode.specs.History.{history_of};
+ghost use Rattle.lls_encode.specs.History.{history_of, HasAssignment};
 
 use crate::cells::{push_fixed, push_names};
 use crate::transition::push_transitions;
@@ -18,11 +18,11 @@ use std::alloc::Global;
 pub fn encode(alloc: Global, problem: &Problem) -> Result<Formula, Memory>
     ensures formula { IfOk result (λ formula. formula ≡ formula_of problem.now) }
 
-    // The cells of every solution satisfy it.
+    // Every solution has an assignment that satisfies it and begins with the solution's cells.
     ensures complete { IfOk result (λ formula. (history : History) → IsSolution problem.now history
-        → satisfies (cells_of history) formula.clauses ≡ true) }
+        → HasAssignment formula history) }
 
-    // The values of every assignment that satisfies it are the cells of a solution.
+    // Every assignment that satisfies it begins with the cells of a solution.
     ensures sound { IfOk result (λ formula. (values : List Bool) → length values ≡ formula.vars
         → satisfies values formula.clauses ≡ true → IsSolution problem.now (history_of problem.now values)) }
 

@@ -188,7 +188,7 @@ impl History {
         requires row { IsWithin (Self.FARTHEST - 1) y }
         requires column { IsWithin (Self.FARTHEST - 1) x }
         ensures number { result ≡ number_of (nine rule.now self.now t y x) }
-        ensures neighbourhood { result < 512 }
+        ensures neighbourhood { result < Rule.NEIGHBOURHOODS }
     {
         let above = self.three(rule, t, y - 1, x);
         let here = self.three(rule, t, y, x);

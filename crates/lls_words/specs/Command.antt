@@ -11,6 +11,8 @@ abbrev pub command_of : List ℕ → Option Command
 command_of name =
     if bytes_eq name (codes "check") then Some commands.Check else
     if bytes_eq name (codes "judge") then Some commands.Judge else
+    if bytes_eq name (codes "cnf") then Some commands.Cnf else
+    if bytes_eq name (codes "lrat") then Some commands.Lrat else
     if bytes_eq name (codes "rule") then Some commands.Rule else None
 
 abbrev pub setting_of : List ℕ → Option Setting
@@ -21,12 +23,16 @@ setting_of name =
 abbrev pub operand_count : Command → ℕ
 operand_count commands.Check = 2
 operand_count commands.Judge = 2
+operand_count commands.Cnf = 1
+operand_count commands.Lrat = 2
 operand_count commands.Rule = 1
 
 -- the options that a command takes
 abbrev pub options_of : Command → List Setting
 options_of commands.Check = settings.Rule ∷ settings.Edge ∷ []
 options_of commands.Judge = settings.Rule ∷ settings.Edge ∷ []
+options_of commands.Cnf = settings.Rule ∷ settings.Edge ∷ []
+options_of commands.Lrat = []
 options_of commands.Rule = []
 
 -- where an option stands in the table of options

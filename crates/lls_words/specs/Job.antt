@@ -61,6 +61,9 @@ job_with commands.Check (search_file ∷ proof ∷ []) givens =
     and_then (settled defaults givens) (λ s. Ok (jobs.Check search_file.word proof.word s.rule s.demands))
 job_with commands.Judge (search_file ∷ pattern ∷ []) givens =
     and_then (settled defaults givens) (λ s. Ok (jobs.Judge search_file.word pattern.word s.rule s.demands))
+job_with commands.Cnf (search_file ∷ []) givens =
+    and_then (settled defaults givens) (λ s. Ok (jobs.Cnf search_file.word s.rule s.demands))
+job_with commands.Lrat (formula ∷ proof ∷ []) givens = Ok (jobs.Lrat formula.word proof.word)
 job_with commands.Rule (text ∷ []) givens = and_then (rule_at text.place text.word) (λ rule. Ok (jobs.Rule rule))
 job_with command operands givens = Err (Operands (operand_count command) (length operands))
 
@@ -78,4 +81,6 @@ job_of (name ∷ words) = job_of_command (command_of name) words
 abbrev pub IsPrintable : Job → Type 0
 IsPrintable (jobs.Check search_file proof rule demands) = Unit {0}
 IsPrintable (jobs.Judge search_file pattern rule demands) = Unit {0}
+IsPrintable (jobs.Cnf search_file rule demands) = Unit {0}
+IsPrintable (jobs.Lrat formula proof) = Unit {0}
 IsPrintable (jobs.Rule rule) = IsIsotropic rule

@@ -7,6 +7,8 @@ ghost use Rattle.lls_words.specs.Command.{command_of, operand_count, options_of,
 pub enum Command {
     Check,
     Judge,
+    Cnf,
+    Lrat,
     Rule,
 }
 
@@ -26,6 +28,10 @@ impl Command {
             Some(Command::Check)
         } else if name == b"judge".as_slice() {
             Some(Command::Judge)
+        } else if name == b"cnf".as_slice() {
+            Some(Command::Cnf)
+        } else if name == b"lrat".as_slice() {
+            Some(Command::Lrat)
         } else if name == b"rule".as_slice() {
             Some(Command::Rule)
         } else {
@@ -38,8 +44,8 @@ impl Command {
         ensures { result ≡ operand_count self }
     {
         match self {
-            Command::Check | Command::Judge => 2,
-            Command::Rule => 1,
+            Command::Check | Command::Judge | Command::Lrat => 2,
+            Command::Cnf | Command::Rule => 1,
         }
     }
 
@@ -48,8 +54,8 @@ impl Command {
         ensures { result.now ≡ options_of self }
     {
         match self {
-            Command::Check | Command::Judge => &[Setting::Rule, Setting::Edge],
-            Command::Rule => &[],
+            Command::Check | Command::Judge | Command::Cnf => &[Setting::Rule, Setting::Edge],
+            Command::Lrat | Command::Rule => &[],
         }
     }
 

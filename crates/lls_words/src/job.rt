@@ -20,6 +20,17 @@ pub enum Job {
         rule: Rule,
         demands: Demands,
     },
+    /// Print the formula of a search file.
+    Cnf {
+        search: Name,
+        rule: Rule,
+        demands: Demands,
+    },
+    /// Check a proof against a formula.
+    Lrat {
+        formula: Name,
+        proof: Name,
+    },
     /// Print a rule's canonical text.
     Rule {
         rule: Rule,

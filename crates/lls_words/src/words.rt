@@ -61,6 +61,19 @@ fn job_with(alloc: Global, command: Command, scan: &Scan) -> Result<Job, WordsEr
                 demands,
             })
         }
+        (Command::Cnf, [search]) => {
+            let Settings { rule, demands } = settle(&scan.givens)?;
+            let search = name_of(alloc, search)?;
+            Ok(Job::Cnf {
+                search,
+                rule,
+                demands,
+            })
+        }
+        (Command::Lrat, [formula, proof]) => Ok(Job::Lrat {
+            formula: name_of(alloc, formula)?,
+            proof: name_of(alloc, proof)?,
+        }),
         (Command::Rule, [text]) => Ok(Job::Rule {
             rule: rule_at(text.place, text.word.as_bytes())?,
         }),

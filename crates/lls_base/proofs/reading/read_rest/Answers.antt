@@ -1,4 +1,5 @@
 use Rattle.std.proofs.Common.{◌<◌, ◌++◌, Ok, length, take, drop, ap, ◌∙◌, arith}
+use Rattle.std.proofs.lemmas.List.{length-append, length-take-le}
 use Rattle.std.specs.Option.{option_map}
 use Rattle.lls_base.specs.Shelf.{known_files, known_target, known_rest}
 use Rattle.lls_base.proofs.Faults.{Counts-trans}
@@ -22,6 +23,7 @@ loop-count-preserved g c =
     let piece = take count c.read.new.buf in
     record {
       within = omega (arith, c.if-count-limit.false, invariant.within);
+      count = ap length c.in_ok-extend_from_slice.ensures.items ∙ length-append (c.loop-count.into.items) piece ∙ omega (arith, invariant.count, length-take-le count c.read.new.buf (omega (arith, read.within, c.read.auto.buf)));
       rest = ap known_rest read.told ∙ known_rest-read told count ∙ ap (option_map (drop count)) invariant.rest ∙ option_map-drop _ c.loop-count.taken count;
       grew = (
         invariant.grew.0 ++ piece,

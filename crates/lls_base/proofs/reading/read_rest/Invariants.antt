@@ -1,4 +1,4 @@
-use Rattle.std.proofs.Common.{◌≡◌, ◌≤◌, ◌-◌, List, ℕ, ◌++◌, drop, IfSome}
+use Rattle.std.proofs.Common.{◌≡◌, ◌≤◌, ◌+◌, ◌-◌, List, ℕ, ◌++◌, length, drop, IfSome}
 use Rattle.std.specs.Option.{option_map}
 use Rattle.lls_base.specs.Faults.{Counts}
 use Rattle.lls_base.specs.Shelf.{known_files, known_target, known_rest}
@@ -8,6 +8,7 @@ use Rattle.lls_base.proofs.reading.read_rest.Given as goal
 abbrev pub invariant-loop-count : goal.invariant-loop-count
 invariant-loop-count g l = record {
   within : l.taken ≤ l.limit;
+  count : length l.into.items ≡ length l.initial.into.items + l.taken;
   rest : known_rest (g.S.Shelf.told l.shelf) ≡ option_map (drop l.taken) (known_rest (g.S.Shelf.told l.initial.shelf));
   grew : (bytes : List ℕ) × (l.into.items ≡ l.initial.into.items ++ bytes) × IfSome (known_rest (g.S.Shelf.told l.initial.shelf)) (IsFront l.taken bytes);
   files : known_files (g.S.Shelf.told l.shelf) ≡ known_files (g.S.Shelf.told l.initial.shelf);

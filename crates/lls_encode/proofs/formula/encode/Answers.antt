@@ -3,12 +3,12 @@ use Rattle.std.proofs.Common.{◌≡◌, ◌*◌, ◌∙◌, ap, sym, length, []
 use Rattle.lls_lit.specs.Formula.{Clause, Cnf, satisfies, IsUnsatisfiable}
 use Rattle.std.specs.List.{flat_map, range_with_len}
 use Rattle.lls_search_file.specs.declared.cell.Cell.{Cell}
-use Rattle.lls_grid.specs.History.{cells_of}
 use Rattle.lls_problem.specs.Solution.{cell_number}
 use Rattle.lls_encode.specs.Formula.{fixed_clauses, name_clauses, fixed_part, name_part}
 use Rattle.lls_transition.specs.Clause.{with_clauses}
 use Rattle.lls_encode.specs.Room.{HasRoom}
-use Rattle.lls_encode.proofs.Complete.{satisfies-formula_of, absent_from, made, room_left, room_for_names}
+use Rattle.lls_encode.specs.History.{HasAssignment}
+use Rattle.lls_encode.proofs.Complete.{HasAssignment-cells, absent_from, made, room_left, room_for_names}
 use Rattle.lls_encode.proofs.Sound.{IsSolution-history_of, unsatisfiable_from}
 use Rattle.lls_encode.proofs.formula.encode.Goals as goal
 
@@ -49,7 +49,7 @@ returns-clause-formula c =
 
 pub returns-clause-complete : goal.returns-clause-complete
 returns-clause-complete c = λ history solution.
-    ap (λ f. satisfies (cells_of history) f.clauses) (returns-clause-formula c) ∙ satisfies-formula_of c.args.problem.now history solution
+    subst (λ f. HasAssignment f history) (sym (returns-clause-formula c)) (HasAssignment-cells c.args.problem.now c.posed-posed.ensures.kept history solution)
 
 pub returns-clause-absent : goal.returns-clause-absent
 returns-clause-absent c = λ unsatisfiable.
