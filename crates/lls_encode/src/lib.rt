@@ -2,12 +2,12 @@
 #![tactic(auto)]
 
 mod cells;
-mod decode;
+mod decoding;
 mod formula;
 mod place;
 #[cfg(test)]
 mod tests;
 mod transition;
 
-pub use decode::decode;
+pub use decoding::decode;
 pub use formula::encode;

@@ -1,6 +1,7 @@
 // Formulas of search files, as DIMACS writes clauses, worked out by hand and by an independent script.
-use crate::encode;
-use lls_cnf::Formula;
+use crate::{decode, encode};
+use lls_cnf::{Assignment, Formula};
+use lls_grid::print_history;
 use lls_problem::{Demands, Edge, make_problem};
 use lls_rule::Rule;
 use lls_search_file::read_posed;
@@ -99,5 +100,24 @@ fn formulas_of_search_files(rt: HostRuntime) -> Result<(), Fail> {
         assert_eq!(rt; formula.vars(), vars);
         assert_eq!(rt; found.as_str(), text);
     }
+    Ok(())
+}
+
+// The first values are the cells, generation by generation and row by row; what is behind them isn't looked at.
+#[test]
+fn assignments_are_histories(rt: HostRuntime) -> Result<(), Fail> {
+    let alloc = rt.alloc();
+    let life = Rule::from_counts(0b0_0000_1000, 0b0_0000_1100);
+    let posed = read_posed(alloc, b"* * *\n* * *\n\n* * *\n* * *")?;
+    let problem = make_problem(posed, life, Demands { edge: Edge::Framed })?;
+    let values = "0110010010111".bytes().map(|byte| byte == b'1');
+    let assignment = Assignment::new(values.collect::<Vec<bool>>(alloc)?);
+    assert!(rt; problem.posed().cells.items().len() <= assignment.values().len());
+    let history = decode(alloc, &problem, &assignment)?;
+    let text = print_history(alloc, &history)?;
+    assert_eq!(rt;
+        text.as_slice(),
+        b"0 1 1\n0 0 1\n\n0 0 1\n0 1 1\n".as_slice()
+    );
     Ok(())
 }
