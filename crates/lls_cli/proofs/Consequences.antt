@@ -6,6 +6,8 @@ use Rattle.lls_base.specs.Shelf.{Files}
 use Rattle.lls_lrat.specs.declared.error.CheckError.{CheckError}
 use Rattle.lls_search_file.specs.declared.error.PosedError.{PosedError}
 use Rattle.lls_search_file.specs.declared.error.PosedError.TheVariants as posed
+use Rattle.lls_cnf.specs.declared.dimacs_error.DimacsError.{DimacsError}
+use Rattle.lls_cnf.specs.declared.dimacs_error.DimacsError.TheVariants as dimacs
 use Rattle.lls_problem.specs.declared.demands.DemandError.{DemandError}
 use Rattle.lls_problem.specs.declared.demands.DemandError.TheVariants as demands
 use Rattle.lls_problem.specs.declared.judgement.Judgement.{Judgement}
@@ -19,9 +21,9 @@ use Rattle.lls_cli.specs.declared.fault.Fault.TheVariants as faults
 use Rattle.lls_cli.specs.declared.fault.OutsideFault.TheVariants as outside
 use Rattle.lls_cli.specs.declared.status.Status.{Status}
 use Rattle.lls_cli.specs.declared.status.Status.TheVariants as statuses
-use Rattle.lls_cli.specs.Fault.{status_of, words_status, posed_status, demand_status}
+use Rattle.lls_cli.specs.Fault.{status_of, words_status, posed_status, demand_status, dimacs_status}
 use Rattle.lls_cli.specs.Answer.{GivenAnswer, NamedFile, check_answer, judge_answer, Answers, IsAnswer, Holds, YesHolds, NoHolds}
-use Rattle.lls_cli.specs.Question.{Question, checks, judges, prints, question_of, Asks}
+use Rattle.lls_cli.specs.Question.{Question, checks, refutes, judges, encodes, prints, question_of, Asks}
 use Rattle.lls_cli.specs.Moment.{ShelfMoment, SinkMoment, Moment, files_at}
 use Rattle.lls_cli.specs.Ends.{WroteFile, IsDecided, with_file, End, refused, lacked, input_failed, answered, file_failed, output_failed, IsEnd}
 use Rattle.lls_cli.specs.Claims.{OfQuestion, IsSilent, IsYesOrNo, MissesFile, HasCause, NothingFailed, CountsNeverFall}
@@ -60,7 +62,7 @@ words_status-cases (words.BadValue place) = inl refl
 words_status-cases (words.BadRule place fault) = inl refl
 words_status-cases (words.Operands expected found) = inl refl
 
--- the status of a fault of a search file or of demands
+-- the status of a fault of a search file, of demands or of a formula's file
 abbrev IsPosedStatus : Status → Type 0
 IsPosedStatus statuses.Content = Unit {0}
 IsPosedStatus statuses.Memory = Unit {0}
@@ -86,6 +88,17 @@ demand_status-is (demands.BoundsCross t) = tt
 demand_status-is (demands.PeriodTooLong length) = tt
 demand_status-is (demands.Counters n) = tt
 
+dimacs_status-is : (error : DimacsError) → IsPosedStatus (dimacs_status error)
+dimacs_status-is dimacs.Memory = tt
+dimacs_status-is dimacs.NoHeader = tt
+dimacs_status-is (dimacs.BadHeader line) = tt
+dimacs_status-is (dimacs.BadWord line) = tt
+dimacs_status-is (dimacs.LiteralRange line number) = tt
+dimacs_status-is dimacs.Unended = tt
+dimacs_status-is (dimacs.ClauseCount expected found) = tt
+dimacs_status-is (dimacs.TooManyVariables n) = tt
+dimacs_status-is (dimacs.Percent line) = tt
+
 posed_fault : (status : Status) → IsPosedStatus status → IsFaultStatus status
 posed_fault statuses.Content is = tt
 posed_fault statuses.Memory is = tt
@@ -102,6 +115,7 @@ status_of-is : (fault : Fault) → IsFaultStatus (status_of fault)
 status_of-is (faults.Words error) = words_status-is error
 status_of-is (faults.Posed error) = posed_fault (posed_status error) (posed_status-is error)
 status_of-is (faults.Demands error) = posed_fault (demand_status error) (demand_status-is error)
+status_of-is (faults.Dimacs error) = posed_fault (dimacs_status error) (dimacs_status-is error)
 status_of-is (faults.NotPlain t y x) = tt
 status_of-is (faults.Outside fault) = tt
 status_of-is (faults.TooLong limit) = tt
@@ -118,6 +132,7 @@ decided_words (faults.Words error) decided is = decided
 decided_words faults.Memory decided is = decided
 decided_words (faults.Posed error) decided is = subst IsPosedStatus is (posed_status-is error)
 decided_words (faults.Demands error) decided is = subst IsPosedStatus is (demand_status-is error)
+decided_words (faults.Dimacs error) decided is = subst IsPosedStatus is (dimacs_status-is error)
 decided_words (faults.NotPlain t y x) decided is = cc
 decided_words (faults.Outside fault) decided is = cc
 decided_words (faults.TooLong limit) decided is = cc
@@ -128,6 +143,7 @@ decided_outside (faults.Words error) decided is = absurd decided
 decided_outside faults.Memory decided is = absurd decided
 decided_outside (faults.Posed error) decided is = absurd (subst IsPosedStatus is (posed_status-is error))
 decided_outside (faults.Demands error) decided is = absurd (subst IsPosedStatus is (demand_status-is error))
+decided_outside (faults.Dimacs error) decided is = absurd (subst IsPosedStatus is (dimacs_status-is error))
 decided_outside (faults.NotPlain t y x) decided is = absurd cc
 decided_outside (faults.TooLong limit) decided is = absurd cc
 decided_outside (faults.Outside outside.NoFile) decided is = refl
@@ -171,7 +187,9 @@ judge_answer-no_file judgements.Same = refl
 
 no_file : (question : Question) (answer : GivenAnswer) → Answers question answer → answer.file ≡ None
 no_file (checks problem bytes) answer right = ap (λ (a : GivenAnswer). a.file) right ∙ check_answer-no_file _
+no_file (refutes formula bytes) answer right = ap (λ (a : GivenAnswer). a.file) right ∙ check_answer-no_file _
 no_file (judges problem history) answer right = ap (λ (a : GivenAnswer). a.file) right.2 ∙ judge_answer-no_file right.0
+no_file (encodes problem) answer right = ap (λ (a : GivenAnswer). a.file) right
 no_file (prints rule) answer right = ap (λ (a : GivenAnswer). a.file) right
 
 option_map-none : (files : Option Files) → option_map (with_file None) files ≡ files
@@ -221,6 +239,8 @@ stays_silent (Err error) before after status (output_failed answer, ended) silen
 asks-question_of : (job : Job) (files : Files) (question : Result Question Fault) → Asks job (Some files) question → question_of job files ≡ question
 asks-question_of (jobs.Check one two rule demands) files question asked = rw (← asked.first_is, ← asked.second_is) (sym asked.made)
 asks-question_of (jobs.Judge one two rule demands) files question asked = rw (← asked.first_is, ← asked.second_is) (sym asked.made)
+asks-question_of (jobs.Cnf one rule demands) files question asked = rw (← asked.input_is) (sym asked.made)
+asks-question_of (jobs.Lrat one two) files question asked = rw (← asked.first_is, ← asked.second_is) (sym asked.made)
 asks-question_of (jobs.Rule rule) files question asked = sym asked
 
 misses : (job : Job) (files : Option Files) (fault : Fault) → Asks job files (Err fault) → fault ≡ faults.Outside outside.NoFile → MissesFile (Ok job) files

@@ -4,12 +4,6 @@ use Rattle.std.specs.Option.{option_map}
 use Rattle.lls_base.specs.Faults.{Counts, Rose}
 use Rattle.lls_base.specs.Shelf.{Files}
 use Rattle.lls_base.proofs.Faults.{Counts-refl}
-use Rattle.lls_grid.specs.History.{History}
-use Rattle.lls_problem.specs.declared.judgement.Judgement.{Judgement}
-use Rattle.lls_problem.specs.declared.judgement.Judgement.TheVariants as judgements
-use Rattle.lls_problem.specs.Problem.{PosedProblem}
-use Rattle.lls_problem.specs.Judgement.{IsJudgement}
-use Rattle.lls_problem.specs.Solution.{IsSolution}
 use Rattle.lls_words.specs.declared.error.WordsError.{WordsError}
 use Rattle.lls_words.specs.declared.error.WordsError.TheVariants as words
 use Rattle.lls_words.specs.declared.job.Job.{Job}
@@ -21,11 +15,11 @@ use Rattle.lls_cli.specs.declared.fault.OutsideFault.TheVariants as outside
 use Rattle.lls_cli.specs.declared.status.Status.{Status}
 use Rattle.lls_cli.specs.declared.status.Status.TheVariants as statuses
 use Rattle.lls_cli.specs.Fault.{fault_line, words_fault}
-use Rattle.lls_cli.specs.Answer.{GivenAnswer, NamedFile, judge_answer, Holds, IsAnswer}
-use Rattle.lls_cli.specs.Question.{Question, judges, prints, Asks}
+use Rattle.lls_cli.specs.Answer.{GivenAnswer, NamedFile, IsAnswer}
+use Rattle.lls_cli.specs.Question.{Question, prints, Asks}
 use Rattle.lls_cli.specs.Moment.{ShelfMoment, SinkMoment, Moment, moment, files_at}
 use Rattle.lls_cli.specs.Ends.{GrewBy, KeepsFiles, LacksMemory, IsOfInput, WroteFile, LeavesPart, LeavesShelf, HasInputs, IsDecided, with_file, End, refused, lacked, input_failed, answered, file_failed, output_failed, IsEndOf, IsEnd}
-use Rattle.lls_cli.specs.Steps.{Stops, Says, Gave, IsDelivery, LeavesPrinting}
+use Rattle.lls_cli.specs.Steps.{Stops, Says, IsDelivery, LeavesPrinting}
 
 -- a right answer that was delivered
 pub delivered : (question : Question) (answer : GivenAnswer) (before after : Moment) (status : Status) → IsAnswer question answer
@@ -37,70 +31,8 @@ delivered question answer before after status right (lacked, d) = absurd d
 delivered question answer before after status right (refused fault, d) = absurd d
 delivered question answer before after status right (input_failed fault, d) = absurd d
 
-holds_judged : (problem : PosedProblem) (history : History) (judgement : Judgement) → (judgement ≡ judgements.Meets → IsSolution problem history)
-    → (judgement ≢ judgements.Meets → IsSolution problem history → ⊥) → Holds (judges problem history) (judge_answer judgement).status
-holds_judged problem history judgements.Meets meets broken = meets refl
-holds_judged problem history judgements.Size meets broken = broken (λ is. cc)
-holds_judged problem history (judgements.Cell t y x) meets broken = broken (λ is. cc)
-holds_judged problem history (judgements.Name t y x) meets broken = broken (λ is. cc)
-holds_judged problem history (judgements.Symmetry t y x) meets broken = broken (λ is. cc)
-holds_judged problem history (judgements.Background t) meets broken = broken (λ is. cc)
-holds_judged problem history (judgements.Moved t y x) meets broken = broken (λ is. cc)
-holds_judged problem history (judgements.Rule t y x) meets broken = broken (λ is. cc)
-holds_judged problem history (judgements.Population t n) meets broken = broken (λ is. cc)
-holds_judged problem history judgements.Same meets broken = broken (λ is. cc)
-
--- the answer of a judgement is right
-pub judged_answer : (problem : PosedProblem) (history : History) (judgement : Judgement) (answer : GivenAnswer) → IsJudgement problem history judgement
-    → (judgement ≡ judgements.Meets → IsSolution problem history) → (judgement ≢ judgements.Meets → IsSolution problem history → ⊥)
-    → answer ≡ judge_answer judgement → IsAnswer (judges problem history) answer
-judged_answer problem history judgement answer is meets broken made = record {
-  answers = (judgement, is, made);
-  holds = subst (λ (a : GivenAnswer). Holds (judges problem history) a.status) (sym made) (holds_judged problem history judgement meets broken);
-}
-
-option_map-none : (files : Option Files) → files ≡ option_map (with_file None) files
-option_map-none None = refl
-option_map-none (Some files) = refl
-
 KeepsFiles-refl : (shelf : ShelfMoment) → KeepsFiles shelf shelf
 KeepsFiles-refl shelf = record { files = refl; target = refl; has_output = refl }
-
--- no file was to be written
-WroteFile-none : (shelf : ShelfMoment) → WroteFile None shelf shelf
-WroteFile-none shelf = record { files = option_map-none (files_at shelf); output = (refl, refl); faults = refl }
-
--- a text without a file
-pub gave : (question : Question) (answer : GivenAnswer) (shelf : ShelfMoment) (out_before out_after err_before err_after : SinkMoment) (status : Status)
-    → IsAnswer question answer → answer.file ≡ None → Gave answer.status answer.text out_before out_after err_before err_after status
-    → (end : End) × IsEndOf question (moment shelf out_before err_before) (moment shelf out_after err_after) status end
-gave question answer shelf out_before out_after err_before err_after status right none (inl whole) = (
-  answered answer,
-  (
-    right,
-    record {
-      status_is = whole.status_is;
-      shelf = subst (λ file. WroteFile file shelf shelf) (sym none) (WroteFile-none shelf);
-      out = whole.out;
-      out_faults = whole.out_faults;
-      err = whole.err;
-    },
-  ),
-)
-gave question answer shelf out_before out_after err_before err_after status right none (inr part) = (
-  output_failed answer,
-  (
-    right,
-    record {
-      status_is = part.status_is;
-      shelf = subst (λ file. WroteFile file shelf shelf) (sym none) (WroteFile-none shelf);
-      out = part.out;
-      out_counts = part.out_counts;
-      out_rose = part.out_rose;
-      err = part.err;
-    },
-  ),
-)
 
 -- want of memory, with the shelf and the output as they were
 pub lacks : (shelf : ShelfMoment) (out err_before err_after : SinkMoment) (status : Status) → shelf.faults < 2 ^ 64 → status ≡ statuses.Memory
@@ -119,6 +51,8 @@ LeavesShelf-refl : (job : Job) (shelf : ShelfMoment) → LeavesShelf job shelf s
 LeavesShelf-refl (jobs.Rule rule) shelf = refl
 LeavesShelf-refl (jobs.Check one two rule demands) shelf = tt
 LeavesShelf-refl (jobs.Judge one two rule demands) shelf = tt
+LeavesShelf-refl (jobs.Cnf one rule demands) shelf = tt
+LeavesShelf-refl (jobs.Lrat one two) shelf = tt
 
 -- want of memory while the words are read
 words_lack : (job : Result Job WordsError) (shelf : ShelfMoment) (out err_before err_after : SinkMoment) (status : Status) → shelf.faults < 2 ^ 64
@@ -147,7 +81,7 @@ stopped_refused job fault before after out err_before err_after status decided l
 
 -- a job whose input failed
 stopped_failing : (job : Job) (fault : OutsideFault) (before after : ShelfMoment) (out err_before err_after : SinkMoment) (status : Status)
-    → LeavesShelf job before after → KeepsFiles before after → Counts before.faults after.faults → HasInputs job → IsOfInput (faults.Outside fault)
+    → LeavesShelf job before after → KeepsFiles before after → Counts before.faults after.faults → HasInputs job → IsOfInput (faults.Outside fault) after
     → Rose before.faults after.faults → Says (faults.Outside fault) status err_before err_after
     → (end : End) × IsEnd (Ok job) (moment before out err_before) (moment after out err_after) status end
 stopped_failing job fault before after out err_before err_after status leaves kept counts inputs of_input rose (inl said) = (
@@ -181,9 +115,9 @@ stopped job faults.Memory before after out err_before err_after status leaves ke
 stopped job faults.Memory before after out err_before err_after status leaves kept counts inputs stops (inr said) =
     stopped_lacking job before after out err_before err_after status leaves kept counts said.0 said.1
 stopped job (faults.Outside outside.OpenFailed) before after out err_before err_after status leaves kept counts inputs stops said =
-    stopped_failing job outside.OpenFailed before after out err_before err_after status leaves kept counts inputs tt stops said
+    stopped_failing job outside.OpenFailed before after out err_before err_after status leaves kept counts inputs stops.1 stops.0 said
 stopped job (faults.Outside outside.ReadFailed) before after out err_before err_after status leaves kept counts inputs stops said =
-    stopped_failing job outside.ReadFailed before after out err_before err_after status leaves kept counts inputs tt stops said
+    stopped_failing job outside.ReadFailed before after out err_before err_after status leaves kept counts inputs stops.1 stops.0 said
 stopped job (faults.Outside outside.NoFile) before after out err_before err_after status leaves kept counts inputs stops said =
     stopped_refused job (faults.Outside outside.NoFile) before after out err_before err_after status tt leaves kept counts stops said
 stopped job (faults.Outside outside.CreateFailed) before after out err_before err_after status leaves kept counts inputs stops said = absurd stops
@@ -194,6 +128,8 @@ stopped job (faults.Posed error) before after out err_before err_after status le
     stopped_refused job (faults.Posed error) before after out err_before err_after status tt leaves kept counts stops said
 stopped job (faults.Demands error) before after out err_before err_after status leaves kept counts inputs stops said =
     stopped_refused job (faults.Demands error) before after out err_before err_after status tt leaves kept counts stops said
+stopped job (faults.Dimacs error) before after out err_before err_after status leaves kept counts inputs stops said =
+    stopped_refused job (faults.Dimacs error) before after out err_before err_after status tt leaves kept counts stops said
 stopped job (faults.NotPlain t y x) before after out err_before err_after status leaves kept counts inputs stops said =
     stopped_refused job (faults.NotPlain t y x) before after out err_before err_after status tt leaves kept counts stops said
 stopped job (faults.TooLong limit) before after out err_before err_after status leaves kept counts inputs stops said =
@@ -224,6 +160,8 @@ leaves_both (jobs.Rule rule) question files before mid after asked first second 
     last ∙ first
 leaves_both (jobs.Check one two rule demands) question files before mid after asked first second = tt
 leaves_both (jobs.Judge one two rule demands) question files before mid after asked first second = tt
+leaves_both (jobs.Cnf one rule demands) question files before mid after asked first second = tt
+leaves_both (jobs.Lrat one two) question files before mid after asked first second = tt
 
 WroteFile-after : (file : Option NamedFile) (before mid after : ShelfMoment) → KeepsFiles before mid → mid.faults ≡ before.faults → WroteFile file mid after → WroteFile file before after
 WroteFile-after None before mid after kept same wrote = record {

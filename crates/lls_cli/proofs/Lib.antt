@@ -2,3 +2,4 @@ pub mod Consequences
 pub mod Ending
 pub mod Stopped
 pub mod Written
+pub mod RightAnswers

@@ -1,16 +1,13 @@
--- Readings that stop at their first input.
-use Rattle.std.proofs.Common.{ℕ, Bool, List, [], Option, None, Some, Result, Ok, Err, refl, ap}
+-- Readings that stop at an input.
+use Rattle.std.proofs.Common.{ℕ, List, [], Option, None, Some, Result, Ok, Err, refl, ap, arith}
 use Rattle.lls_base.specs.Results.{and_then}
 use Rattle.lls_base.specs.Shelf.{Files}
-use Rattle.lls_problem.specs.declared.demands.Demands.{Demands}
-use Rattle.lls_words.specs.declared.job.Job.TheVariants.{Check, Judge}
 use Rattle.lls_cli.specs.declared.fault.Fault.{Fault}
 use Rattle.lls_cli.specs.declared.fault.Fault.TheVariants as faults
 use Rattle.lls_cli.specs.declared.fault.OutsideFault.TheVariants as outside
-use Rattle.lls_cli.specs.declared.input.TheConstants.{SEARCH_LIMIT, PROOF_LIMIT}
 use Rattle.lls_cli.specs.Moment.{ShelfMoment}
-use Rattle.lls_cli.specs.Question.{IsInput, input_of, problem_in, history_in, checks, judges, Asks}
-use Rattle.lls_cli.specs.Steps.{Stops, OneInput}
+use Rattle.lls_cli.specs.Question.{Question, IsInput, MadeOfOne, MadeOf, input_of}
+use Rattle.lls_cli.specs.Steps.{Stops}
 
 pub Stops-along : (fault : Fault) (One Two : Fault → Type 0) (before after : ShelfMoment) → (One fault → Two fault) → Stops fault One before after → Stops fault Two before after
 Stops-along faults.Memory One Two before after along stops = tt
@@ -23,34 +20,31 @@ Stops-along (faults.Outside outside.OutFailed) One Two before after along stops 
 Stops-along (faults.Words error) One Two before after along stops = absurd stops
 Stops-along (faults.Posed error) One Two before after along stops = (along stops.0, stops.1)
 Stops-along (faults.Demands error) One Two before after along stops = (along stops.0, stops.1)
+Stops-along (faults.Dimacs error) One Two before after along stops = (along stops.0, stops.1)
 Stops-along (faults.NotPlain t y x) One Two before after along stops = (along stops.0, stops.1)
 Stops-along (faults.TooLong limit) One Two before after along stops = (along stops.0, stops.1)
 
 -- an input that isn't read has some bytes or some refusal
 some_input : (files : Option Files) (name : List ℕ) (limit : ℕ) → (read : Result (List ℕ) Fault) × IsInput files name limit read
-some_input None name limit = (Ok [], tt)
+some_input None name limit = (Ok [], omega arith)
 some_input (Some files) name limit = (input_of files name limit, refl)
 
-pub check_refused : (files : Option Files) (one two : List ℕ) (rule : List Bool) (demands : Demands) (fault : Fault)
-    → OneInput files one SEARCH_LIMIT (λ first. and_then first (problem_in rule demands)) (Err fault) → Asks (Check one two rule demands) files (Err fault)
-check_refused files one two rule demands fault refused =
-    let other = some_input files two PROOF_LIMIT in
+-- a refusal of the first of two inputs is that of both
+pub first_refused : {Y : Type 0} (files : Option Files) (one two : List ℕ) (one_limit two_limit : ℕ)
+    (make : Result (List ℕ) Fault → Result Y Fault) (more : Result (List ℕ) Fault → Y → Result Question Fault) (fault : Fault)
+    → MadeOfOne files one one_limit make (Err fault) → MadeOf files one one_limit two two_limit (λ first second. and_then (make first) (more second)) (Err fault)
+first_refused files one two one_limit two_limit make more fault refused =
+    let other = some_input files two two_limit in
     record {
       first = refused.input;
       second = other.0;
       first_is = refused.input_is;
       second_is = other.1;
-      made = ap (λ problem. and_then problem (λ p. and_then other.0 (λ proof. Ok (checks p proof)))) refused.made;
+      made = ap (λ part. and_then part (more other.0)) refused.made;
     }
 
-pub judge_refused : (files : Option Files) (one two : List ℕ) (rule : List Bool) (demands : Demands) (fault : Fault)
-    → OneInput files one SEARCH_LIMIT (λ first. and_then first (problem_in rule demands)) (Err fault) → Asks (Judge one two rule demands) files (Err fault)
-judge_refused files one two rule demands fault refused =
-    let other = some_input files two SEARCH_LIMIT in
-    record {
-      first = refused.input;
-      second = other.0;
-      first_is = refused.input_is;
-      second_is = other.1;
-      made = ap (λ problem. and_then problem (λ p. and_then (and_then other.0 history_in) (λ history. Ok (judges p history)))) refused.made;
-    }
+-- and a refusal of the only input is the question's
+pub only_refused : {Y : Type 0} (files : Option Files) (one : List ℕ) (limit : ℕ) (make : Result (List ℕ) Fault → Result Y Fault) (more : Y → Result Question Fault) (fault : Fault)
+    → MadeOfOne files one limit make (Err fault) → MadeOfOne files one limit (λ input. and_then (make input) more) (Err fault)
+only_refused files one limit make more fault refused =
+    record { input = refused.input; input_is = refused.input_is; made = ap (λ part. and_then part more) refused.made }

@@ -1,5 +1,5 @@
 -- How a run ends: what relates the outside at its exit to the outside at its entry, by cases.
-use Rattle.std.specs.Prelude.{◌≡◌, ◌≤◌, ◌⊎◌, ℕ, List, length, take, Option, None, Some, Result, Ok, Err}
+use Rattle.std.specs.Prelude.{◌≡◌, ◌≤◌, ◌⊎◌, ℕ, true, false, List, length, take, Option, None, Some, Result, Ok, Err}
 use Rattle.std.specs.Io.KnownBytes.{append_known}
 use Rattle.std.specs.FinMap as map
 use Rattle.std.specs.Option.{option_map}
@@ -53,15 +53,15 @@ pub record LacksMemory (before after : Moment) (status : Status) : Type 0 where
   pub out : after.out ≡ before.out
   pub err : GrewBy (fault_line faults.Memory) before.err after.err
 
--- a fault of opening or of reading
-abbrev pub IsOfInput : Fault → Type 0
-IsOfInput (faults.Outside outside.OpenFailed) = Unit {0}
-IsOfInput (faults.Outside outside.ReadFailed) = Unit {0}
-IsOfInput fault = ⊥
+-- a fault of opening, after which there is no current input, or one of reading, after which there is one
+abbrev pub IsOfInput : Fault → ShelfMoment → Type 0
+IsOfInput (faults.Outside outside.OpenFailed) after = after.has_input ≡ false
+IsOfInput (faults.Outside outside.ReadFailed) after = after.has_input ≡ true
+IsOfInput fault after = ⊥
 
 -- an input failed: a call of the shelf did
 pub record InputFailed (fault : Fault) (before after : Moment) (status : Status) : Type 0 where
-  pub of_input : IsOfInput fault
+  pub of_input : IsOfInput fault after.shelf
   pub status_is : status ≡ statuses.Outside
   pub shelf : KeepsFiles before.shelf after.shelf
   pub shelf_counts : Counts before.shelf.faults after.shelf.faults

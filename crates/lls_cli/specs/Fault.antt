@@ -6,6 +6,9 @@ use Rattle.lls_words.specs.declared.error.WordsError.{WordsError}
 use Rattle.lls_words.specs.declared.error.WordsError.TheVariants as words
 use Rattle.lls_words.specs.Texts.{words_error_text}
 use Rattle.lls_search_file.specs.Faults.{is_limit, posed_error_text}
+use Rattle.lls_cnf.specs.declared.dimacs_error.DimacsError.{DimacsError}
+use Rattle.lls_cnf.specs.declared.dimacs_error.DimacsError.TheVariants as dimacs
+use Rattle.lls_cnf.specs.DimacsError as dimacs_texts
 use Rattle.lls_problem.specs.declared.demands.DemandError.{DemandError}
 use Rattle.lls_problem.specs.declared.demands.DemandError.TheVariants as demands
 use Rattle.lls_problem.specs.Texts.{demand_error_text}
@@ -26,6 +29,12 @@ abbrev pub demand_status : DemandError → Status
 demand_status (demands.Counters n) = statuses.Limit
 demand_status error = statuses.Content
 
+-- too many variables pass a limit; any other fault is one of grammar
+abbrev pub dimacs_status : DimacsError → Status
+dimacs_status dimacs.Memory = statuses.Memory
+dimacs_status (dimacs.TooManyVariables n) = statuses.Limit
+dimacs_status error = statuses.Content
+
 abbrev pub words_status : WordsError → Status
 words_status words.Memory = statuses.Memory
 words_status error = statuses.Words
@@ -34,6 +43,7 @@ abbrev pub status_of : Fault → Status
 status_of (faults.Words error) = words_status error
 status_of (faults.Posed error) = posed_status error
 status_of (faults.Demands error) = demand_status error
+status_of (faults.Dimacs error) = dimacs_status error
 status_of (faults.NotPlain t y x) = statuses.Content
 status_of (faults.Outside fault) = statuses.Outside
 status_of (faults.TooLong limit) = statuses.Limit
@@ -43,6 +53,11 @@ status_of faults.Memory = statuses.Memory
 abbrev pub demand_kind : DemandError → List ℕ
 demand_kind (demands.Counters n) = codes "limit: "
 demand_kind error = codes "content: "
+
+-- and a text that is no formula
+abbrev pub dimacs_kind : DimacsError → List ℕ
+dimacs_kind (dimacs.TooManyVariables n) = codes "limit: "
+dimacs_kind error = codes "content: "
 
 abbrev pub outside_text : OutsideFault → List ℕ
 outside_text outside.NoFile = codes "NoFile"
@@ -57,6 +72,7 @@ abbrev pub fault_text : Fault → List ℕ
 fault_text (faults.Words error) = codes "words: " ++ words_error_text error
 fault_text (faults.Posed error) = (if is_limit error then codes "limit: " else codes "content: ") ++ posed_error_text error
 fault_text (faults.Demands error) = demand_kind error ++ demand_error_text error
+fault_text (faults.Dimacs error) = dimacs_kind error ++ dimacs_texts.fault_text error
 fault_text (faults.NotPlain t y x) = codes "content: NotPlain " ++ decimal t ++ codes " " ++ decimal y ++ codes " " ++ decimal x
 fault_text (faults.Outside fault) = codes "outside: " ++ outside_text fault
 fault_text (faults.TooLong limit) = codes "limit: TooLong " ++ decimal limit

@@ -2,9 +2,10 @@
 use Rattle.std.specs.Prelude.{ℕ, Bool, List, Option}
 use Rattle.lls_base.specs.Shelf.{Contents, Files, known_files}
 
--- what a shelf tells, whether it has a current output, and how often its calls have failed
+-- what a shelf tells, whether it has a current input and a current output, and how often its calls have failed
 pub record ShelfMoment : Type 0 where
   pub told : Option Contents
+  pub has_input : Bool
   pub has_output : Bool
   pub faults : ℕ
 
@@ -19,8 +20,9 @@ pub record Moment : Type 0 where
   pub out : SinkMoment
   pub err : SinkMoment
 
-abbrev pub shelf_moment : Option Contents → Bool → ℕ → ShelfMoment
-shelf_moment told has_output faults = record { told = told; has_output = has_output; faults = faults }
+abbrev pub shelf_moment : Option Contents → Bool → Bool → ℕ → ShelfMoment
+shelf_moment told has_input has_output faults =
+    record { told = told; has_input = has_input; has_output = has_output; faults = faults }
 
 abbrev pub sink_moment : Option (List ℕ) → ℕ → SinkMoment
 sink_moment written faults = record { written = written; faults = faults }

@@ -1,9 +1,13 @@
 -- What a job asks, once its inputs are read, and the first refusal where they ask nothing. This file alone knows the
 -- order of refusals: the first input, its length, its grammar and its demands; then the second, its length and its grammar.
-use Rattle.std.specs.Prelude.{◌≡◌, ℕ, nat_lt, Bool, List, length, Option, None, Some, Result, Ok, Err, if◌then◌else◌}
+use Rattle.std.specs.Prelude.{◌≡◌, ◌≤◌, ℕ, nat_lt, Bool, List, length, Option, None, Some, Result, Ok, Err, if◌then◌else◌}
 use Rattle.std.specs.FinMap as map
 use Rattle.lls_base.specs.Results.{and_then}
 use Rattle.lls_base.specs.Shelf.{Files}
+use Rattle.lls_lit.specs.Formula.{Cnf}
+use Rattle.lls_cnf.specs.declared.dimacs_error.DimacsError.{DimacsError}
+use Rattle.lls_cnf.specs.declared.read.TheConstants.{MOST_DIMACS_BYTES}
+use Rattle.lls_cnf.specs.Dimacs.{dimacs}
 use Rattle.lls_grid.specs.History.{History}
 use Rattle.lls_search_file.specs.declared.error.PosedError.{PosedError}
 use Rattle.lls_search_file.specs.declared.plain.HistoryError.{HistoryError}
@@ -21,10 +25,13 @@ use Rattle.lls_cli.specs.declared.fault.Fault.TheVariants as faults
 use Rattle.lls_cli.specs.declared.fault.OutsideFault.TheVariants as outside
 use Rattle.lls_cli.specs.declared.input.TheConstants.{SEARCH_LIMIT, PROOF_LIMIT}
 
--- check this proof's bytes against this problem; judge this history by this problem; print this rule
+-- check this proof's bytes against this problem, or against this formula; judge this history by this problem; print this
+-- problem's formula; print this rule
 pub data Question : Type 0 where
   checks : PosedProblem → List ℕ → Question
+  refutes : Cnf → List ℕ → Question
   judges : PosedProblem → History → Question
+  encodes : PosedProblem → Question
   prints : List Bool → Question
 
 -- the bytes of an input of at most `limit` bytes
@@ -59,7 +66,15 @@ plain_in (Err plain.Memory) = Err faults.Memory
 abbrev pub history_in : List ℕ → Result History Fault
 history_in bytes = plain_in (plain_of bytes)
 
--- a check by its two inputs, and a judging
+-- the formula that the bytes of a formula's file write
+abbrev pub formula_read : Result Cnf DimacsError → Result Cnf Fault
+formula_read (Ok formula) = Ok formula
+formula_read (Err error) = Err (faults.Dimacs error)
+
+abbrev pub formula_in : List ℕ → Result Cnf Fault
+formula_in bytes = formula_read (dimacs bytes)
+
+-- what two inputs ask, or one: a check, a judging, the text of a formula
 abbrev pub check_question : List Bool → Demands → Result (List ℕ) Fault → Result (List ℕ) Fault → Result Question Fault
 check_question rule demands first second =
     and_then (and_then first (problem_in rule demands)) (λ problem. and_then second (λ proof. Ok (checks problem proof)))
@@ -68,17 +83,27 @@ abbrev pub judge_question : List Bool → Demands → Result (List ℕ) Fault �
 judge_question rule demands first second =
     and_then (and_then first (problem_in rule demands)) (λ problem. and_then (and_then second history_in) (λ history. Ok (judges problem history)))
 
+abbrev pub refute_question : Result (List ℕ) Fault → Result (List ℕ) Fault → Result Question Fault
+refute_question first second =
+    and_then (and_then first formula_in) (λ formula. and_then second (λ proof. Ok (refutes formula proof)))
+
+abbrev pub encode_question : List Bool → Demands → Result (List ℕ) Fault → Result Question Fault
+encode_question rule demands input = and_then (and_then input (problem_in rule demands)) (λ problem. Ok (encodes problem))
+
 -- what a job asks of these files, or the first refusal
 abbrev pub question_of : Job → Files → Result Question Fault
 question_of (jobs.Check search_file proof rule demands) files =
     check_question rule demands (input_of files search_file SEARCH_LIMIT) (input_of files proof PROOF_LIMIT)
 question_of (jobs.Judge search_file pattern rule demands) files =
     judge_question rule demands (input_of files search_file SEARCH_LIMIT) (input_of files pattern SEARCH_LIMIT)
+question_of (jobs.Cnf search_file rule demands) files = encode_question rule demands (input_of files search_file SEARCH_LIMIT)
+question_of (jobs.Lrat formula proof) files =
+    refute_question (input_of files formula MOST_DIMACS_BYTES) (input_of files proof PROOF_LIMIT)
 question_of (jobs.Rule rule) files = Ok (prints rule)
 
 -- what an input can be read as, whatever its file says
 abbrev pub CanBeRead : ℕ → Result (List ℕ) Fault → Type 0
-CanBeRead limit (Ok bytes) = Unit {0}
+CanBeRead limit (Ok bytes) = length bytes ≤ limit
 CanBeRead limit (Err (faults.Outside outside.NoFile)) = Unit {0}
 CanBeRead limit (Err (faults.TooLong n)) = n ≡ limit
 CanBeRead limit (Err fault) = ⊥
@@ -88,7 +113,13 @@ abbrev pub IsInput : Option Files → List ℕ → ℕ → Result (List ℕ) Fau
 IsInput None name limit read = CanBeRead limit read
 IsInput (Some files) name limit read = read ≡ input_of files name limit
 
--- two inputs, and what they make
+-- one input, and what it makes
+pub record MadeOfOne {Y : Type 0} (files : Option Files) (name : List ℕ) (limit : ℕ) (make : Result (List ℕ) Fault → Result Y Fault) (value : Result Y Fault) : Type 0 where
+  pub input : Result (List ℕ) Fault
+  pub input_is : IsInput files name limit input
+  pub made : value ≡ make input
+
+-- two inputs, and what they ask
 pub record MadeOf (files : Option Files) (one : List ℕ) (one_limit : ℕ) (two : List ℕ) (two_limit : ℕ) (make : Result (List ℕ) Fault → Result (List ℕ) Fault → Result Question Fault) (question : Result Question Fault) : Type 0 where
   pub first : Result (List ℕ) Fault
   pub second : Result (List ℕ) Fault
@@ -102,4 +133,6 @@ Asks (jobs.Check search_file proof rule demands) files question =
     MadeOf files search_file SEARCH_LIMIT proof PROOF_LIMIT (check_question rule demands) question
 Asks (jobs.Judge search_file pattern rule demands) files question =
     MadeOf files search_file SEARCH_LIMIT pattern SEARCH_LIMIT (judge_question rule demands) question
+Asks (jobs.Cnf search_file rule demands) files question = MadeOfOne files search_file SEARCH_LIMIT (encode_question rule demands) question
+Asks (jobs.Lrat formula proof) files question = MadeOf files formula MOST_DIMACS_BYTES proof PROOF_LIMIT refute_question question
 Asks (jobs.Rule rule) files question = question ≡ Ok (prints rule)

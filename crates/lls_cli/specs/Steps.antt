@@ -1,8 +1,7 @@
 -- For private contracts alone: the steps of a run, from reading an input to giving an answer.
-use Rattle.std.specs.Prelude.{◌≡◌, ◌≤◌, ◌⊎◌, ℕ, List, length, take, Option, Some, Result, Ok, Err, IfOk, IfErr}
+use Rattle.std.specs.Prelude.{◌≡◌, ◌≤◌, ◌⊎◌, ℕ, true, false, List, length, take, Option, None, Some, Result, Ok, Err, IfOk, IfErr}
 use Rattle.std.specs.Io.KnownBytes.{append_known}
 use Rattle.lls_base.specs.Faults.{Counts, Rose}
-use Rattle.lls_base.specs.Shelf.{Files}
 use Rattle.lls_base.specs.declared.reading.ReadError.{ReadError}
 use Rattle.lls_base.specs.declared.reading.ReadError.TheVariants as reads
 use Rattle.lls_base.specs.declared.writing.FileFault.{FileFault}
@@ -14,7 +13,7 @@ use Rattle.lls_cli.specs.declared.fault.OutsideFault.TheVariants as outside
 use Rattle.lls_cli.specs.declared.status.Status.{Status}
 use Rattle.lls_cli.specs.declared.status.Status.TheVariants as statuses
 use Rattle.lls_cli.specs.Fault.{fault_line, status_of}
-use Rattle.lls_cli.specs.Question.{Question, checks, judges, prints, IsInput}
+use Rattle.lls_cli.specs.Question.{Question, prints}
 use Rattle.lls_cli.specs.Answer.{GivenAnswer, NamedFile}
 use Rattle.lls_cli.specs.Moment.{ShelfMoment, SinkMoment, Moment, files_at}
 use Rattle.lls_cli.specs.Ends.{GrewBy, KeepsFiles, LeavesPart, Delivered, FileFailed, OutputFailed, End, refused, lacked, input_failed, answered, file_failed, output_failed}
@@ -22,8 +21,8 @@ use Rattle.lls_cli.specs.Ends.{GrewBy, KeepsFiles, LeavesPart, Delivered, FileFa
 -- why reading stopped: for want of memory; since a call of the shelf failed; or for what the inputs say, and no call failed
 abbrev pub Stops : Fault → (Fault → Type 0) → ShelfMoment → ShelfMoment → Type 0
 Stops faults.Memory Says before after = Unit {0}
-Stops (faults.Outside outside.OpenFailed) Says before after = Rose before.faults after.faults
-Stops (faults.Outside outside.ReadFailed) Says before after = Rose before.faults after.faults
+Stops (faults.Outside outside.OpenFailed) Says before after = Rose before.faults after.faults × (after.has_input ≡ false)
+Stops (faults.Outside outside.ReadFailed) Says before after = Rose before.faults after.faults × (after.has_input ≡ true)
 Stops (faults.Outside outside.CreateFailed) Says before after = ⊥
 Stops (faults.Outside outside.WriteFailed) Says before after = ⊥
 Stops (faults.Outside outside.OutFailed) Says before after = ⊥
@@ -36,12 +35,6 @@ pub record Reads {X Y : Type 0} (view : X → Y) (Says : Result Y Fault → Type
   pub counts : Counts before.faults after.faults
   pub ok : IfOk result (λ value. Says (Ok (view value)) × (after.faults ≡ before.faults))
   pub err : IfErr result (λ fault. Stops fault (λ f. Says (Err f)) before after)
-
--- one input, and what it makes
-pub record OneInput {Y : Type 0} (files : Option Files) (name : List ℕ) (limit : ℕ) (make : Result (List ℕ) Fault → Result Y Fault) (value : Result Y Fault) : Type 0 where
-  pub input : Result (List ℕ) Fault
-  pub input_is : IsInput files name limit input
-  pub made : value ≡ make input
 
 -- the fault of an input that wasn't read
 abbrev pub input_fault : ReadError → Fault
@@ -93,8 +86,12 @@ IsDelivery answer before after status lacked = ⊥
 IsDelivery answer before after status (refused fault) = ⊥
 IsDelivery answer before after status (input_failed fault) = ⊥
 
--- printing a rule leaves the shelf alone
+-- an answer without a file leaves the shelf alone
+abbrev pub LeavesAlone : Option NamedFile → ShelfMoment → ShelfMoment → Type 0
+LeavesAlone None before after = after ≡ before
+LeavesAlone (Some file) before after = Unit {0}
+
+-- and so does the printing of a rule
 abbrev pub LeavesPrinting : Question → ShelfMoment → ShelfMoment → Type 0
 LeavesPrinting (prints rule) before after = after ≡ before
-LeavesPrinting (checks problem proof) before after = Unit {0}
-LeavesPrinting (judges problem history) before after = Unit {0}
+LeavesPrinting question before after = Unit {0}

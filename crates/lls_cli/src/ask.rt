@@ -8,7 +8,7 @@ ghost use Rattle.lls_cli.specs.Seen.{seen_question, CanPrint};
 ghost use Rattle.lls_cli.specs.Steps.{Reads};
 
 use crate::fault::Fault;
-use crate::input::{PROOF_LIMIT, read_input, read_pattern, read_problem};
+use crate::input::{PROOF_LIMIT, read_formula, read_input, read_pattern, read_problem};
 use crate::question::Question;
 use lls_base::Shelf;
 use lls_words::Job;
@@ -46,6 +46,19 @@ pub fn ask<S: Shelf>(alloc: Global, shelf: &mut S, job: Job) -> Result<Question,
             let problem = read_problem(alloc, shelf, &search, rule, demands)?;
             let history = read_pattern(alloc, shelf, &pattern)?;
             Ok(Question::Judge { problem, history })
+        }
+        Job::Cnf {
+            search,
+            rule,
+            demands,
+        } => {
+            let problem = read_problem(alloc, shelf, &search, rule, demands)?;
+            Ok(Question::Encode { problem })
+        }
+        Job::Lrat { formula, proof } => {
+            let formula = read_formula(alloc, shelf, &formula)?;
+            let proof = read_input(alloc, shelf, &proof, PROOF_LIMIT)?;
+            Ok(Question::Refute { formula, proof })
         }
         Job::Rule { rule } => Ok(Question::Print { rule }),
     }

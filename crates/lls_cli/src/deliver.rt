@@ -6,7 +6,7 @@ ghost use Rattle.lls_cli.specs.Fault.{fault_line};
 ghost use Rattle.lls_cli.specs.Moment.{moment, shelf_moment, sink_moment};
 ghost use Rattle.lls_cli.specs.Ends.{End, GrewBy, WroteFile};
 ghost use Rattle.lls_cli.specs.Seen.{seen_answer, seen_file};
-ghost use Rattle.lls_cli.specs.Steps.{Gave, IsDelivery, Says, Unwritten, file_fault};
+ghost use Rattle.lls_cli.specs.Steps.{Gave, IsDelivery, LeavesAlone, Says, Unwritten, file_fault};
 
 use crate::answer::{Answer, AnswerFile};
 use crate::fault::{Fault, OutsideFault};
@@ -67,6 +67,9 @@ fn write_answer_file<S: Shelf>(file: &Option<AnswerFile>, shelf: &mut S) -> Resu
     ensures written { OnOk result (WroteFile (option_map seen_file file.now)
         (shelf_moment (S.told shelf.old) (S.has_input shelf.old) (S.has_output shelf.old) (S.faults shelf.old))
         (shelf_moment (S.told shelf.new) (S.has_input shelf.new) (S.has_output shelf.new) (S.faults shelf.new))) }
+    ensures shelf { LeavesAlone (option_map seen_file file.now)
+        (shelf_moment (S.told shelf.old) (S.has_input shelf.old) (S.has_output shelf.old) (S.faults shelf.old))
+        (shelf_moment (S.told shelf.new) (S.has_input shelf.new) (S.has_output shelf.new) (S.faults shelf.new)) }
     ensures unwritten { IfErr result (λ fault. Unwritten (option_map seen_file file.now) fault
         (shelf_moment (S.told shelf.old) (S.has_input shelf.old) (S.has_output shelf.old) (S.faults shelf.old))
         (shelf_moment (S.told shelf.new) (S.has_input shelf.new) (S.has_output shelf.new) (S.faults shelf.new))) }
@@ -81,7 +84,7 @@ fn write_answer_file<S: Shelf>(file: &Option<AnswerFile>, shelf: &mut S) -> Resu
 }
 
 /// Gives the text of an answer. Where the standard output fails, the standard error says so.
-pub fn give_text<O: Sink, E: Sink>(status: Status, text: &[u8], out: &mut O, err: &mut E) -> Status
+fn give_text<O: Sink, E: Sink>(status: Status, text: &[u8], out: &mut O, err: &mut E) -> Status
     ensures { Gave status text.now
         (sink_moment (O.written out.old) (O.faults out.old)) (sink_moment (O.written out.new) (O.faults out.new))
         (sink_moment (E.written err.old) (E.faults err.old)) (sink_moment (E.written err.new) (E.faults err.new)) result }
@@ -99,10 +102,13 @@ pub fn deliver<S: Shelf, O: Sink, E: Sink>(
     out: &mut O,
     err: &mut E,
 ) -> Status
-    ensures { (end : End) × IsDelivery (seen_answer answer.now)
+    ensures end { (end : End) × IsDelivery (seen_answer answer.now)
         (moment (shelf_moment (S.told shelf.old) (S.has_input shelf.old) (S.has_output shelf.old) (S.faults shelf.old)) (sink_moment (O.written out.old) (O.faults out.old)) (sink_moment (E.written err.old) (E.faults err.old)))
         (moment (shelf_moment (S.told shelf.new) (S.has_input shelf.new) (S.has_output shelf.new) (S.faults shelf.new)) (sink_moment (O.written out.new) (O.faults out.new)) (sink_moment (E.written err.new) (E.faults err.new)))
         result end }
+    ensures shelf { LeavesAlone (seen_answer answer.now).file
+        (shelf_moment (S.told shelf.old) (S.has_input shelf.old) (S.has_output shelf.old) (S.faults shelf.old))
+        (shelf_moment (S.told shelf.new) (S.has_input shelf.new) (S.has_output shelf.new) (S.faults shelf.new)) }
 {
     match write_answer_file(&answer.file, shelf) {
         Ok(()) => give_text(answer.status, &answer.text, out, err),

@@ -4,6 +4,7 @@ ghost use Rattle.lls_cli.specs.Fault.{status_of, fault_line};
 
 use crate::status::Status;
 use lls_base::Memory;
+use lls_cnf::DimacsError;
 use lls_problem::DemandError;
 use lls_search_file::PosedError;
 use lls_words::WordsError;
@@ -74,6 +75,8 @@ pub enum Fault {
     Posed(PosedError),
     /// The demands don't fit the search file, or need too many counters.
     Demands(DemandError),
+    /// The file of a formula isn't in its grammar, or declares too many variables.
+    Dimacs(DimacsError),
     /// The cell of this generation, row and column of the pattern is the first that is marked, or neither
     /// dead nor live.
     NotPlain(u64, u64, u64),
@@ -107,6 +110,13 @@ impl fmt::Display for Fault {
                     write!(f, "content: {error}")
                 }
             }
+            Fault::Dimacs(error) => {
+                if let DimacsError::TooManyVariables(_) = error {
+                    write!(f, "limit: {error}")
+                } else {
+                    write!(f, "content: {error}")
+                }
+            }
             Fault::NotPlain(t, y, x) => write!(f, "content: NotPlain {t} {y} {x}"),
             Fault::Outside(fault) => write!(f, "outside: {fault}"),
             Fault::TooLong(limit) => write!(f, "limit: TooLong {limit}"),
@@ -134,6 +144,9 @@ impl Fault {
             }
             Fault::Demands(DemandError::Counters(_)) => Status::Limit,
             Fault::Demands(_) => Status::Content,
+            Fault::Dimacs(DimacsError::Memory) => Status::Memory,
+            Fault::Dimacs(DimacsError::TooManyVariables(_)) => Status::Limit,
+            Fault::Dimacs(_) => Status::Content,
             Fault::NotPlain(_, _, _) => Status::Content,
             Fault::Outside(_) => Status::Outside,
             Fault::TooLong(_) => Status::Limit,

@@ -1,13 +1,14 @@
 // The inputs of a job.
-ghost use Rattle.std.specs.Prelude.{◌≡◌};
+ghost use Rattle.std.specs.Prelude.{◌≡◌, ◌≤◌, length, IfOk};
 ghost use Rattle.lls_base.specs.Results.{and_then, Gives};
 ghost use Rattle.lls_search_file.specs.Reading.{posed_of};
 ghost use Rattle.lls_cli.specs.Moment.{shelf_moment, files_at};
-ghost use Rattle.lls_cli.specs.Question.{IsInput, posed_in, problem_in, history_in};
-ghost use Rattle.lls_cli.specs.Steps.{Reads, OneInput, input_fault};
+ghost use Rattle.lls_cli.specs.Question.{IsInput, MadeOfOne, posed_in, problem_in, formula_in, history_in};
+ghost use Rattle.lls_cli.specs.Steps.{Reads, input_fault};
 
 use crate::fault::{Fault, OutsideFault};
 use lls_base::{Name, ReadError, Shelf, read_all};
+use lls_cnf::{DimacsError, Formula, MOST_DIMACS_BYTES, read_dimacs};
 use lls_grid::History;
 use lls_problem::{Demands, Problem, make_problem};
 use lls_rule::Rule;
@@ -40,9 +41,10 @@ pub fn read_input<S: Shelf>(
     name: &Name,
     limit: u64,
 ) -> Result<Vec<u8>, Fault>
-    ensures { Reads (λ bytes. bytes.items) (IsInput (files_at (shelf_moment (S.told shelf.old) (S.has_input shelf.old) (S.has_output shelf.old) (S.faults shelf.old))) name.now limit) result
+    ensures read { Reads (λ bytes. bytes.items) (IsInput (files_at (shelf_moment (S.told shelf.old) (S.has_input shelf.old) (S.has_output shelf.old) (S.faults shelf.old))) name.now limit) result
         (shelf_moment (S.told shelf.old) (S.has_input shelf.old) (S.has_output shelf.old) (S.faults shelf.old))
         (shelf_moment (S.told shelf.new) (S.has_input shelf.new) (S.has_output shelf.new) (S.faults shelf.new)) }
+    ensures fits { IfOk result (λ bytes. length bytes.items ≤ limit) }
 {
     let mut bytes = Vec::new(alloc);
     match read_all(shelf, name, limit, &mut bytes) {
@@ -83,13 +85,40 @@ pub fn read_problem<S: Shelf>(
     rule: Rule,
     demands: Demands,
 ) -> Result<Problem, Fault>
-    ensures { Reads (λ problem. problem) (OneInput (files_at (shelf_moment (S.told shelf.old) (S.has_input shelf.old) (S.has_output shelf.old) (S.faults shelf.old))) search.now SEARCH_LIMIT
+    ensures { Reads (λ problem. problem) (MadeOfOne (files_at (shelf_moment (S.told shelf.old) (S.has_input shelf.old) (S.has_output shelf.old) (S.faults shelf.old))) search.now SEARCH_LIMIT
         (λ first. and_then first (problem_in rule demands))) result
         (shelf_moment (S.told shelf.old) (S.has_input shelf.old) (S.has_output shelf.old) (S.faults shelf.old))
         (shelf_moment (S.told shelf.new) (S.has_input shelf.new) (S.has_output shelf.new) (S.faults shelf.new)) }
 {
     let bytes = read_input(alloc, shelf, search, SEARCH_LIMIT)?;
     problem_input(alloc, &bytes, rule, demands)
+}
+
+/// The formula that the bytes of a formula's file write.
+fn formula_input(alloc: Global, bytes: &[u8]) -> Result<Formula, Fault>
+    requires { length bytes.now ≤ MOST_DIMACS_BYTES }
+    ensures { Gives Fault.Memory (λ formula. formula) result (formula_in bytes.now) }
+{
+    match read_dimacs(alloc, bytes) {
+        Ok(formula) => Ok(formula),
+        Err(DimacsError::Memory) => Err(Fault::Memory),
+        Err(error) => Err(Fault::Dimacs(error)),
+    }
+}
+
+/// The formula of a file in DIMACS CNF.
+pub fn read_formula<S: Shelf>(
+    alloc: Global,
+    shelf: &mut S,
+    formula: &Name,
+) -> Result<Formula, Fault>
+    ensures { Reads (λ formula. formula) (MadeOfOne (files_at (shelf_moment (S.told shelf.old) (S.has_input shelf.old) (S.has_output shelf.old) (S.faults shelf.old))) formula.now MOST_DIMACS_BYTES
+        (λ first. and_then first formula_in)) result
+        (shelf_moment (S.told shelf.old) (S.has_input shelf.old) (S.has_output shelf.old) (S.faults shelf.old))
+        (shelf_moment (S.told shelf.new) (S.has_input shelf.new) (S.has_output shelf.new) (S.faults shelf.new)) }
+{
+    let bytes = read_input(alloc, shelf, formula, MOST_DIMACS_BYTES as u64)?;
+    formula_input(alloc, &bytes)
 }
 
 /// The history of a pattern's bytes.
@@ -110,7 +139,7 @@ pub fn read_pattern<S: Shelf>(
     shelf: &mut S,
     pattern: &Name,
 ) -> Result<History, Fault>
-    ensures { Reads (λ history. history) (OneInput (files_at (shelf_moment (S.told shelf.old) (S.has_input shelf.old) (S.has_output shelf.old) (S.faults shelf.old))) pattern.now SEARCH_LIMIT
+    ensures { Reads (λ history. history) (MadeOfOne (files_at (shelf_moment (S.told shelf.old) (S.has_input shelf.old) (S.has_output shelf.old) (S.faults shelf.old))) pattern.now SEARCH_LIMIT
         (λ second. and_then second history_in)) result
         (shelf_moment (S.told shelf.old) (S.has_input shelf.old) (S.has_output shelf.old) (S.faults shelf.old))
         (shelf_moment (S.told shelf.new) (S.has_input shelf.new) (S.has_output shelf.new) (S.faults shelf.new)) }

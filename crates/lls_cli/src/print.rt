@@ -1,23 +1,36 @@
-// The printing of a rule.
-ghost use Rattle.std.specs.Prelude.{◌≡◌, ◌<◌, ◌^◌, IfOk};
+// The texts of formulas and of rules.
+ghost use Rattle.std.specs.Prelude.{IfOk};
 ghost use Rattle.lls_hensel.specs.Isotropy.{IsIsotropic};
-ghost use Rattle.lls_hensel.specs.Printing.{rule_text};
-ghost use Rattle.lls_cli.specs.Answer.{said};
-ghost use Rattle.lls_cli.specs.Ends.{End, IsEndOf};
-ghost use Rattle.lls_cli.specs.Moment.{ShelfMoment, moment, sink_moment};
-ghost use Rattle.lls_cli.specs.Question.{prints};
+ghost use Rattle.lls_cli.specs.Answer.{IsAnswer};
+ghost use Rattle.lls_cli.specs.Question.{encodes, prints};
+ghost use Rattle.lls_cli.specs.Seen.{seen_answer};
 
-use crate::deliver::{give_text, lack};
+use crate::answer::Answer;
 use crate::status::Status;
-use lls_base::{Memory, Sink};
+use lls_base::Memory;
+use lls_cnf::print_dimacs;
+use lls_encode::encode;
 use lls_hensel::{PrintRuleError, print_rule};
+use lls_problem::Problem;
 use lls_rule::Rule;
 use std::alloc::Global;
 
+/// The formula of a problem in DIMACS CNF.
+pub fn print_formula(alloc: Global, problem: &Problem) -> Result<Answer, Memory>
+    ensures { IfOk result (λ answer. IsAnswer (encodes problem.now) (seen_answer answer)) }
+{
+    let formula = encode(alloc, problem)?;
+    Ok(Answer {
+        status: Status::Done,
+        text: print_dimacs(alloc, &formula)?,
+        file: None,
+    })
+}
+
 /// The canonical text of a rule, as a line.
-fn line(alloc: Global, rule: &Rule) -> Result<Vec<u8>, Memory>
+pub fn print_line(alloc: Global, rule: &Rule) -> Result<Answer, Memory>
     requires { IsIsotropic rule.now }
-    ensures { IfOk result (λ text. text.items ≡ (said Status.Done (rule_text rule.now)).text) }
+    ensures { IfOk result (λ answer. IsAnswer (prints rule.now) (seen_answer answer)) }
 {
     let mut text = match print_rule(alloc, rule) {
         Ok(text) => text,
@@ -25,19 +38,9 @@ fn line(alloc: Global, rule: &Rule) -> Result<Vec<u8>, Memory>
         Err(PrintRuleError::Memory) => return Err(Memory),
     };
     text.push(b'\n')?;
-    Ok(text)
-}
-
-/// Gives the canonical text of a rule. It needs no shelf: whatever is seen of one stays as it is.
-pub fn print<O: Sink, E: Sink>(alloc: Global, rule: &Rule, out: &mut O, err: &mut E) -> Status
-    requires { IsIsotropic rule.now }
-    ensures { (shelf : ShelfMoment) → shelf.faults < 2 ^ 64 → (end : End) × IsEndOf (prints rule.now)
-        (moment shelf (sink_moment (O.written out.old) (O.faults out.old)) (sink_moment (E.written err.old) (E.faults err.old)))
-        (moment shelf (sink_moment (O.written out.new) (O.faults out.new)) (sink_moment (E.written err.new) (E.faults err.new)))
-        result end }
-{
-    match line(alloc, rule) {
-        Ok(text) => give_text(Status::Done, &text, out, err),
-        Err(Memory) => lack(err),
-    }
+    Ok(Answer {
+        status: Status::Done,
+        text,
+        file: None,
+    })
 }

@@ -1,28 +1,43 @@
 // The program: from words to a status.
-ghost use Rattle.std.specs.Prelude.{◌≡◌, ◌⊎◌, map, string_bytes, IsErr};
+ghost use Rattle.std.specs.Prelude.{◌≡◌, ◌⊎◌, map, string_bytes, IfOk, IsErr};
 ghost use Rattle.lls_base.specs.Shelf.{known_files};
 ghost use Rattle.lls_words.specs.Job.{job_of};
-ghost use Rattle.lls_cli.specs.Answer.{YesHolds, NoHolds};
+ghost use Rattle.lls_cli.specs.Answer.{IsAnswer, YesHolds, NoHolds};
 ghost use Rattle.lls_cli.specs.Claims.{CountsNeverFall, HasCause, IsSilent, IsYesOrNo, NothingFailed, OfQuestion};
 ghost use Rattle.lls_cli.specs.Ends.{End, IsEnd, IsEndOf};
 ghost use Rattle.lls_cli.specs.Moment.{moment, shelf_moment, sink_moment};
-ghost use Rattle.lls_cli.specs.Seen.{seen_question, CanPrint};
+ghost use Rattle.lls_cli.specs.Seen.{seen_answer, seen_question, CanPrint};
 ghost use Rattle.lls_cli.specs.Steps.{LeavesPrinting};
 
+use crate::answer::Answer;
 use crate::ask::ask;
-use crate::check::check;
-use crate::deliver::refuse;
+use crate::check::{check, refute};
+use crate::deliver::{deliver, lack, refuse};
 use crate::fault::Fault;
 use crate::judge::judge;
-use crate::print::print;
+use crate::print::{print_formula, print_line};
 use crate::question::Question;
 use crate::status::Status;
-use lls_base::{Shelf, Sink};
+use lls_base::{Memory, Shelf, Sink};
 use lls_words::read_job;
 use std::alloc::Global;
 
+/// The answer to a question.
+fn answer(alloc: Global, question: &Question) -> Result<Answer, Memory>
+    requires { CanPrint question.now }
+    ensures { IfOk result (λ answer. IsAnswer (seen_question question.now) (seen_answer answer)) }
+{
+    match question {
+        Question::Check { problem, proof } => check(alloc, problem, proof),
+        Question::Refute { formula, proof } => refute(alloc, formula, proof),
+        Question::Judge { problem, history } => judge(alloc, problem, history),
+        Question::Encode { problem } => print_formula(alloc, problem),
+        Question::Print { rule } => print_line(alloc, rule),
+    }
+}
+
 /// Answers a question, and gives the answer.
-fn answer<S: Shelf, O: Sink, E: Sink>(
+fn give_answer<S: Shelf, O: Sink, E: Sink>(
     alloc: Global,
     question: &Question,
     shelf: &mut S,
@@ -38,10 +53,9 @@ fn answer<S: Shelf, O: Sink, E: Sink>(
         (shelf_moment (S.told shelf.old) (S.has_input shelf.old) (S.has_output shelf.old) (S.faults shelf.old))
         (shelf_moment (S.told shelf.new) (S.has_input shelf.new) (S.has_output shelf.new) (S.faults shelf.new)) }
 {
-    match question {
-        Question::Check { problem, proof } => check(alloc, problem, proof, shelf, out, err),
-        Question::Judge { problem, history } => judge(alloc, problem, history, shelf, out, err),
-        Question::Print { rule } => print(alloc, rule, out, err),
+    match answer(alloc, question) {
+        Ok(answer) => deliver(&answer, shelf, out, err),
+        Err(Memory) => lack(err),
     }
 }
 
@@ -63,7 +77,7 @@ fn run_words<S: Shelf, O: Sink, E: Sink>(
         Err(error) => return refuse(alloc, Fault::from(error), err),
     };
     match ask(alloc, shelf, job) {
-        Ok(question) => answer(alloc, &question, shelf, out, err),
+        Ok(question) => give_answer(alloc, &question, shelf, out, err),
         Err(fault) => refuse(alloc, fault, err),
     }
 }
@@ -83,9 +97,9 @@ pub fn run<S: Shelf, O: Sink, E: Sink>(
         (moment (shelf_moment (S.told shelf.new) (S.has_input shelf.new) (S.has_output shelf.new) (S.faults shelf.new)) (sink_moment (O.written out.new) (O.faults out.new)) (sink_moment (E.written err.new) (E.faults err.new)))
         result end }
 
-    // What follows from it. The yes of a check says that the proof is accepted and no history is a solution, and that
-    // of a judging that the pattern is one. The no of a check says that the proof isn't accepted, and that of a
-    // judging that the pattern is no solution.
+    // What follows from it. The yes of a check says that the proof is accepted and no history is a solution, or no
+    // assignment satisfies the formula, and that of a judging that the pattern is a solution. The no of a check says
+    // that the proof isn't accepted, and that of a judging that the pattern is no solution.
     ensures yes { result ≡ Status.Done → OfQuestion YesHolds (job_of (map string_bytes words.now)) (known_files (S.told shelf.old)) }
     ensures no { result ≡ Status.Refused → OfQuestion NoHolds (job_of (map string_bytes words.now)) (known_files (S.told shelf.old)) }
 

@@ -1,6 +1,7 @@
 // Command lines over a shelf and sinks in memory.
 mod checks;
 mod faults;
+mod formulas;
 mod judging;
 mod outside;
 

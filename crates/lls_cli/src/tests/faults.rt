@@ -6,7 +6,7 @@ use std::process::Abort;
 use std::test::Fail;
 
 /// Runs a row whose fault goes to the standard error, behind `lls: ` and before an LF.
-fn faults(rt: &impl Abort, alloc: Global, row: Row) -> Result<(), Fail> {
+pub fn faults(rt: &impl Abort, alloc: Global, row: Row) -> Result<(), Fail> {
     let (words, f, p, status, text) = row;
     let words = words_of(alloc, words)?;
     let ended = run_over(alloc, &words, f.as_bytes(), p.as_bytes(), NOTHING)?;

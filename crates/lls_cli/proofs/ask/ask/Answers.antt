@@ -1,6 +1,9 @@
 -- A refusal of the first input is the job's.
+use Rattle.std.proofs.Common.{Ok}
 use Rattle.std.proofs.lemmas.Result.{err_from_is_err_and}
-use Rattle.lls_cli.proofs.Stopped.{Stops-along, check_refused, judge_refused}
+use Rattle.lls_base.specs.Results.{and_then}
+use Rattle.lls_cli.specs.Question.{checks, refutes, judges, encodes, problem_in, formula_in, history_in}
+use Rattle.lls_cli.proofs.Stopped.{Stops-along, first_refused, only_refused}
 use Rattle.lls_cli.proofs.ask.ask.Goals as goal
 
 pub returns-in_err-problem-in-Check-clause-read : goal.returns-in_err-problem-in-Check-clause-read
@@ -11,7 +14,7 @@ returns-in_err-problem-in-Check-clause-read g c =
       kept = read.kept;
       counts = read.counts;
       ok = tt;
-      err = Stops-along _ _ _ _ _ (check_refused _ _ c.in-Check.proof _ _ _) read.err;
+      err = Stops-along _ _ _ _ _ (first_refused _ _ c.in-Check.proof _ _ (λ first. and_then first (problem_in c.in-Check.rule c.in-Check.demands)) (λ second problem. and_then second (λ proof. Ok (checks problem proof))) _) read.err;
     }
 
 pub returns-in_err-problem-in-Judge-clause-read : goal.returns-in_err-problem-in-Judge-clause-read
@@ -22,5 +25,27 @@ returns-in_err-problem-in-Judge-clause-read g c =
       kept = read.kept;
       counts = read.counts;
       ok = tt;
-      err = Stops-along _ _ _ _ _ (judge_refused _ _ c.in-Judge.pattern _ _ _) read.err;
+      err = Stops-along _ _ _ _ _ (first_refused _ _ c.in-Judge.pattern _ _ (λ first. and_then first (problem_in c.in-Judge.rule c.in-Judge.demands)) (λ second problem. and_then (and_then second history_in) (λ history. Ok (judges problem history))) _) read.err;
+    }
+
+pub returns-in_err-problem-in-Cnf-clause-read : goal.returns-in_err-problem-in-Cnf-clause-read
+returns-in_err-problem-in-Cnf-clause-read g c =
+    let p = err_from_is_err_and c.from_residual-in_err-problem-in-Cnf.result c.from_residual-in_err-problem-in-Cnf.ensures.1 in
+    let read = c.in_err-problem-in-Cnf.ensures in
+    rw (p.1, p.2, c.in-Cnf.is) record {
+      kept = read.kept;
+      counts = read.counts;
+      ok = tt;
+      err = Stops-along _ _ _ _ _ (only_refused _ _ _ (λ input. and_then input (problem_in c.in-Cnf.rule c.in-Cnf.demands)) (λ problem. Ok (encodes problem)) _) read.err;
+    }
+
+pub returns-in_err-formula-in-Lrat-clause-read : goal.returns-in_err-formula-in-Lrat-clause-read
+returns-in_err-formula-in-Lrat-clause-read g c =
+    let p = err_from_is_err_and c.from_residual-in_err-formula-in-Lrat.result c.from_residual-in_err-formula-in-Lrat.ensures.1 in
+    let read = c.in_err-formula-in-Lrat.ensures in
+    rw (p.1, p.2, c.in-Lrat.is) record {
+      kept = read.kept;
+      counts = read.counts;
+      ok = tt;
+      err = Stops-along _ _ _ _ _ (first_refused _ _ c.in-Lrat.proof _ _ (λ first. and_then first formula_in) (λ second formula. and_then second (λ proof. Ok (refutes formula proof))) _) read.err;
     }

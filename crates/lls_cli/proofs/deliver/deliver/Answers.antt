@@ -4,8 +4,8 @@ use Rattle.lls_cli.specs.Ends.{answered, file_failed, output_failed}
 use Rattle.lls_cli.specs.Seen.{seen_answer}
 use Rattle.lls_cli.proofs.deliver.deliver.Goals as goal
 
-pub returns-in-Err : goal.returns-in-Err
-returns-in-Err g c =
+pub returns-in-Err-clause-end : goal.returns-in-Err-clause-end
+returns-in-Err-clause-end g c =
     let answer = seen_answer c.args.answer.now in
     let file = c.in-Err.ensures.unwritten in (
       file_failed answer (Outside c.in-Err.fault),
@@ -24,8 +24,8 @@ returns-in-Err g c =
       ),
     )
 
-pub returns-in-Ok : goal.returns-in-Ok
-returns-in-Ok g c =
+pub returns-in-Ok-clause-end : goal.returns-in-Ok-clause-end
+returns-in-Ok-clause-end g c =
     let answer = seen_answer c.args.answer.now in
     let shelf = c.in-Ok.ensures.written in
     let gave = rw c.deref.ensures.value at c.give_text.ensures in

@@ -1,10 +1,10 @@
-use Rattle.lls_cli.specs.Question.{judges}
+use Rattle.std.proofs.lemmas.Result.{IfOk-weaker}
 use Rattle.lls_cli.specs.Seen.{seen_answer}
-use Rattle.lls_cli.proofs.Ending.{delivered, judged_answer}
+use Rattle.lls_cli.proofs.RightAnswers.{judged_answer}
 use Rattle.lls_cli.proofs.judge.judge.Goals as goal
 
-pub returns-in-Ok : goal.returns-in-Ok
-returns-in-Ok g c =
-    let judged = c.judge-judgement.ensures in
-    delivered (judges c.args.problem.now c.args.history.now) (seen_answer c.in-Ok.answer) _ _ _
-    (judged_answer c.args.problem.now c.args.history.now c.judge-judgement.result (seen_answer c.in-Ok.answer) judged.judgement judged.meets judged.broken c.in-Ok.ensures) c.deliver.ensures
+pub returns : goal.returns
+returns c =
+    let judgement = c.judge.ensures in
+    IfOk-weaker c.judged.result _ _ (λ answer is.
+    judged_answer c.args.problem.now c.args.history.now c.judge.result (seen_answer answer) judgement.judgement judgement.meets judgement.broken is) c.judged.ensures

@@ -16,4 +16,4 @@ pub returns-in-Ok-ask : goal.returns-in-Ok-ask
 returns-in-Ok-ask g c =
     let read = c.in-Ok-ask.ensures in
     rw c.in-Ok.ensures.job
-    (job_ended c.in-Ok.job (seen_question c.in-Ok-ask.question) _ _ _ _ _ _ _ _ read.read.ok.0 read.leaves c.answer.ensures.shelf read.read.kept read.read.ok.1 c.answer.ensures.end)
+    (job_ended c.in-Ok.job (seen_question c.in-Ok-ask.question) _ _ _ _ _ _ _ _ read.read.ok.0 read.leaves c.give_answer.ensures.shelf read.read.kept read.read.ok.1 c.give_answer.ensures.end)

@@ -1,0 +1,74 @@
+-- Answers that are right, and what they do to the shelf.
+use Rattle.std.proofs.Common.{◌≡◌, ◌≢◌, ℕ, List, Option, None, Some, refl, ap, sym, subst}
+use Rattle.lls_lit.specs.Formula.{IsUnsatisfiable}
+use Rattle.lls_grid.specs.History.{History}
+use Rattle.lls_problem.specs.declared.judgement.Judgement.{Judgement}
+use Rattle.lls_problem.specs.declared.judgement.Judgement.TheVariants as judgements
+use Rattle.lls_problem.specs.Problem.{PosedProblem}
+use Rattle.lls_problem.specs.Judgement.{IsJudgement}
+use Rattle.lls_problem.specs.Solution.{IsSolution, IsAbsent}
+use Rattle.lls_encode.specs.Formula.{formula_of}
+use Rattle.lls_cli.specs.declared.status.Status.{Status}
+use Rattle.lls_cli.specs.declared.status.Status.TheVariants as statuses
+use Rattle.lls_cli.specs.Answer.{GivenAnswer, NamedFile, judge_answer, Holds, IsAnswer}
+use Rattle.lls_cli.specs.Question.{Question, checks, refutes, judges, encodes, prints}
+use Rattle.lls_cli.specs.Moment.{ShelfMoment}
+use Rattle.lls_cli.specs.Steps.{LeavesAlone, LeavesPrinting}
+
+-- what refutes a problem's formula checks the problem
+holds_checked : (problem : PosedProblem) (proof : List ℕ) (status : Status) → (IsUnsatisfiable (formula_of problem) → IsAbsent problem)
+    → Holds (refutes (formula_of problem) proof) status → Holds (checks problem proof) status
+holds_checked problem proof statuses.Done absent holds = (holds.0, absent holds.1)
+holds_checked problem proof statuses.Refused absent holds = holds
+holds_checked problem proof statuses.Words absent holds = holds
+holds_checked problem proof statuses.Content absent holds = holds
+holds_checked problem proof statuses.Outside absent holds = holds
+holds_checked problem proof statuses.Memory absent holds = holds
+holds_checked problem proof statuses.Limit absent holds = holds
+holds_checked problem proof statuses.Pattern absent holds = holds
+holds_checked problem proof statuses.NoPattern absent holds = holds
+holds_checked problem proof statuses.Undecided absent holds = holds
+
+pub checked_answer : (problem : PosedProblem) (proof : List ℕ) (answer : GivenAnswer) → (IsUnsatisfiable (formula_of problem) → IsAbsent problem)
+    → IsAnswer (refutes (formula_of problem) proof) answer → IsAnswer (checks problem proof) answer
+checked_answer problem proof answer absent right =
+    record { answers = right.answers; holds = holds_checked problem proof answer.status absent right.holds }
+
+holds_judged : (problem : PosedProblem) (history : History) (judgement : Judgement) → (judgement ≡ judgements.Meets → IsSolution problem history)
+    → (judgement ≢ judgements.Meets → IsSolution problem history → ⊥) → Holds (judges problem history) (judge_answer judgement).status
+holds_judged problem history judgements.Meets meets broken = meets refl
+holds_judged problem history judgements.Size meets broken = broken (λ is. cc)
+holds_judged problem history (judgements.Cell t y x) meets broken = broken (λ is. cc)
+holds_judged problem history (judgements.Name t y x) meets broken = broken (λ is. cc)
+holds_judged problem history (judgements.Symmetry t y x) meets broken = broken (λ is. cc)
+holds_judged problem history (judgements.Background t) meets broken = broken (λ is. cc)
+holds_judged problem history (judgements.Moved t y x) meets broken = broken (λ is. cc)
+holds_judged problem history (judgements.Rule t y x) meets broken = broken (λ is. cc)
+holds_judged problem history (judgements.Population t n) meets broken = broken (λ is. cc)
+holds_judged problem history judgements.Same meets broken = broken (λ is. cc)
+
+-- the answer of a judgement is right
+pub judged_answer : (problem : PosedProblem) (history : History) (judgement : Judgement) (answer : GivenAnswer) → IsJudgement problem history judgement
+    → (judgement ≡ judgements.Meets → IsSolution problem history) → (judgement ≢ judgements.Meets → IsSolution problem history → ⊥)
+    → answer ≡ judge_answer judgement → IsAnswer (judges problem history) answer
+judged_answer problem history judgement answer is meets broken made = record {
+  answers = (judgement, is, made);
+  holds = subst (λ (a : GivenAnswer). Holds (judges problem history) a.status) (sym made) (holds_judged problem history judgement meets broken);
+}
+
+-- an answer that prints a rule has no file
+pub leaves_printing : (question : Question) (answer : GivenAnswer) (before after : ShelfMoment) → IsAnswer question answer → LeavesAlone answer.file before after → LeavesPrinting question before after
+leaves_printing (prints rule) answer before after right alone =
+    subst (λ file. LeavesAlone file before after) (ap (λ (a : GivenAnswer). a.file) right.answers) alone
+leaves_printing (checks problem proof) answer before after right alone = tt
+leaves_printing (refutes formula proof) answer before after right alone = tt
+leaves_printing (judges problem history) answer before after right alone = tt
+leaves_printing (encodes problem) answer before after right alone = tt
+
+-- nor does a run that gives no answer touch the shelf
+pub leaves_printing-refl : (question : Question) (shelf : ShelfMoment) → LeavesPrinting question shelf shelf
+leaves_printing-refl (prints rule) shelf = refl
+leaves_printing-refl (checks problem proof) shelf = tt
+leaves_printing-refl (refutes formula proof) shelf = tt
+leaves_printing-refl (judges problem history) shelf = tt
+leaves_printing-refl (encodes problem) shelf = tt

@@ -1,0 +1,278 @@
+// The commands that print a formula and that check a proof against one.
+use super::faults::faults;
+use super::{Row, answers};
+use crate::status::Status;
+use std::test::Fail;
+
+// The texts are those that the script in tools/ makes, which shares nothing with the program.
+#[test]
+fn formulas_of_an_independent_script(rt: HostRuntime) -> Result<(), Fail> {
+    let rows: [Row; 22] = [
+        (
+            "cnf f",
+            "1\n\n1\n",
+            "",
+            Status::Done,
+            "p cnf 2 4\n1 0\n2 0\n1 -2 0\n-1 -2 0\n",
+        ),
+        (
+            "cnf f",
+            "* * * * * * * * * * * * * * * * * * * * * * * * * * * * * * * * * * * * * * * * * * * * * * * * * * * * * * * * * * * * * * * *\n",
+            "",
+            Status::Done,
+            "p cnf 64 0\n",
+        ),
+        (
+            "cnf f --rule B3/S23 --edge open",
+            "*\n\n*\n",
+            "",
+            Status::Done,
+            "p cnf 2 2\n1 -2 0\n-1 -2 0\n",
+        ),
+        (
+            "cnf f --rule B36/S23 --edge closed",
+            "*\n*\n\n*\n-a\n\n*\n-b",
+            "",
+            Status::Done,
+            "p cnf 6 16\n1 2 -3 0\n1 -2 -3 0\n-1 2 -3 0\n-1 -2 -3 0\n1 2 -4 0\n1 -2 -4 0\n-1 2 -4 0\n-1 -2 -4 0\n3 4 -5 0\n3 -4 -5 0\n-3 4 -5 0\n-3 -4 -5 0\n3 4 -6 0\n3 -4 -6 0\n-3 4 -6 0\n-3 -4 -6 0\n",
+        ),
+        (
+            "cnf f --rule B2/S --edge open",
+            "-a', 1'",
+            "",
+            Status::Done,
+            "p cnf 2 1\n2 0\n",
+        ),
+        (
+            "cnf f --rule B0/S --edge closed",
+            "*' -a\n\n* -a'\n\n-a 0",
+            "",
+            Status::Done,
+            "p cnf 6 35\n-6 0\n2 -4 0\n-2 4 0\n2 -5 0\n-2 5 0\n-1 0\n1 -2 0\n-1 2 0\n-1 -2 0\n1 -2 0\n-1 2 0\n-1 -2 0\n-2 0\n-1 0\n1 2 3 0\n1 -2 -3 0\n-1 2 -3 0\n-1 -2 -3 0\n-2 0\n-1 0\n1 -2 0\n-1 2 0\n-1 -2 0\n1 -2 0\n-1 2 0\n-1 -2 0\n-2 0\n3 4 -5 0\n3 -4 -5 0\n-3 4 -5 0\n-3 -4 -5 0\n3 4 -6 0\n3 -4 -6 0\n-3 4 -6 0\n-3 -4 -6 0\n",
+        ),
+        (
+            "cnf f --rule B1/S1 --edge open",
+            "*' * -a\n\n1 a b\n",
+            "",
+            Status::Done,
+            "p cnf 6 19\n4 0\n3 5 0\n-3 -5 0\n1 2 -4 0\n1 -2 4 0\n-1 2 -4 0\n-1 -2 4 0\n1 2 3 -5 0\n1 2 -3 5 0\n1 -2 3 -5 0\n1 -2 -3 5 0\n-1 2 3 5 0\n-1 2 -3 -5 0\n-1 -2 3 5 0\n-1 -2 -3 -5 0\n2 3 -6 0\n2 -3 -6 0\n-2 3 6 0\n-2 -3 6 0\n",
+        ),
+        (
+            "cnf f --rule B3/S0 --edge closed",
+            "0'\n\n-b\n\n0\n",
+            "",
+            Status::Done,
+            "p cnf 3 6\n-1 0\n-3 0\n1 -2 0\n-1 2 0\n2 -3 0\n-2 3 0\n",
+        ),
+        (
+            "cnf f --rule B/S012345678 --edge closed",
+            "-b, -b'\n\n-a', *",
+            "",
+            Status::Done,
+            "p cnf 4 6\n1 -2 0\n-1 2 0\n1 2 -4 0\n1 -2 4 0\n-1 2 -4 0\n-1 -2 4 0\n",
+        ),
+        (
+            "cnf f --rule B01/S8 --edge closed",
+            "0 1\n\n-a *\n",
+            "",
+            Status::Done,
+            "p cnf 4 14\n-1 0\n2 0\n-1 -2 0\n-1 -2 0\n1 2 3 0\n1 -2 3 0\n-1 2 -3 0\n-1 -2 -3 0\n1 2 4 0\n1 -2 -4 0\n-1 2 4 0\n-1 -2 -4 0\n-1 -2 0\n-1 -2 0\n",
+        ),
+        (
+            "cnf f --rule B3/S23 --edge closed",
+            "* 1'\n1' -a'\n",
+            "",
+            Status::Done,
+            "p cnf 4 2\n2 0\n3 0\n",
+        ),
+        (
+            "cnf f --rule B36/S23 --edge closed",
+            "*\n\n1\n",
+            "",
+            Status::Done,
+            "p cnf 2 3\n2 0\n1 -2 0\n-1 -2 0\n",
+        ),
+        (
+            "cnf f --rule B2/S --edge open",
+            "-b' -b *\n1 -b 0\n*' *' *\n",
+            "",
+            Status::Done,
+            "p cnf 9 6\n4 0\n-6 0\n1 -2 0\n-1 2 0\n1 -5 0\n-1 5 0\n",
+        ),
+        (
+            "cnf f --rule B0/S --edge open",
+            "0, 1\n\n*, *'\n",
+            "",
+            Status::Done,
+            "p cnf 4 6\n-1 0\n2 0\n1 2 3 0\n1 -2 -3 0\n-1 2 -3 0\n-1 -2 -3 0\n",
+        ),
+        (
+            "cnf f --rule B1/S1 --edge closed",
+            "-b'\n*\n\n*\na'",
+            "",
+            Status::Done,
+            "p cnf 4 18\n-1 0\n-1 0\n-1 0\n1 -2 0\n-1 2 0\n1 2 -3 0\n1 -2 3 0\n-1 2 -3 0\n-1 -2 3 0\n1 -2 0\n-1 2 0\n1 -2 0\n-1 2 0\n1 -2 0\n-1 2 0\n-2 0\n-2 0\n-2 0\n",
+        ),
+        (
+            "cnf f --rule B3/S0 --edge closed",
+            "*\n-b\n\n*\n*\n",
+            "",
+            Status::Done,
+            "p cnf 4 8\n1 2 -3 0\n1 -2 -3 0\n-1 2 3 0\n-1 -2 -3 0\n1 2 -4 0\n1 -2 4 0\n-1 2 -4 0\n-1 -2 -4 0\n",
+        ),
+        (
+            "cnf f --rule B/S012345678 --edge open",
+            "0', -a\n\nb, *\n\n-b', -b\n",
+            "",
+            Status::Done,
+            "p cnf 6 17\n-1 0\n-3 -5 0\n3 5 0\n-3 -6 0\n3 6 0\n1 2 -3 0\n1 -2 -3 0\n-1 2 3 0\n-1 -2 3 0\n1 2 -4 0\n1 -2 4 0\n-1 2 -4 0\n-1 -2 4 0\n3 4 -6 0\n3 -4 6 0\n-3 4 -6 0\n-3 -4 6 0\n",
+        ),
+        (
+            "cnf f --rule B01/S8 --edge open",
+            "*\n\n-b\n",
+            "",
+            Status::Done,
+            "p cnf 2 2\n1 2 0\n-1 -2 0\n",
+        ),
+        (
+            "cnf f --rule B3/S23 --edge closed",
+            "-b a b\n\n* a 0",
+            "",
+            Status::Done,
+            "p cnf 6 23\n-6 0\n1 3 0\n-1 -3 0\n-2 5 0\n2 -5 0\n-1 -2 -3 0\n1 2 -4 0\n1 -2 -4 0\n-1 2 -4 0\n-1 -2 -4 0\n1 2 3 -5 0\n1 2 -3 -5 0\n1 -2 3 -5 0\n1 -2 -3 -5 0\n-1 2 3 -5 0\n-1 2 -3 -5 0\n-1 -2 3 -5 0\n-1 -2 -3 5 0\n2 3 -6 0\n2 -3 -6 0\n-2 3 -6 0\n-2 -3 -6 0\n-1 -2 -3 0\n",
+        ),
+        (
+            "cnf f --rule B36/S23 --edge open",
+            "-b\n1'\n\n*\n*'\n",
+            "",
+            Status::Done,
+            "p cnf 4 5\n2 0\n1 2 -3 0\n1 -2 -3 0\n-1 2 -3 0\n-1 -2 -3 0\n",
+        ),
+        (
+            "cnf f --rule B2/S --edge open",
+            "-b\n*\n\n*\n*\n\na\n-a",
+            "",
+            Status::Done,
+            "p cnf 6 18\n-5 -6 0\n5 6 0\n1 2 -3 0\n1 -2 -3 0\n-1 2 -3 0\n-1 -2 -3 0\n1 2 -4 0\n1 -2 -4 0\n-1 2 -4 0\n-1 -2 -4 0\n3 4 -5 0\n3 -4 -5 0\n-3 4 -5 0\n-3 -4 -5 0\n3 4 -6 0\n3 -4 -6 0\n-3 4 -6 0\n-3 -4 -6 0\n",
+        ),
+        (
+            "cnf f --rule B0/S --edge open",
+            "* b\n\nb a\n\na 1\n",
+            "",
+            Status::Done,
+            "p cnf 6 21\n6 0\n-2 3 0\n2 -3 0\n-4 5 0\n4 -5 0\n1 2 3 0\n1 -2 -3 0\n-1 2 -3 0\n-1 -2 -3 0\n1 2 4 0\n1 -2 -4 0\n-1 2 -4 0\n-1 -2 -4 0\n3 4 -5 0\n3 -4 -5 0\n-3 4 -5 0\n-3 -4 -5 0\n3 4 -6 0\n3 -4 -6 0\n-3 4 -6 0\n-3 -4 -6 0\n",
+        ),
+    ];
+    for row in rows {
+        answers(&rt, rt.alloc(), row)?;
+    }
+    Ok(())
+}
+
+#[test]
+fn proofs_against_formulas(rt: HostRuntime) -> Result<(), Fail> {
+    let rows = [
+        (
+            "p cnf 1 2\n1 0\n-1 0\n",
+            "3 0 1 2 0\n",
+            Status::Done,
+            "accepted\n",
+        ),
+        (
+            "p cnf 1 2\n1 0\n-1 0\n",
+            "3 16777216 0 1 2 0\n4 0 1 2 0",
+            Status::Done,
+            "accepted\n",
+        ),
+        (
+            "c none\np cnf 0 1\n0\n",
+            "",
+            Status::Refused,
+            "refused: NoEmpty\n",
+        ),
+        ("p cnf 0 1\n0\n", "2 0 1 0\n", Status::Done, "accepted\n"),
+        (
+            "p cnf 16777216 0\n",
+            "1 0 0\n",
+            Status::Refused,
+            "refused: NoConflict 1\n",
+        ),
+        (
+            "p cnf 2 4\n1 2 0\n1 -2 0\n-1 2 0\n-1 -2 0\n",
+            "5 1 0 1 2 0\n5 d 1 2 0\n6 0 5 3 4 0\n",
+            Status::Done,
+            "accepted\n",
+        ),
+        (
+            "p cnf 2 4\n1 2 0\n1 -2 0\n-1 2 0\n-1 -2 0\n",
+            "5 1 0 1 2 0\n5 d 3 0\n6 0 5 3 4 0\n",
+            Status::Refused,
+            "refused: NoClause 3 3\n",
+        ),
+    ];
+    for (formula, proof, status, text) in rows {
+        answers(&rt, rt.alloc(), ("lrat f p", formula, proof, status, text))?;
+    }
+    Ok(())
+}
+
+// The formula comes before the proof, and its first fault before its end.
+#[test]
+fn files_that_are_no_formulas(rt: HostRuntime) -> Result<(), Fail> {
+    let rows: [Row; 8] = [
+        (
+            "lrat f p",
+            "p cnf 2 3\n1 2 0\n-1 0\n",
+            "",
+            Status::Content,
+            "content: ClauseCount 3 2",
+        ),
+        (
+            "lrat f p",
+            "p cnf 2 3\n1 2 0\n-1\n",
+            "",
+            Status::Content,
+            "content: Unended",
+        ),
+        (
+            "lrat f p",
+            "p cnf 16777217 0\n",
+            "",
+            Status::Limit,
+            "limit: TooManyVariables 16777217",
+        ),
+        (
+            "lrat f q",
+            "p cnf 1 1\n1 0\n%\n0\n",
+            "",
+            Status::Content,
+            "content: Percent 3",
+        ),
+        (
+            "lrat f q",
+            "p cnf 1 1\n-2 0\n",
+            "",
+            Status::Content,
+            "content: LiteralRange 2 -2",
+        ),
+        (
+            "lrat f q",
+            "p cnf 1 1\n1 0\n",
+            "",
+            Status::Outside,
+            "outside: NoFile",
+        ),
+        ("cnf q", "*\n", "", Status::Outside, "outside: NoFile"),
+        (
+            "cnf f",
+            "1 0\n1\n",
+            "",
+            Status::Content,
+            "content: Ragged 2 2 1",
+        ),
+    ];
+    for row in rows {
+        faults(&rt, rt.alloc(), row)?;
+    }
+    Ok(())
+}
