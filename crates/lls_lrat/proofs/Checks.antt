@@ -10,10 +10,10 @@ use Rattle.lls_lit.specs.Literal.{variable_of}
 use Rattle.lls_lit.specs.Formula.{Clause, Cnf, is_literal_of, is_within}
 use Rattle.lls_cnf.proofs.Within.{is_within-more}
 use Rattle.lls_prooflog.specs.declared.step.Step.TheVariants.{Add, Del}
-use Rattle.lls_prooflog.specs.Steps.{Live, Fault, numbered, find_clause, unit_walk, fault_of, after, is_empty_addition}
+use Rattle.lls_prooflog.specs.declared.step_fault.StepFault.{StepFault}
+use Rattle.lls_prooflog.specs.Steps.{Live, numbered, find_clause, unit_walk, fault_of, after, is_empty_addition}
 use Rattle.lls_prooflog.proofs.Soundness.{KeepsSatisfiable-numbered, KeepsSatisfiable-after, unsatisfiable_at_empty}
-use Rattle.lls_lrat.specs.Refusals.{unless_fault}
-use Rattle.lls_lrat.specs.Hinted.{are_within}
+use Rattle.lls_lrat.specs.Hinted.{are_within, unless_fault}
 use Rattle.lls_lrat.specs.Checking.{IsChecking}
 
 -- a literal more
@@ -53,7 +53,7 @@ IsChecking-start formula v e = record { within = are_within-numbered v 1 formula
 pub IsChecking-reach : (formula : Cnf) (live : Live) (v w : ℕ) (done : Bool) → v ≤ w → IsChecking formula live v done → IsChecking formula live w done
 IsChecking-reach formula live v w done le h = record { within = are_within-more v w live le h.within; kept = h.kept; refuted = h.refuted }
 
-faultless : (fault : Option Fault) → unless_fault fault ≡ Ok tt → fault ≡ None
+faultless : (fault : Option StepFault) → unless_fault fault ≡ Ok tt → fault ≡ None
 faultless None e = refl
 faultless (Some f) e = absurd cc
 

@@ -11,7 +11,9 @@ use Rattle.lls_lit.specs.Literal.{negation}
 use Rattle.lls_lit.specs.Formula.{Clause, Cnf, is_true, value_at, satisfies_clause, satisfies, IsUnsatisfiable}
 use Rattle.lls_prooflog.specs.declared.step.Step.{Step}
 use Rattle.lls_prooflog.specs.declared.step.Step.TheVariants.{Add, Del}
-use Rattle.lls_prooflog.specs.UnitWalk.{Fault, IdLive, NotUnit, Live, find_clause, is_among, remaining, at_clause, at_hint, unit_walk}
+use Rattle.lls_prooflog.specs.declared.step_fault.StepFault.{StepFault}
+use Rattle.lls_prooflog.specs.declared.step_fault.StepFault.TheVariants.{IdLive, NotUnit}
+use Rattle.lls_prooflog.specs.UnitWalk.{Live, find_clause, is_among, remaining, at_clause, at_hint, unit_walk}
 use Rattle.lls_prooflog.specs.Steps.{numbered, fault_of, after, is_empty_addition, are_accepted, clauses_of, AreSatisfiable, KeepsSatisfiable}
 
 -- every one of these literals is false
@@ -76,7 +78,7 @@ negation_false values (pos zero) e = absurd cc
 negation_false values (pos (suc n)) e = ap not e
 negation_false values (negsuc n) e = rw add-one (not-true (value_at values n) e)
 
-clause_refutes : (values : List Bool) (hint : ℤ) (lits : List ℤ) (goes_on : ℤ → Option Fault) → satisfies_clause values lits ≡ true → at_clause hint lits goes_on ≡ None → ((l : ℤ) → is_true values l ≡ true → goes_on l ≡ None → ⊥) → ⊥
+clause_refutes : (values : List Bool) (hint : ℤ) (lits : List ℤ) (goes_on : ℤ → Option StepFault) → satisfies_clause values lits ≡ true → at_clause hint lits goes_on ≡ None → ((l : ℤ) → is_true values l ≡ true → goes_on l ≡ None → ⊥) → ⊥
 clause_refutes values hint [] goes_on one e next = cc
 clause_refutes values hint (l ∷ ls) goes_on one e next =
     elim (list_all (int_eq l) ls) as (λ b. list_all (int_eq l) ls ≡ b → cond b (goes_on l) (Some (NotUnit hint)) ≡ None → ⊥) [
