@@ -1,4 +1,4 @@
--- How many lines and words a text has: no more than bytes.
+-- How many words the lines of a text have: no more than bytes.
 use Rattle.std.proofs.Common.{◌≡◌, ℕ, ◌+◌, ◌-◌, ◌≤◌, true, false, cond, eqb, get_or, List, [], ◌∷◌, length, map, take, refl, arith}
 use Rattle.std.specs.List.{flat_map, onto_first}
 use Rattle.std.specs.Str.Lines.{strip_carriage_return}
@@ -17,10 +17,6 @@ unfolding bytes_in
 bytes_in-onto_first b [] = refl
 bytes_in-onto_first b (line ∷ lines) = omega arith
 
-length-onto_first : (b : ℕ) (lines : List (List ℕ)) → length (onto_first b lines) ≤ 1 + length lines
-length-onto_first b [] = omega arith
-length-onto_first b (line ∷ lines) = omega arith
-
 bytes_in-cut_lines : (text : List ℕ) → bytes_in (cut_lines text) ≤ length text
 unfolding bytes_in
 bytes_in-cut_lines [] = omega arith
@@ -29,17 +25,6 @@ bytes_in-cut_lines (b ∷ bs) =
       | true ↦ omega (arith, bytes_in-cut_lines bs)
       | false ↦ omega (arith, bytes_in-onto_first b (cut_lines bs), bytes_in-cut_lines bs)
     ]
-
-length-cut_lines : (text : List ℕ) → length (cut_lines text) ≤ length text
-length-cut_lines [] = omega arith
-length-cut_lines (b ∷ bs) =
-    elim (eqb b 10) as (λ v. length (cond v ([] ∷ cut_lines bs) (onto_first b (cut_lines bs))) ≤ length (b ∷ bs)) [
-      | true ↦ omega (arith, length-cut_lines bs)
-      | false ↦ omega (arith, length-onto_first b (cut_lines bs), length-cut_lines bs)
-    ]
-
-pub length-lines_of : (text : List ℕ) → length (lines_of text) ≤ length text
-length-lines_of text = omega (arith, length-map (cut_lines text) strip_carriage_return, length-cut_lines text)
 
 length-strip : (line : List ℕ) → length (strip_carriage_return line) ≤ length line
 length-strip line =

@@ -1,65 +1,28 @@
 -- The lines of a printed formula, and their words.
-use Rattle.std.proofs.Common.{◌≡◌, ℕ, zero, suc, ◌+◌, ◌-◌, ◌^◌, ◌<◌, ◌≤◌, Bool, true, false, not, eqb, leb, leb-true, List, [], ◌∷◌, ◌++◌, length, get_or, map, refl, ap, ◌∙◌, append_assoc, arith}
+use Rattle.std.proofs.Common.{◌≡◌, ℕ, ◌+◌, ◌^◌, ◌<◌, ◌≤◌, true, leb, leb-true, List, [], ◌∷◌, ◌++◌, length, map, refl, ap, ◌∙◌, append_assoc, arith}
 use Rattle.std.specs.Prelude.{ℤ, codes}
 use Rattle.std.specs.List.{list_all, flat_map}
 use Rattle.std.specs.Fmt.{decimal, signed_decimal}
-use Rattle.std.specs.Str.Lines.{strip_carriage_return}
 use Rattle.std.proofs.lemmas.Bool.{and_parts}
-use Rattle.std.proofs.lemmas.Bool.Decides.{nat_tests}
 use Rattle.std.proofs.lemmas.List.{append-nil}
 use Rattle.std.proofs.lemmas.List.Folds.{list_all-append}
-use Rattle.lls_text.specs.Lines.{lines_of, is_line_feed}
-use Rattle.lls_text.specs.Words.{PlacedWord, is_blank, words_from}
-use Rattle.lls_text.proofs.Printed.{lines_of-front, words_from-front, words_from-blank}
+use Rattle.lls_text.specs.Lines.{lines_of}
+use Rattle.lls_text.specs.Words.{PlacedWord, words_from}
+use Rattle.lls_text.proofs.Printed.{is_printed, lines_of-printed, words_from-front, words_from-blank}
+use Rattle.lls_text.proofs.NumberBytes.{is_number_byte, natural_bytes, solid_bytes, printed_bytes, is_blank_line-number, begins_with-number}
 use Rattle.lls_lit.specs.Formula.{Clause, Cnf, is_literal_of, is_within}
 use Rattle.lls_lit.specs.Literal.{variable_of}
 use Rattle.lls_lit.specs.declared.var.TheConstants.Var.{MOST}
 use Rattle.lls_cnf.specs.declared.number.TheConstants.{MOST_DIGITS}
-use Rattle.lls_cnf.specs.Dimacs.{is_counted, texts_of}
+use Rattle.lls_cnf.specs.Dimacs.{comment, is_counted, texts_of}
 use Rattle.lls_cnf.specs.DimacsText.{header_text, clause_text}
-use Rattle.lls_cnf.proofs.PrintedWords.{is_number_byte, natural_bytes, literal_bytes, solid_bytes}
+use Rattle.lls_cnf.proofs.PrintedWords.{literal_bytes}
 
 abbrev pub clause_line : Clause → List ℕ
 clause_line clause = flat_map (λ l. signed_decimal l ++ codes " ") clause ++ codes "0"
 
 abbrev pub header_line : Cnf → List ℕ
 header_line formula = codes "p cnf " ++ decimal formula.vars ++ codes " " ++ decimal (length formula.clauses)
-
--- a byte that neither ends a line nor is dropped at its end
-abbrev is_printed : ℕ → Bool
-is_printed b = leb 32 b
-
-no_line_feed : (line : List ℕ) → list_all is_printed line ≡ true → list_all (λ b. not (is_line_feed b)) line ≡ true
-no_line_feed [] printed = refl
-no_line_feed (b ∷ bs) printed =
-    let parts = and_parts (is_printed b) (list_all is_printed bs) printed in
-    rw (apart b parts.0, no_line_feed bs parts.1) refl
-  where
-    apart : (c : ℕ) → leb 32 c ≡ true → eqb c 10 ≡ false
-    apart c e = grind (arith, nat_tests)
-
-no_return : (line : List ℕ) (k : ℕ) → list_all is_printed line ≡ true → eqb (get_or line k 0) 13 ≡ false
-no_return [] k printed = refl
-no_return (b ∷ bs) zero printed = apart b (and_parts (is_printed b) (list_all is_printed bs) printed).0 where
-  apart : (c : ℕ) → leb 32 c ≡ true → eqb c 13 ≡ false
-  apart c e = grind (arith, nat_tests)
-no_return (b ∷ bs) (suc k) printed = no_return bs k (and_parts (is_printed b) (list_all is_printed bs) printed).1
-
-strip-printed : (line : List ℕ) → list_all is_printed line ≡ true → strip_carriage_return line ≡ line
-strip-printed line printed = rw (no_return line (length line - 1) printed) refl
-
--- a printed line stands before its line feed
-line_first : (line rest : List ℕ) → list_all is_printed line ≡ true → lines_of (line ++ 10 ∷ rest) ≡ line ∷ lines_of rest
-line_first line rest printed = lines_of-front line rest (no_line_feed line printed) (strip-printed line printed)
-
-printed_bytes : (word : List ℕ) → list_all is_number_byte word ≡ true → list_all is_printed word ≡ true
-printed_bytes [] bytes = refl
-printed_bytes (b ∷ bs) bytes =
-    let parts = and_parts (is_number_byte b) (list_all is_number_byte bs) bytes in
-    rw (within b parts.0, printed_bytes bs parts.1) refl
-  where
-    within : (c : ℕ) → is_number_byte c ≡ true → leb 32 c ≡ true
-    within c e = grind (arith, nat_tests)
 
 pub literal_fits : (vars : ℕ) (l : ℤ) → vars ≤ MOST → is_literal_of vars l ≡ true → variable_of l ≤ MOST
 literal_fits vars l fits within =
@@ -87,21 +50,12 @@ pub lines_of-clauses : (vars : ℕ) (clauses : List Clause) → vars ≤ MOST �
 lines_of-clauses vars [] fits within = refl
 lines_of-clauses vars (clause ∷ clauses) fits within =
     let parts = and_parts (is_within vars clause) (list_all (is_within vars) clauses) within in
-    rw (clause_text-line clause (flat_map clause_text clauses), line_first (clause_line clause) (flat_map clause_text clauses) (clause_line_printed vars clause fits parts.0))
+    rw (clause_text-line clause (flat_map clause_text clauses), lines_of-printed (clause_line clause) (flat_map clause_text clauses) (clause_line_printed vars clause fits parts.0))
     (ap (λ (lines : List (List ℕ)). clause_line clause ∷ lines) (lines_of-clauses vars clauses fits parts.1))
 
 -- a line that begins with a printed number counts
 is_counted-number : (word rest : List ℕ) → 0 < length word → list_all is_number_byte word ≡ true → is_counted (word ++ rest) ≡ true
-is_counted-number [] rest some bytes = absurd (omega arith)
-is_counted-number (b ∷ bs) rest some bytes =
-    let byte = (and_parts (is_number_byte b) (list_all is_number_byte bs) bytes).0 in
-    rw (solid b byte, other b byte) refl
-  where
-    solid : (c : ℕ) → is_number_byte c ≡ true → is_blank c ≡ false
-    solid c e = grind (arith, nat_tests)
-
-    other : (c : ℕ) → is_number_byte c ≡ true → eqb c 99 ≡ false
-    other c e = grind (arith, nat_tests)
+is_counted-number word rest some bytes = rw (is_blank_line-number word rest some bytes, begins_with-number comment word rest refl some bytes) refl
 
 pub is_counted-clause : (vars : ℕ) (clause : Clause) → vars ≤ MOST → is_within vars clause ≡ true → is_counted (clause_line clause) ≡ true
 is_counted-clause vars [] fits within = refl
@@ -138,8 +92,8 @@ texts_of-clause vars clause fits within = texts-clause vars 1 clause fits within
 pub texts_of-header : (formula : Cnf) → formula.vars < 10 ^ MOST_DIGITS → length formula.clauses < 10 ^ MOST_DIGITS
     → texts_of (header_line formula) ≡ codes "p" ∷ codes "cnf" ∷ decimal formula.vars ∷ decimal (length formula.clauses) ∷ []
 texts_of-header formula small few =
-    let vars = natural_bytes formula.vars small in
-    let many = natural_bytes (length formula.clauses) few in
+    let vars = natural_bytes formula.vars (omega arith) in
+    let many = natural_bytes (length formula.clauses) (omega arith) in
     let last = word_last (7 + length (decimal formula.vars) + 1) (decimal (length formula.clauses)) many.0 many.1 in
     let numbers = word_first 7 (decimal formula.vars) (decimal (length formula.clauses)) vars.0 vars.1 in
     rw (append_assoc (decimal formula.vars) (32 ∷ []) (decimal (length formula.clauses)))
@@ -147,11 +101,11 @@ texts_of-header formula small few =
 
 header_printed : (formula : Cnf) → formula.vars < 10 ^ MOST_DIGITS → length formula.clauses < 10 ^ MOST_DIGITS → list_all is_printed (header_line formula) ≡ true
 header_printed formula small few =
-    let vars = printed_bytes (decimal formula.vars) (natural_bytes formula.vars small).1 in
-    let many = printed_bytes (decimal (length formula.clauses)) (natural_bytes (length formula.clauses) few).1 in
+    let vars = printed_bytes (decimal formula.vars) (natural_bytes formula.vars (omega arith)).1 in
+    let many = printed_bytes (decimal (length formula.clauses)) (natural_bytes (length formula.clauses) (omega arith)).1 in
     list_all-append is_printed (decimal formula.vars ++ 32 ∷ []) (decimal (length formula.clauses))
     ∙ rw (list_all-append is_printed (decimal formula.vars) (32 ∷ []), vars, many) refl
 
 pub lines_of-header : (formula : Cnf) (rest : List ℕ) → formula.vars < 10 ^ MOST_DIGITS → length formula.clauses < 10 ^ MOST_DIGITS → lines_of (header_text formula ++ rest) ≡ header_line formula ∷ lines_of rest
 lines_of-header formula rest small few =
-    ap lines_of (append_assoc (header_line formula) (10 ∷ []) rest) ∙ line_first (header_line formula) rest (header_printed formula small few)
+    ap lines_of (append_assoc (header_line formula) (10 ∷ []) rest) ∙ lines_of-printed (header_line formula) rest (header_printed formula small few)

@@ -1,43 +1,20 @@
 -- Printed numbers are words, and are read again.
-use Rattle.std.proofs.Common.{◌≡◌, ℕ, suc, ◌^◌, ◌<◌, ◌≤◌, Bool, true, false, ◌&&◌, eqb, leb, leb-true, List, [], ◌∷◌, length, Some, None, refl, ap, ◌∙◌, arith}
+use Rattle.std.proofs.Common.{◌≡◌, ℕ, suc, ◌^◌, ◌<◌, ◌≤◌, true, false, leb, leb-true, List, [], ◌∷◌, length, Some, None, refl, ap, ◌∙◌, arith}
 use Rattle.std.specs.Prelude.{ℤ, pos, negsuc}
 use Rattle.std.specs.List.{list_all}
 use Rattle.std.specs.Char.{is_ascii_digit}
 use Rattle.std.specs.Fmt.{decimal, signed_decimal}
-use Rattle.std.specs.Int.{IsInRange}
 use Rattle.std.specs.Option.{option_map, option_and_then}
-use Rattle.std.specs.Str.Parse.{AllDigits}
 use Rattle.std.proofs.lemmas.Bool.{and_parts, le-leb}
-use Rattle.std.proofs.lemmas.Bool.Decides.{nat_tests}
 use Rattle.std.proofs.lemmas.Fmt.{decimal_is_IsNumeral, length-decimal-le}
-use Rattle.std.proofs.lemmas.Str.Parse.{digit_from_value}
-use Rattle.lls_text.specs.Words.{is_blank, is_solid}
+use Rattle.lls_text.proofs.Printed.{passes-apart}
+use Rattle.lls_text.proofs.NumberBytes.{is_number_byte, digits_are_digits, digit_no_minus, natural_bytes}
 use Rattle.lls_lit.specs.Literal.{variable_of}
 use Rattle.lls_lit.specs.Formula.{is_literal_of}
 use Rattle.lls_lit.specs.declared.var.TheConstants.Var.{MOST}
 use Rattle.lls_cnf.specs.declared.number.TheConstants.{MOST_DIGITS}
 use Rattle.lls_cnf.specs.Number.{natural_number, negative, whole_number}
-use Rattle.lls_cnf.specs.Dimacs.{begins_percent, word_fault}
-
--- a byte of a printed number: from - to 9
-abbrev pub is_number_byte : ℕ → Bool
-is_number_byte b = leb 45 b && leb b 57
-
-number_byte : (b : ℕ) → IsInRange 45 57 b → is_number_byte b ≡ true
-number_byte b range = rw (le-leb 45 b (omega (arith, range)), le-leb b 57 (omega (arith, range))) refl
-
-digit_byte : (b : ℕ) → IsInRange 48 57 b → is_ascii_digit b ≡ true
-digit_byte b range = grind (arith, nat_tests)
-
-digits_are_bytes : (ds : List ℕ) → AllDigits 10 ds → list_all is_number_byte ds ≡ true
-digits_are_bytes [] h = refl
-digits_are_bytes (d ∷ ds) h =
-    let range = digit_from_value d h.0 in
-    rw (number_byte d (omega (arith, range)), digits_are_bytes ds h.1) refl
-
-digits_are_digits : (ds : List ℕ) → AllDigits 10 ds → list_all is_ascii_digit ds ≡ true
-digits_are_digits [] h = refl
-digits_are_digits (d ∷ ds) h = rw (digit_byte d (digit_from_value d h.0), digits_are_digits ds h.1) refl
+use Rattle.lls_cnf.specs.Dimacs.{percent, begins_percent, word_fault}
 
 -- a number of at most 18 digits is read again
 pub natural_number-decimal : (n : ℕ) → n < 10 ^ MOST_DIGITS → natural_number (decimal n) ≡ Some n
@@ -50,12 +27,7 @@ natural_number-decimal n lt =
 whole_number-digits : (word : List ℕ) → list_all is_ascii_digit word ≡ true → 0 < length word → whole_number word ≡ option_map (λ n. pos n) (natural_number word)
 whole_number-digits [] digits some = absurd (omega arith)
 whole_number-digits (b ∷ bs) digits some =
-    let digit = (and_parts (is_ascii_digit b) (list_all is_ascii_digit bs) digits).0 in
-    let other : eqb b 45 ≡ false = not_minus b digit in
-    rw other refl
-  where
-    not_minus : (c : ℕ) → is_ascii_digit c ≡ true → eqb c 45 ≡ false
-    not_minus c e = grind (arith, nat_tests)
+    rw (digit_no_minus b (and_parts (is_ascii_digit b) (list_all is_ascii_digit bs) digits).0) refl
 
 small : (n : ℕ) → n ≤ MOST → n < 10 ^ MOST_DIGITS
 small n le = omega arith
@@ -71,23 +43,12 @@ whole_number-literal (negsuc n) le =
 
 -- it consists of bytes of numbers
 pub literal_bytes : (l : ℤ) → variable_of l ≤ MOST → (0 < length (signed_decimal l)) × (list_all is_number_byte (signed_decimal l) ≡ true)
-literal_bytes (pos n) le =
-    let numeral = decimal_is_IsNumeral n (omega arith) in
-    (numeral.0.0, digits_are_bytes (decimal n) numeral.0.1)
-literal_bytes (negsuc n) le =
-    let numeral = decimal_is_IsNumeral (suc n) (omega arith) in
-    (omega arith, digits_are_bytes (decimal (suc n)) numeral.0.1)
-
-pub natural_bytes : (n : ℕ) → n < 10 ^ MOST_DIGITS → (0 < length (decimal n)) × (list_all is_number_byte (decimal n) ≡ true)
-natural_bytes n lt =
-    let numeral = decimal_is_IsNumeral n (omega arith) in
-    (numeral.0.0, digits_are_bytes (decimal n) numeral.0.1)
+literal_bytes (pos n) le = natural_bytes n (omega arith)
+literal_bytes (negsuc n) le = (omega arith, (natural_bytes (suc n) (omega arith)).1)
 
 not_percent : (word : List ℕ) → list_all is_number_byte word ≡ true → begins_percent word ≡ false
 not_percent [] bytes = refl
-not_percent (b ∷ bs) bytes = apart b (and_parts (is_number_byte b) (list_all is_number_byte bs) bytes).0 where
-  apart : (c : ℕ) → is_number_byte c ≡ true → eqb c 37 ≡ false
-  apart c e = grind (arith, nat_tests)
+not_percent (b ∷ bs) bytes = passes-apart is_number_byte b percent (and_parts (is_number_byte b) (list_all is_number_byte bs) bytes).0 refl
 
 -- a printed literal has no fault
 pub word_fault-literal : (vars line : ℕ) (l : ℤ) → vars ≤ MOST → is_literal_of vars l ≡ true → word_fault vars (line, signed_decimal l) ≡ None
@@ -99,13 +60,3 @@ word_fault-literal vars line l fits within =
 -- nor has a printed zero
 pub word_fault-zero : (vars line : ℕ) → word_fault vars (line, 48 ∷ []) ≡ None
 word_fault-zero vars line = rw (le-leb 0 vars (omega arith)) refl
-
--- bytes of numbers aren't blanks
-pub solid_bytes : (word : List ℕ) → list_all is_number_byte word ≡ true → list_all is_solid word ≡ true
-solid_bytes [] bytes = refl
-solid_bytes (b ∷ bs) bytes =
-    let parts = and_parts (is_number_byte b) (list_all is_number_byte bs) bytes in
-    rw (apart b parts.0, solid_bytes bs parts.1) refl
-  where
-    apart : (c : ℕ) → is_number_byte c ≡ true → is_blank c ≡ false
-    apart c e = grind (arith, nat_tests)

@@ -3,19 +3,18 @@ use Rattle.std.proofs.Common.{◌≡◌, ℕ, ◌+◌, ◌<◌, ◌≤◌, Bool,
 use Rattle.std.specs.Prelude.{ℤ, filter, is_some, Ok}
 use Rattle.std.specs.List.{list_all, enumerate_from}
 use Rattle.std.specs.Option.{option_copied}
-use Rattle.std.proofs.lemmas.Bool.{le-leb}
+use Rattle.std.proofs.lemmas.Bool.{and_parts, le-leb}
 use Rattle.std.proofs.lemmas.Bool.Decides.{nat_tests}
 use Rattle.std.proofs.lemmas.List.Folds.{list_all-append, list_all_more}
 use Rattle.lls_lit.specs.Literal.{variable_of}
 use Rattle.lls_lit.specs.Formula.{Clause, Cnf, is_literal_of, is_within}
 use Rattle.lls_cnf.proofs.Within.{is_within-more}
 use Rattle.lls_prooflog.specs.declared.step.Step.TheVariants.{Add, Del}
-use Rattle.lls_prooflog.specs.Steps.{Live, Fault, numbered, find_clause, unit_walk, fault_of, after, is_empty_addition}
+use Rattle.lls_prooflog.specs.declared.step_fault.StepFault.{StepFault}
+use Rattle.lls_prooflog.specs.Steps.{Live, numbered, find_clause, unit_walk, fault_of, after, is_empty_addition}
 use Rattle.lls_prooflog.proofs.Soundness.{KeepsSatisfiable-numbered, KeepsSatisfiable-after, unsatisfiable_at_empty}
-use Rattle.lls_lrat.specs.Refusals.{unless_fault}
-use Rattle.lls_lrat.specs.Hinted.{are_within}
+use Rattle.lls_lrat.specs.Hinted.{are_within, unless_fault}
 use Rattle.lls_lrat.specs.Checking.{IsChecking}
-use Rattle.lls_lrat.proofs.Booleans.{both_true}
 
 -- a literal more
 pub is_within-push : (v : ℕ) (clause : Clause) (i : ℕ) (d : ℤ) → i < length clause → is_within v (take i clause) ≡ true → (1 ≤ variable_of (get_or clause i d)) × (variable_of (get_or clause i d) ≤ v) → is_within v (take (i + 1) clause) ≡ true
@@ -25,13 +24,13 @@ is_within-push v clause i d lt e h =
 are_within-more : (v w : ℕ) (live : Live) → v ≤ w → are_within v live ≡ true → are_within w live ≡ true
 are_within-more v w [] le e = refl
 are_within-more v w (pair ∷ rest) le e =
-    let both = both_true (is_within v pair.1) (are_within v rest) e in
+    let both = and_parts (is_within v pair.1) (are_within v rest) e in
     rw (is_within-more v w pair.1 le both.0, are_within-more v w rest le both.1) refl
 
 are_within-filter : (v : ℕ) (keep : ℕ × Clause → Bool) (live : Live) → are_within v live ≡ true → are_within v (filter keep live) ≡ true
 are_within-filter v keep [] e = refl
 are_within-filter v keep (pair ∷ rest) e =
-    let both = both_true (is_within v pair.1) (are_within v rest) e in
+    let both = and_parts (is_within v pair.1) (are_within v rest) e in
     let others = are_within-filter v keep rest both.1 in
     elim (keep pair) as (λ b. are_within v (cond b (pair ∷ filter keep rest) (filter keep rest)) ≡ true) [
       | true ↦ rw (both.0, others) refl
@@ -41,7 +40,7 @@ are_within-filter v keep (pair ∷ rest) e =
 are_within-numbered : (v n : ℕ) (clauses : List Clause) → list_all (is_within v) clauses ≡ true → are_within v (enumerate_from n clauses) ≡ true
 are_within-numbered v n [] e = refl
 are_within-numbered v n (c ∷ cs) e =
-    let both = both_true (is_within v c) (list_all (is_within v) cs) e in
+    let both = and_parts (is_within v c) (list_all (is_within v) cs) e in
     rw (both.0, are_within-numbered v (n + 1) cs both.1) refl
 
 differ : false ≡ true → ⊥
@@ -54,7 +53,7 @@ IsChecking-start formula v e = record { within = are_within-numbered v 1 formula
 pub IsChecking-reach : (formula : Cnf) (live : Live) (v w : ℕ) (done : Bool) → v ≤ w → IsChecking formula live v done → IsChecking formula live w done
 IsChecking-reach formula live v w done le h = record { within = are_within-more v w live le h.within; kept = h.kept; refuted = h.refuted }
 
-faultless : (fault : Option Fault) → unless_fault fault ≡ Ok tt → fault ≡ None
+faultless : (fault : Option StepFault) → unless_fault fault ≡ Ok tt → fault ≡ None
 faultless None e = refl
 faultless (Some f) e = absurd cc
 

@@ -1,4 +1,3 @@
-pub mod Booleans
 pub mod Maps
 pub mod Kept
 pub mod Indexed

@@ -10,14 +10,13 @@ use Rattle.std.proofs.lemmas.List.Elements.{filter_agree}
 use Rattle.lls_lit.specs.Literal.{negation}
 use Rattle.lls_lit.specs.Formula.{Clause}
 use Rattle.lls_lit.specs.Marked.{Marked}
-use Rattle.lls_prooflog.specs.UnitWalk.{Live, Fault, NotUnit, find_clause, is_among, remaining, at_clause, at_hint, unit_walk}
+use Rattle.lls_prooflog.specs.declared.step_fault.StepFault.{StepFault}
+use Rattle.lls_prooflog.specs.declared.step_fault.StepFault.TheVariants.{NoClause, NotUnit, NoConflict, RatHint}
+use Rattle.lls_prooflog.specs.UnitWalk.{Live, find_clause, is_among, remaining, at_clause, at_hint, unit_walk}
 use Rattle.lls_lrat.specs.declared.walk.Left.{Left}
 use Rattle.lls_lrat.specs.declared.walk.Left.TheVariants.{Nothing, One, More}
 use Rattle.lls_lrat.specs.Left.{left_in}
-use Rattle.lls_lrat.specs.declared.refusal.Refusal.{Refusal}
-use Rattle.lls_lrat.specs.declared.refusal.Refusal.TheVariants as refusals
-use Rattle.lls_lrat.specs.Refusals.{unless_fault}
-use Rattle.lls_lrat.specs.Hinted.{known_clause, hinted_clause}
+use Rattle.lls_lrat.specs.Hinted.{known_clause, hinted_clause, unless_fault}
 
 -- with the assumed literals marked, the hints that are left lead where all lead from the literals
 pub record Walked (live : Live) (lits hints rest : List ℤ) (marks : Marked) (assumed : List ℤ) : Type 0 where
@@ -31,23 +30,23 @@ remaining_unmarked marks assumed clause same =
 
 walk_at : (live : Live) (assumed : List ℤ) (hint : ℤ) (rest : List ℤ) (clause : Clause) → hinted_clause live hint ≡ Ok clause → unit_walk live assumed (hint ∷ rest) ≡ at_clause hint (remaining assumed clause) (λ l. unit_walk live (assumed ++ negation l ∷ []) rest)
 walk_at live assumed (pos id) rest clause e =
-    let next : ℤ → Option Fault = λ l. unit_walk live (assumed ++ negation l ∷ []) rest in
+    let next : ℤ → Option StepFault = λ l. unit_walk live (assumed ++ negation l ∷ []) rest in
     elim (find_clause live id) as (λ o. known_clause (pos id) o ≡ Ok clause → at_hint (pos id) assumed o next ≡ at_clause (pos id) (remaining assumed clause) next) [
       | None ↦ λ h. absurd cc
       | Some found ↦ λ h. let same : found ≡ clause = cc in ap (λ (c : Clause). at_clause (pos id) (remaining assumed c) next) same
     ] e
 walk_at live assumed (negsuc n) rest clause e = absurd cc
 
-walk_without : (live : Live) (assumed : List ℤ) (hint : ℤ) (rest : List ℤ) (refusal : Refusal) → hinted_clause live hint ≡ Err refusal → unless_fault (unit_walk live assumed (hint ∷ rest)) ≡ Err refusal
-walk_without live assumed (pos id) rest refusal e =
-    let next : ℤ → Option Fault = λ l. unit_walk live (assumed ++ negation l ∷ []) rest in
-    elim (find_clause live id) as (λ o. known_clause (pos id) o ≡ Err refusal → unless_fault (at_hint (pos id) assumed o next) ≡ Err refusal) [
-      | None ↦ λ h. let same : refusals.NoClause (pos id) ≡ refusal = cc in ap (λ (r : Refusal). Err r) same
+walk_without : (live : Live) (assumed : List ℤ) (hint : ℤ) (rest : List ℤ) (fault : StepFault) → hinted_clause live hint ≡ Err fault → unless_fault (unit_walk live assumed (hint ∷ rest)) ≡ Err fault
+walk_without live assumed (pos id) rest fault e =
+    let next : ℤ → Option StepFault = λ l. unit_walk live (assumed ++ negation l ∷ []) rest in
+    elim (find_clause live id) as (λ o. known_clause (pos id) o ≡ Err fault → unless_fault (at_hint (pos id) assumed o next) ≡ Err fault) [
+      | None ↦ λ h. let same : NoClause (pos id) ≡ fault = cc in ap (λ (f : StepFault). Err f) same
       | Some found ↦ λ h. absurd cc
     ] e
-walk_without live assumed (negsuc n) rest refusal e = let same : refusals.RatHint (negsuc n) ≡ refusal = cc in ap (λ (r : Refusal). Err r) same
+walk_without live assumed (negsuc n) rest fault e = let same : RatHint (negsuc n) ≡ fault = cc in ap (λ (f : StepFault). Err f) same
 
-at_clause-nothing : (hint : ℤ) (lits : List ℤ) (goes_on : ℤ → Option Fault) → left_in lits ≡ Nothing → at_clause hint lits goes_on ≡ None
+at_clause-nothing : (hint : ℤ) (lits : List ℤ) (goes_on : ℤ → Option StepFault) → left_in lits ≡ Nothing → at_clause hint lits goes_on ≡ None
 at_clause-nothing hint [] goes_on e = refl
 at_clause-nothing hint (l ∷ ls) goes_on e =
     elim (list_all (int_eq l) ls) as (λ b. cond b (One l) More ≡ Nothing → cond b (goes_on l) (Some (NotUnit hint)) ≡ None) [
@@ -55,7 +54,7 @@ at_clause-nothing hint (l ∷ ls) goes_on e =
       | false ↦ λ h. absurd cc
     ] e
 
-at_clause-one : (hint : ℤ) (lits : List ℤ) (goes_on : ℤ → Option Fault) (l : ℤ) → left_in lits ≡ One l → at_clause hint lits goes_on ≡ goes_on l
+at_clause-one : (hint : ℤ) (lits : List ℤ) (goes_on : ℤ → Option StepFault) (l : ℤ) → left_in lits ≡ One l → at_clause hint lits goes_on ≡ goes_on l
 at_clause-one hint [] goes_on l e = absurd cc
 at_clause-one hint (m ∷ ms) goes_on l e =
     elim (list_all (int_eq m) ms) as (λ b. cond b (One m) More ≡ One l → cond b (goes_on m) (Some (NotUnit hint)) ≡ goes_on l) [
@@ -63,7 +62,7 @@ at_clause-one hint (m ∷ ms) goes_on l e =
       | false ↦ λ h. absurd cc
     ] e
 
-at_clause-more : (hint : ℤ) (lits : List ℤ) (goes_on : ℤ → Option Fault) → left_in lits ≡ More → at_clause hint lits goes_on ≡ Some (NotUnit hint)
+at_clause-more : (hint : ℤ) (lits : List ℤ) (goes_on : ℤ → Option StepFault) → left_in lits ≡ More → at_clause hint lits goes_on ≡ Some (NotUnit hint)
 at_clause-more hint [] goes_on e = absurd cc
 at_clause-more hint (l ∷ ls) goes_on e =
     elim (list_all (int_eq l) ls) as (λ b. cond b (One l) More ≡ More → cond b (goes_on l) (Some (NotUnit hint)) ≡ Some (NotUnit hint)) [
@@ -79,8 +78,8 @@ module _ (live : Live) (lits hints : List ℤ) (marks : Marked) (assumed : List 
       ∙ ap (unit_walk live assumed) (sym (drop_more hints i (pos 0) lt))
       ∙ w.walk
 
-  pub ends_without_clause : (refusal : Refusal) → i < length hints → hint ≡ get_or hints i (pos 0) → Walked live lits hints (drop i hints) marks assumed → hinted_clause live hint ≡ Err refusal → unless_fault (unit_walk live lits hints) ≡ Err refusal
-  ends_without_clause refusal lt is w none = ap unless_fault (sym (next_walk lt is w)) ∙ walk_without live assumed hint (drop (i + 1) hints) refusal none
+  pub ends_without_clause : (fault : StepFault) → i < length hints → hint ≡ get_or hints i (pos 0) → Walked live lits hints (drop i hints) marks assumed → hinted_clause live hint ≡ Err fault → unless_fault (unit_walk live lits hints) ≡ Err fault
+  ends_without_clause fault lt is w none = ap unless_fault (sym (next_walk lt is w)) ∙ walk_without live assumed hint (drop (i + 1) hints) fault none
 
   -- the next hint has a clause
   clause_walk : (clause : Clause) (left : Left) → i < length hints → hint ≡ get_or hints i (pos 0) → Walked live lits hints (drop i hints) marks assumed → hinted_clause live hint ≡ Ok clause → left ≡ left_in (filter (λ l. not (set.contains marks.lits l)) clause)
@@ -92,7 +91,7 @@ module _ (live : Live) (lits hints : List ℤ) (marks : Marked) (assumed : List 
       let c = clause_walk clause Nothing lt is w some e in
       ap unless_fault (c.1 ∙ at_clause-nothing hint (remaining assumed clause) (λ l. unit_walk live (assumed ++ negation l ∷ []) (drop (i + 1) hints)) c.0)
 
-  pub ends_not_unit : (clause : Clause) → i < length hints → hint ≡ get_or hints i (pos 0) → Walked live lits hints (drop i hints) marks assumed → hinted_clause live hint ≡ Ok clause → More ≡ left_in (filter (λ l. not (set.contains marks.lits l)) clause) → unless_fault (unit_walk live lits hints) ≡ Err (refusals.NotUnit hint)
+  pub ends_not_unit : (clause : Clause) → i < length hints → hint ≡ get_or hints i (pos 0) → Walked live lits hints (drop i hints) marks assumed → hinted_clause live hint ≡ Ok clause → More ≡ left_in (filter (λ l. not (set.contains marks.lits l)) clause) → unless_fault (unit_walk live lits hints) ≡ Err (NotUnit hint)
   ends_not_unit clause lt is w some e =
       let c = clause_walk clause More lt is w some e in
       ap unless_fault (c.1 ∙ at_clause-more hint (remaining assumed clause) (λ l. unit_walk live (assumed ++ negation l ∷ []) (drop (i + 1) hints)) c.0)
@@ -106,5 +105,5 @@ module _ (live : Live) (lits hints : List ℤ) (marks : Marked) (assumed : List 
         walk = sym (c.1 ∙ at_clause-one hint (remaining assumed clause) (λ m. unit_walk live (assumed ++ negation m ∷ []) (drop (i + 1) hints)) l c.0);
       }
 
-  pub ends_with_no_conflict : length hints ≤ i → Walked live lits hints (drop i hints) marks assumed → unless_fault (unit_walk live lits hints) ≡ Err refusals.NoConflict
+  pub ends_with_no_conflict : length hints ≤ i → Walked live lits hints (drop i hints) marks assumed → unless_fault (unit_walk live lits hints) ≡ Err NoConflict
   ends_with_no_conflict le w = ap unless_fault (sym (ap (unit_walk live assumed) (sym (drop_all i hints le)) ∙ w.walk))

@@ -7,12 +7,12 @@ use Rattle.lls_lit.specs.Formula.{Clause, is_literal_of, is_within}
 use Rattle.lls_cnf.proofs.Elements.{passes_at}
 use Rattle.lls_prooflog.specs.UnitWalk.{Live, find_clause}
 use Rattle.lls_lrat.specs.Hinted.{are_within, known_clause, hinted_clause}
-use Rattle.lls_lrat.proofs.Booleans.{both_true}
+use Rattle.std.proofs.lemmas.Bool.{and_parts}
 
 found_within : (vars : ℕ) (live : Live) (id : ℕ) (clause : Clause) → are_within vars live ≡ true → find_clause live id ≡ Some clause → is_within vars clause ≡ true
 found_within vars [] id clause all e = absurd cc
 found_within vars (pair ∷ rest) id clause all e =
-    let both = both_true (is_within vars pair.1) (are_within vars rest) all in
+    let both = and_parts (is_within vars pair.1) (are_within vars rest) all in
     elim (eqb pair.0 id) as (λ b. cond b (Some pair.1) (find_clause rest id) ≡ Some clause → is_within vars clause ≡ true) [
       | true ↦ λ h. let same : pair.1 ≡ clause = same_Some pair.1 clause h in rw (← same) both.0
       | false ↦ λ h. found_within vars rest id clause both.1 h
@@ -30,7 +30,7 @@ hinted_within vars live (negsuc n) clause all e = absurd cc
 pub literal_within : (vars : ℕ) (clause : Clause) (i : ℕ) (d : ℤ) → is_within vars clause ≡ true → i < length clause → variable_of (get_or clause i d) ≤ vars
 literal_within vars clause i d all lt =
     let v = variable_of (get_or clause i d) in
-    leb-true v vars (both_true (leb 1 v) (leb v vars) (passes_at (is_literal_of vars) clause i (get_or clause i d) all (slice_get-get_or clause i d lt))).1
+    leb-true v vars (and_parts (leb 1 v) (leb v vars) (passes_at (is_literal_of vars) clause i (get_or clause i d) all (slice_get-get_or clause i d lt))).1
 
 pub variable_of-negation : (l : ℤ) → variable_of (negation l) ≡ variable_of l
 variable_of-negation (pos zero) = refl

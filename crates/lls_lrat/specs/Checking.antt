@@ -2,9 +2,8 @@
 use Rattle.std.specs.Prelude.{◌≡◌, ℕ, Bool, true, false, Option, Some, None, Result, Ok, Err, if◌then◌else◌}
 use Rattle.lls_lit.specs.Formula.{Cnf, IsUnsatisfiable}
 use Rattle.lls_prooflog.specs.declared.step.Step.{Step}
-use Rattle.lls_prooflog.specs.Steps.{Live, Fault, fault_of, after, is_empty_addition, KeepsSatisfiable}
-use Rattle.lls_lrat.specs.declared.refusal.Refusal.{Refusal}
-use Rattle.lls_lrat.specs.Refusals.{refusal_of}
+use Rattle.lls_prooflog.specs.declared.step_fault.StepFault.{StepFault}
+use Rattle.lls_prooflog.specs.Steps.{Live, fault_of, after, is_empty_addition, KeepsSatisfiable}
 use Rattle.lls_lrat.specs.Hinted.{are_within}
 use Rattle.lls_lrat.specs.declared.checker.Progress.{Progress}
 use Rattle.lls_lrat.specs.declared.checker.Progress.TheVariants.{Going, Done}
@@ -16,12 +15,12 @@ pub record Checking : Type 0 where
   pub done : Bool
 
 -- the checker after a step with that fault
-abbrev pub after_fault : Checking → Step → Option Fault → Result Checking Refusal
+abbrev pub after_fault : Checking → Step → Option StepFault → Result Checking StepFault
 after_fault c step None = Ok (record c { live = after c.live step; done = is_empty_addition step })
-after_fault c step (Some fault) = Err (refusal_of fault)
+after_fault c step (Some fault) = Err fault
 
--- the checker after a step, or why it is refused. A checker that is done stays as it is
-abbrev pub stepped : Checking → Step → Result Checking Refusal
+-- the checker after a step, or why the step isn't good. A checker that is done stays as it is
+abbrev pub stepped : Checking → Step → Result Checking StepFault
 stepped c step = if c.done then Ok c else after_fault c step (fault_of c.live step)
 
 abbrev pub progress_of : Bool → Progress

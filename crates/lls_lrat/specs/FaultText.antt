@@ -1,32 +1,32 @@
 -- The texts of refusals and of a proof's faults: the name, then the numbers, each after one blank.
-use Rattle.std.specs.Prelude.{ℕ, List, ◌++◌, codes}
-use Rattle.std.specs.Fmt.{decimal, signed_decimal}
+use Rattle.std.specs.Prelude.{ℕ, List, ◌++◌, Option, Some, None, codes}
+use Rattle.std.specs.Fmt.{decimal}
+use Rattle.std.specs.Option.{option_map}
+use Rattle.lls_prooflog.specs.declared.line_fault.LineFault.{LineFault}
+use Rattle.lls_prooflog.specs.declared.step_fault.StepFault.{StepFault}
+use Rattle.lls_prooflog.specs.FaultText.{line_fault_name, line_fault_column, step_fault_name, culprit_of, culprit_text, step_fault_text}
 use Rattle.lls_lrat.specs.declared.refusal.Refusal.{Refusal}
 use Rattle.lls_lrat.specs.declared.refusal.Refusal.TheVariants as refusals
 use Rattle.lls_lrat.specs.declared.error.CheckError.{CheckError}
 use Rattle.lls_lrat.specs.declared.error.CheckError.TheVariants as errors
-use Rattle.lls_prooflog.specs.declared.line_error.LineError.TheVariants as lines
 
 abbrev pub refusal_text : Refusal → List ℕ
-refusal_text (refusals.IdLive id) = codes "IdLive " ++ decimal id
-refusal_text (refusals.NoClause hint) = codes "NoClause " ++ signed_decimal hint
-refusal_text (refusals.NotUnit hint) = codes "NotUnit " ++ signed_decimal hint
-refusal_text refusals.NoConflict = codes "NoConflict"
-refusal_text (refusals.RatHint hint) = codes "RatHint " ++ signed_decimal hint
+refusal_text (refusals.Fault fault) = step_fault_text fault
 refusal_text refusals.Memory = codes "Memory"
 
--- the line stands before the numbers of what is inside
+-- the line stands between a fault's name and its own number, if it has one
+abbrev pub on_line : List ℕ → ℕ → Option (List ℕ) → List ℕ
+on_line name line None = name ++ codes " " ++ decimal line
+on_line name line (Some number) = name ++ codes " " ++ decimal line ++ codes " " ++ number
+
+abbrev pub line_text : ℕ → LineFault → List ℕ
+line_text line fault = on_line (line_fault_name fault) line (option_map decimal (line_fault_column fault))
+
+abbrev pub step_text : ℕ → StepFault → List ℕ
+step_text line fault = on_line (step_fault_name fault) line (option_map culprit_text (culprit_of fault))
+
 abbrev pub check_error_text : CheckError → List ℕ
-check_error_text (errors.Line line (lines.BadWord column)) = codes "BadWord " ++ decimal line ++ codes " " ++ decimal column
-check_error_text (errors.Line line lines.NoZero) = codes "NoZero " ++ decimal line
-check_error_text (errors.Line line (lines.Extra column)) = codes "Extra " ++ decimal line ++ codes " " ++ decimal column
-check_error_text (errors.Line line (lines.Range column)) = codes "Range " ++ decimal line ++ codes " " ++ decimal column
-check_error_text (errors.Line line lines.Memory) = codes "Memory"
-check_error_text (errors.Step line (refusals.IdLive id)) = codes "IdLive " ++ decimal line ++ codes " " ++ decimal id
-check_error_text (errors.Step line (refusals.NoClause hint)) = codes "NoClause " ++ decimal line ++ codes " " ++ signed_decimal hint
-check_error_text (errors.Step line (refusals.NotUnit hint)) = codes "NotUnit " ++ decimal line ++ codes " " ++ signed_decimal hint
-check_error_text (errors.Step line refusals.NoConflict) = codes "NoConflict " ++ decimal line
-check_error_text (errors.Step line (refusals.RatHint hint)) = codes "RatHint " ++ decimal line ++ codes " " ++ signed_decimal hint
-check_error_text (errors.Step line refusals.Memory) = codes "Memory"
+check_error_text (errors.Line line fault) = line_text line fault
+check_error_text (errors.Step line fault) = step_text line fault
 check_error_text errors.NoEmpty = codes "NoEmpty"
 check_error_text errors.Memory = codes "Memory"

@@ -1,19 +1,24 @@
--- For private contracts alone: the clause of a hint.
+-- For private contracts alone: the clause of a hint, and where the hints lead.
 use Rattle.std.specs.Prelude.{ℕ, ℤ, pos, negsuc, Bool, Option, Some, None, Result, Ok, Err}
 use Rattle.std.specs.List.{list_all}
 use Rattle.lls_lit.specs.Formula.{Clause, is_within}
 use Rattle.lls_prooflog.specs.UnitWalk.{Live, find_clause}
-use Rattle.lls_lrat.specs.declared.refusal.Refusal.{Refusal}
-use Rattle.lls_lrat.specs.declared.refusal.Refusal.TheVariants.{NoClause, RatHint}
+use Rattle.lls_prooflog.specs.declared.step_fault.StepFault.{StepFault}
+use Rattle.lls_prooflog.specs.declared.step_fault.StepFault.TheVariants.{NoClause, RatHint}
 
-abbrev pub known_clause : ℤ → Option Clause → Result Clause Refusal
+abbrev pub known_clause : ℤ → Option Clause → Result Clause StepFault
 known_clause hint None = Err (NoClause hint)
 known_clause hint (Some clause) = Ok clause
 
 -- a negative hint has none
-abbrev pub hinted_clause : Live → ℤ → Result Clause Refusal
+abbrev pub hinted_clause : Live → ℤ → Result Clause StepFault
 hinted_clause live (pos id) = known_clause (pos id) (find_clause live id)
 hinted_clause live (negsuc n) = Err (RatHint (negsuc n))
+
+-- Ok where there is no fault
+abbrev pub unless_fault : Option StepFault → Result (Unit {0}) StepFault
+unless_fault None = Ok tt
+unless_fault (Some fault) = Err fault
 
 -- no clause has a literal beyond the variables
 abbrev pub are_within : ℕ → Live → Bool

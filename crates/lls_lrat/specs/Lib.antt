@@ -1,5 +1,4 @@
 pub mod FaultText
-pub mod Refusals
 pub mod Stored
 pub mod Hinted
 pub mod Left

@@ -2,7 +2,6 @@
 use Rattle.std.specs.Prelude.{ℕ, Option, Some, None, Result, Ok, Err, if◌then◌else◌}
 use Rattle.lls_lrat.specs.Checking.{Checking}
 use Rattle.lls_lrat.specs.Verdict.{Verdict, Accepted, BadLine, BadStep, NoEmpty, State}
-use Rattle.lls_lrat.specs.Refusals.{refusal_of}
 use Rattle.lls_lrat.specs.declared.error.CheckError.{CheckError}
 use Rattle.lls_lrat.specs.declared.error.CheckError.TheVariants as errors
 
@@ -15,7 +14,7 @@ abbrev pub unless_ended : State → Option Verdict → Result State CheckError
 unless_ended state None = Ok state
 unless_ended state (Some Accepted) = Ok state
 unless_ended state (Some (BadLine number fault)) = Err (errors.Line number fault)
-unless_ended state (Some (BadStep number fault)) = Err (errors.Step number (refusal_of fault))
+unless_ended state (Some (BadStep number fault)) = Err (errors.Step number fault)
 unless_ended state (Some NoEmpty) = Err errors.NoEmpty
 
 abbrev pub or_fault : State → Result State CheckError

@@ -2,41 +2,22 @@
 use Rattle.std.specs.Prelude.{ℕ, ◌+◌, List, fold, Option, Some, None, Result, Ok, Err, if◌then◌else◌}
 use Rattle.lls_text.specs.Lines.{lines_of}
 use Rattle.lls_lit.specs.Formula.{Cnf}
-use Rattle.lls_prooflog.specs.declared.line_error.LineError.{LineError}
-use Rattle.lls_prooflog.specs.declared.line_error.LineError.TheVariants as lines
+use Rattle.lls_prooflog.specs.declared.line_fault.LineFault.{LineFault}
+use Rattle.lls_prooflog.specs.declared.step_fault.StepFault.{StepFault}
 use Rattle.lls_prooflog.specs.declared.step.Step.{Step}
 use Rattle.lls_prooflog.specs.Line.{step_of_line}
-use Rattle.lls_prooflog.specs.Steps.{Live, Fault, numbered, fault_of, after, is_empty_addition}
-use Rattle.lls_lrat.specs.Refusals.{refusal_of}
-use Rattle.lls_lrat.specs.declared.refusal.Refusal.{Refusal}
-use Rattle.lls_lrat.specs.declared.refusal.Refusal.TheVariants as refusals
+use Rattle.lls_prooflog.specs.Steps.{Live, numbered, fault_of, after, is_empty_addition}
 use Rattle.lls_lrat.specs.declared.error.CheckError.{CheckError}
 use Rattle.lls_lrat.specs.declared.error.CheckError.TheVariants as errors
-
--- a line's fault for a proof, and a refused step's: want of memory is the whole check's
-abbrev pub line_error : ℕ → LineError → CheckError
-line_error number lines.Memory = errors.Memory
-line_error number (lines.BadWord column) = errors.Line number (lines.BadWord column)
-line_error number lines.NoZero = errors.Line number lines.NoZero
-line_error number (lines.Extra column) = errors.Line number (lines.Extra column)
-line_error number (lines.Range column) = errors.Line number (lines.Range column)
-
-abbrev pub step_error : ℕ → Refusal → CheckError
-step_error number refusals.Memory = errors.Memory
-step_error number (refusals.IdLive id) = errors.Step number (refusals.IdLive id)
-step_error number (refusals.NoClause hint) = errors.Step number (refusals.NoClause hint)
-step_error number (refusals.NotUnit hint) = errors.Step number (refusals.NotUnit hint)
-step_error number refusals.NoConflict = errors.Step number refusals.NoConflict
-step_error number (refusals.RatHint hint) = errors.Step number (refusals.RatHint hint)
 
 -- what a proof amounts to; lines are counted from 1
 pub data Verdict : Type 0 where
   -- the empty clause was added, and every line up to it can be read and is good
   Accepted : Verdict
   -- the first line with a fault can't be read
-  BadLine : ℕ → LineError → Verdict
+  BadLine : ℕ → LineFault → Verdict
   -- or its step isn't good
-  BadStep : ℕ → Fault → Verdict
+  BadStep : ℕ → StepFault → Verdict
   -- the lines are good and don't add the empty clause
   NoEmpty : Verdict
 
@@ -53,7 +34,7 @@ abbrev pub ended : State → Verdict → State
 ended state verdict = record state { lines = state.lines + 1; end = Some verdict }
 
 -- the state after a step that the next line writes
-abbrev pub after_step : State → Step → Option Fault → State
+abbrev pub after_step : State → Step → Option StepFault → State
 after_step state step (Some fault) = ended state (BadStep (state.lines + 1) fault)
 after_step state step None =
     record {
@@ -62,7 +43,7 @@ after_step state step None =
       end = if is_empty_addition step then Some Accepted else None;
     }
 
-abbrev pub after_reading : State → Result (Option Step) LineError → State
+abbrev pub after_reading : State → Result (Option Step) LineFault → State
 after_reading state (Err fault) = ended state (BadLine (state.lines + 1) fault)
 after_reading state (Ok None) = record state { lines = state.lines + 1 }
 after_reading state (Ok (Some step)) = after_step state step (fault_of state.live step)
@@ -88,5 +69,5 @@ verdict formula text = closing ((fold line_taken (start formula) (lines_of text)
 abbrev pub answer_of : Verdict → Result (Unit {0}) CheckError
 answer_of Accepted = Ok tt
 answer_of (BadLine number fault) = Err (errors.Line number fault)
-answer_of (BadStep number fault) = Err (errors.Step number (refusal_of fault))
+answer_of (BadStep number fault) = Err (errors.Step number fault)
 answer_of NoEmpty = Err errors.NoEmpty

@@ -9,8 +9,9 @@ ghost use Rattle.lls_lrat.specs.UnderWay.{at_line, or_fault};
 use crate::checked::Checked;
 use crate::checker::{Checker, Progress};
 use crate::error::CheckError;
+use crate::refusal::Refusal;
 use lls_cnf::Formula;
-use lls_prooflog::read_line;
+use lls_prooflog::{LineError, read_line};
 use lls_text::Lines;
 use std::alloc::Global;
 
@@ -59,11 +60,13 @@ fn take_line(
     let step = match read_line(alloc, line) {
         Ok(Some(step)) => step,
         Ok(None) => return Ok(Progress::Going),
-        Err(error) => return Err(CheckError::at_line(number, error)),
+        Err(LineError::Fault(fault)) => return Err(CheckError::Line(number, fault)),
+        Err(LineError::Memory) => return Err(CheckError::Memory),
     };
     match checker.step(&step) {
         Ok(progress) => Ok(progress),
-        Err(error) => Err(CheckError::at_step(number, error)),
+        Err(Refusal::Fault(fault)) => Err(CheckError::Step(number, fault)),
+        Err(Refusal::Memory) => Err(CheckError::Memory),
     }
 }
 

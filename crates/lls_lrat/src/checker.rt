@@ -1,9 +1,9 @@
 // The checker of proof steps.
 ghost use Rattle.std.specs.Prelude.{◌≡◌, ◌≤◌, true, false, Some, None, IfOk, OnOk, OnErr, if◌then◌else◌};
-ghost use Rattle.lls_base.specs.Results.{Gives};
 ghost use Rattle.lls_lit.specs.Formula.{is_within, IsUnsatisfiable};
 ghost use Rattle.lls_prooflog.specs.Range.{IsInRange};
 ghost use Rattle.lls_prooflog.specs.Steps.{numbered};
+ghost use Rattle.lls_prooflog.specs.Wrapped.{GivesWrapped};
 ghost use Rattle.lls_prooflog.specs.declared.step.Step.TheVariants.{Add};
 
 use crate::checked::Checked;
@@ -13,7 +13,7 @@ use crate::walk::follow_hints;
 use lls_base::Memory;
 use lls_cnf::Formula;
 use lls_lit::{Lit, Marks, Var};
-use lls_prooflog::Step;
+use lls_prooflog::{Step, StepFault};
 use std::alloc::Global;
 use std::marker::Model;
 
@@ -74,7 +74,7 @@ impl<'f> Checker<'f> {
     /// Takes the next step of the proof. After an error the checker is as before; after `Done` no step changes it.
     pub fn step(&mut self, step: &Step) -> Result<Progress, Refusal>
         requires { IsInRange step.now }
-        ensures stepped { Gives Refusal.Memory (λ _. self.new) result (stepped self.old step.now) }
+        ensures stepped { GivesWrapped Refusal.Fault (λ _. self.new) result (stepped self.old step.now) }
         ensures progress { IfOk result (λ p. p ≡ progress_of self.new.done) }
         ensures err { OnErr result (self.new ≡ self.old) }
         ensures sound { result ≡ Ok Progress.Done → IsUnsatisfiable self.new.formula }
@@ -105,14 +105,14 @@ impl<'f> Checker<'f> {
     // The step that adds a clause, where the empty clause wasn't added yet.
     fn add(&mut self, id: u64, lits: &[Lit], hints: &[i64]) -> Result<Progress, Refusal>
         requires { self.old.done ≡ false }
-        ensures stepped { Gives Refusal.Memory (λ _. self.new) result
+        ensures stepped { GivesWrapped Refusal.Fault (λ _. self.new) result
             (stepped self.old (Add id lits.now hints.now)) }
         ensures progress { IfOk result (λ p. p ≡ progress_of self.new.done) }
         ensures err { OnErr result (self.new ≡ self.old) }
         ensures sound { result ≡ Ok Progress.Done → IsUnsatisfiable self.new.formula }
     {
         if self.live.find(id).is_some() {
-            return Err(Refusal::IdLive(id));
+            return Err(StepFault::IdLive(id).into());
         }
         reach(self.alloc, &mut self.marks, lits)?;
         follow_hints(&self.live, &mut self.marks, lits, hints)?;

@@ -1,18 +1,15 @@
 // Why a proof was not accepted.
-use crate::refusal::Refusal;
 use lls_base::Memory;
-use lls_prooflog::LineError;
+use lls_prooflog::{LineFault, StepFault};
 use std::fmt;
 
 /// Why a proof was not accepted. Lines are counted from 1.
-///
-/// `Line` and `Step` tell the first line with a fault; what is inside them is never `Memory`.
 #[derive(Clone, Copy, Debug, PartialEq, Eq)]
 pub enum CheckError {
-    /// This line writes no step.
-    Line(u64, LineError),
-    /// The step on this line is refused.
-    Step(u64, Refusal),
+    /// The first line with a fault writes no step.
+    Line(u64, LineFault),
+    /// The first line with a fault writes a step that isn't good.
+    Step(u64, StepFault),
     /// The lines end before the empty clause was added.
     NoEmpty,
     /// An allocation was refused.
@@ -30,31 +27,6 @@ impl From<Memory> for CheckError {
     }
 }
 
-impl CheckError {
-    ghost use Rattle.std.specs.Prelude.{◌≡◌};
-    ghost use Rattle.lls_lrat.specs.Verdict.{line_error, step_error};
-
-    /// What a line that can't be read is for the proof.
-    pub(crate) fn at_line(number: u64, error: LineError) -> CheckError
-        ensures { result ≡ line_error number error }
-    {
-        match error {
-            LineError::Memory => CheckError::Memory,
-            fault => CheckError::Line(number, fault),
-        }
-    }
-
-    /// What a refused step is for the proof.
-    pub(crate) fn at_step(number: u64, error: Refusal) -> CheckError
-        ensures { result ≡ step_error number error }
-    {
-        match error {
-            Refusal::Memory => CheckError::Memory,
-            refusal => CheckError::Step(number, refusal),
-        }
-    }
-}
-
 impl fmt::Display for CheckError {
     ghost use Rattle.std.specs.Prelude.{Some};
     ghost use Rattle.lls_lrat.specs.FaultText.{check_error_text};
@@ -63,22 +35,50 @@ impl fmt::Display for CheckError {
 
     fn fmt<W: fmt::Write>(&self, f: &mut fmt::Formatter<W>) -> fmt::Result {
         match self {
-            CheckError::Line(line, LineError::BadWord(column)) => write!(
-                f,
-                "BadWord {line} {column}"
-            ),
-            CheckError::Line(line, LineError::NoZero) => write!(f, "NoZero {line}"),
-            CheckError::Line(line, LineError::Extra(column)) => write!(f, "Extra {line} {column}"),
-            CheckError::Line(line, LineError::Range(column)) => write!(f, "Range {line} {column}"),
-            CheckError::Step(line, Refusal::IdLive(id)) => write!(f, "IdLive {line} {id}"),
-            CheckError::Step(line, Refusal::NoClause(hint)) => write!(f, "NoClause {line} {hint}"),
-            CheckError::Step(line, Refusal::NotUnit(hint)) => write!(f, "NotUnit {line} {hint}"),
-            CheckError::Step(line, Refusal::NoConflict) => write!(f, "NoConflict {line}"),
-            CheckError::Step(line, Refusal::RatHint(hint)) => write!(f, "RatHint {line} {hint}"),
+            CheckError::Line(line, fault) => write!(f, "{}", LineAtFault(*line, *fault)),
+            CheckError::Step(line, fault) => write!(f, "{}", StepAtFault(*line, *fault)),
             CheckError::NoEmpty => write!(f, "NoEmpty"),
-            CheckError::Line(_, LineError::Memory)
-            | CheckError::Step(_, Refusal::Memory)
-            | CheckError::Memory => write!(f, "Memory"),
+            CheckError::Memory => write!(f, "Memory"),
+        }
+    }
+}
+
+/// A line's fault, which tells the line before its own column.
+#[derive(Clone, Copy)]
+struct LineAtFault(u64, LineFault);
+
+impl fmt::Display for LineAtFault {
+    ghost use Rattle.std.specs.Prelude.{Some};
+    ghost use Rattle.lls_lrat.specs.FaultText.{line_text};
+
+    ghost output = { λ at. Some (line_text at.0 at.1) };
+
+    fn fmt<W: fmt::Write>(&self, f: &mut fmt::Formatter<W>) -> fmt::Result {
+        let LineAtFault(line, fault) = *self;
+        let name = fault.name();
+        match fault.column() {
+            Some(column) => write!(f, "{name} {line} {column}"),
+            None => write!(f, "{name} {line}"),
+        }
+    }
+}
+
+/// A step's fault, which tells the line before its own id or hint.
+#[derive(Clone, Copy)]
+struct StepAtFault(u64, StepFault);
+
+impl fmt::Display for StepAtFault {
+    ghost use Rattle.std.specs.Prelude.{Some};
+    ghost use Rattle.lls_lrat.specs.FaultText.{step_text};
+
+    ghost output = { λ at. Some (step_text at.0 at.1) };
+
+    fn fmt<W: fmt::Write>(&self, f: &mut fmt::Formatter<W>) -> fmt::Result {
+        let StepAtFault(line, fault) = *self;
+        let name = fault.name();
+        match fault.culprit() {
+            Some(culprit) => write!(f, "{name} {line} {culprit}"),
+            None => write!(f, "{name} {line}"),
         }
     }
 }

@@ -1,22 +1,26 @@
 // Why a step of a proof was refused.
 use lls_base::Memory;
+use lls_prooflog::StepFault;
 use std::fmt;
 
 /// Why a step of a proof was refused.
 #[derive(Clone, Copy, Debug, PartialEq, Eq)]
 pub enum Refusal {
-    /// A clause with this id is live.
-    IdLive(u64),
-    /// No live clause has the id of this hint.
-    NoClause(i64),
-    /// The clause of this hint has two different literals that aren't false.
-    NotUnit(i64),
-    /// The hints are at their end, and no clause has only false literals.
-    NoConflict,
-    /// This hint is negative.
-    RatHint(i64),
+    /// The step isn't good.
+    Fault(StepFault),
     /// An allocation was refused.
     Memory,
+}
+
+impl From<StepFault> for Refusal {
+    ghost use Rattle.std.specs.Prelude.{◌≡◌};
+    ghost use Rattle.lls_lrat.specs.declared.refusal.Refusal.TheVariants as refusals;
+
+    ghost from_gives = { λ fault e. e ≡ refusals.Fault fault };
+
+    fn from(fault: StepFault) -> Self {
+        Refusal::Fault(fault)
+    }
 }
 
 impl From<Memory> for Refusal {
@@ -38,11 +42,7 @@ impl fmt::Display for Refusal {
 
     fn fmt<W: fmt::Write>(&self, f: &mut fmt::Formatter<W>) -> fmt::Result {
         match self {
-            Refusal::IdLive(id) => write!(f, "IdLive {id}"),
-            Refusal::NoClause(hint) => write!(f, "NoClause {hint}"),
-            Refusal::NotUnit(hint) => write!(f, "NotUnit {hint}"),
-            Refusal::NoConflict => write!(f, "NoConflict"),
-            Refusal::RatHint(hint) => write!(f, "RatHint {hint}"),
+            Refusal::Fault(fault) => write!(f, "{fault}"),
             Refusal::Memory => write!(f, "Memory"),
         }
     }

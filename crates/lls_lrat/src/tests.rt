@@ -5,7 +5,7 @@ ghost use Rattle.lls_lit.specs.Formula.{is_within};
 use crate::*;
 use lls_cnf::Formula;
 use lls_lit::Lit;
-use lls_prooflog::{Hints, Ids, Lits, Step};
+use lls_prooflog::{Hints, Ids, Lits, Step, StepFault};
 use std::alloc::Global;
 use std::process::Abort;
 use std::test::Fail;
@@ -136,22 +136,25 @@ fn steps(alloc: Global) -> Result<Vec<(Step, Taken)>, Fail> {
     steps.push((deletion(alloc, &[1, 9])?, Ok(Progress::Going)))?;
     steps.push((
         addition(alloc, 6, &[], &[1, 2, 4])?,
-        Err(Refusal::NoClause(1)),
+        Err(StepFault::NoClause(1).into()),
     ))?;
     steps.push((
         addition(alloc, 5, &[], &[5, 2, 4])?,
-        Err(Refusal::IdLive(5)),
+        Err(StepFault::IdLive(5).into()),
     ))?;
     steps.push((
         addition(alloc, 6, &[], &[5, -2, 4])?,
-        Err(Refusal::RatHint(-2)),
+        Err(StepFault::RatHint(-2).into()),
     ))?;
     steps.push((
         addition(alloc, 6, &[], &[3, 2, 4])?,
-        Err(Refusal::NotUnit(3)),
+        Err(StepFault::NotUnit(3).into()),
     ))?;
     steps.push((addition(alloc, 1, &[-2], &[5, 4])?, Ok(Progress::Going)))?;
-    steps.push((addition(alloc, 6, &[], &[5])?, Err(Refusal::NoConflict)))?;
+    steps.push((
+        addition(alloc, 6, &[], &[5])?,
+        Err(StepFault::NoConflict.into()),
+    ))?;
     steps.push((addition(alloc, 6, &[], &[5, 2, 4])?, Ok(Progress::Done)))?;
     steps.push((addition(alloc, 6, &[], &[])?, Ok(Progress::Done)))?;
     Ok(steps)

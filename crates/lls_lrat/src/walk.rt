@@ -5,12 +5,11 @@ ghost use Rattle.std.specs.FinSet as set;
 ghost use Rattle.lls_lit.specs.Formula.{is_within};
 ghost use Rattle.lls_prooflog.specs.UnitWalk.{unit_walk};
 ghost use Rattle.lls_lrat.specs.Left.{left_in, IsOneWithin};
-ghost use Rattle.lls_lrat.specs.Hinted.{are_within, hinted_clause};
-ghost use Rattle.lls_lrat.specs.Refusals.{unless_fault};
+ghost use Rattle.lls_lrat.specs.Hinted.{are_within, hinted_clause, unless_fault};
 
 use crate::live::LiveClauses;
-use crate::refusal::Refusal;
 use lls_lit::{Lit, Marks};
+use lls_prooflog::StepFault;
 
 /// The different literals of a clause that aren't marked.
 #[derive(Clone, Copy, Debug)]
@@ -26,7 +25,7 @@ pub(crate) fn follow_hints(
     marks: &mut Marks,
     lits: &[Lit],
     hints: &[i64],
-) -> Result<(), Refusal>
+) -> Result<(), StepFault>
     requires lits { is_within marks.old.vars lits.now ≡ true }
     requires live { are_within marks.old.vars live.now ≡ true }
     ensures exact { result ≡ unless_fault (unit_walk live.now lits.now hints.now) }
@@ -41,7 +40,7 @@ pub(crate) fn follow_hints(
             Left::More => return Err(not_unit(hint)),
         }
     }
-    Err(Refusal::NoConflict)
+    Err(StepFault::NoConflict)
 }
 
 // Marks these literals and no others.
@@ -56,24 +55,24 @@ fn mark_all(marks: &mut Marks, lits: &[Lit])
 }
 
 // The clause of a hint. A negative hint has none.
-fn hinted<'a>(live: &'a LiveClauses, hint: &i64) -> Result<&'a [Lit], Refusal>
+fn hinted<'a>(live: &'a LiveClauses, hint: &i64) -> Result<&'a [Lit], StepFault>
     ensures clause { IfOk result (λ clause. hinted_clause live.now hint.now ≡ Ok clause.now) }
-    ensures refusal { IfErr result (λ refusal. hinted_clause live.now hint.now ≡ Err refusal) }
+    ensures fault { IfErr result (λ fault. hinted_clause live.now hint.now ≡ Err fault) }
 {
     if *hint < 0 {
-        return Err(Refusal::RatHint(*hint));
+        return Err(StepFault::RatHint(*hint));
     }
     match live.find(*hint as u64) {
         Some(clause) => Ok(clause),
-        None => Err(Refusal::NoClause(*hint)),
+        None => Err(StepFault::NoClause(*hint)),
     }
 }
 
-// The refusal of a hint whose clause has two literals left.
-fn not_unit(hint: &i64) -> Refusal
-    ensures { result ≡ Refusal.NotUnit hint.now }
+// The fault of a hint whose clause has two literals left.
+fn not_unit(hint: &i64) -> StepFault
+    ensures { result ≡ StepFault.NotUnit hint.now }
 {
-    Refusal::NotUnit(*hint)
+    StepFault::NotUnit(*hint)
 }
 
 // What is left of a clause without the marked literals.

@@ -2,20 +2,22 @@
 use Rattle.std.proofs.Common.{◌≡◌, ℕ, zero, suc, Bool, true, false, not, cond, ◌&&◌, List, [], ◌∷◌, map, Option, Some, None, refl, arith}
 use Rattle.std.specs.Prelude.{ℤ, pos, Result, Ok, Err, IfOk, IfSome}
 use Rattle.std.specs.List.{list_all, list_any}
-use Rattle.lls_base.specs.Results.{and_then, Gives}
+use Rattle.lls_base.specs.Results.{and_then}
 use Rattle.lls_text.specs.Words.{PlacedWord}
 use Rattle.lls_lit.specs.Literal.{variable_of, negation}
+use Rattle.lls_prooflog.specs.declared.line_fault.LineFault.{LineFault}
 use Rattle.lls_prooflog.specs.declared.line_error.LineError.{LineError}
-use Rattle.lls_prooflog.specs.declared.line_error.LineError.TheVariants.{Memory}
+use Rattle.lls_prooflog.specs.declared.line_error.LineError.TheVariants.{Fault}
 use Rattle.lls_prooflog.specs.declared.number.Number.{Number}
 use Rattle.lls_prooflog.specs.declared.step.Step.{Step}
 use Rattle.lls_prooflog.specs.declared.step.Step.TheVariants.{Add, Del}
+use Rattle.lls_prooflog.specs.Wrapped.{GivesWrapped}
 use Rattle.lls_prooflog.specs.Number.{number_in, value_of, id_in, hint_in, leading_in, literal_in, in_range, ranged, item}
 use Rattle.lls_prooflog.specs.Range.{is_id, is_hint, is_in_range, IsInRange}
 use Rattle.lls_prooflog.specs.Line.{is_end, before_end, behind_end, all_of, if_ended, listed, step_alone, addition, deletion}
 
 -- a value that follows from a part: the part has a value
-and_then-Ok : {A B : Type 0} (part : Result A LineError) (more : A → Result B LineError) (b : B) → and_then part more ≡ Ok b → (a : A) × ((part ≡ Ok a) × (more a ≡ Ok b))
+and_then-Ok : {A B : Type 0} (part : Result A LineFault) (more : A → Result B LineFault) (b : B) → and_then part more ≡ Ok b → (a : A) × ((part ≡ Ok a) × (more a ≡ Ok b))
 and_then-Ok (Ok a) more b e = (a, (refl, e))
 and_then-Ok (Err fault) more b e = absurd cc
 
@@ -49,7 +51,7 @@ id_item word n e = elim (number_in word.text) as (λ o. ranged id_in word.column
 hint_item : (word : PlacedWord) (z : ℤ) → item hint_in word ≡ Ok z → is_hint z ≡ true
 hint_item word z e = elim (number_in word.text) as (λ o. ranged hint_in word.column o ≡ Ok z → is_hint z ≡ true) [ None ↦ λ h. absurd cc | Some number ↦ λ h. hint_within number word.column z h ] e
 
-module _ {X : Type 0} (item_of : PlacedWord → Result X LineError) (test : X → Bool) (each : (word : PlacedWord) (x : X) → item_of word ≡ Ok x → test x ≡ true) where
+module _ {X : Type 0} (item_of : PlacedWord → Result X LineFault) (test : X → Bool) (each : (word : PlacedWord) (x : X) → item_of word ≡ Ok x → test x ≡ true) where
   all_pass : (words : List PlacedWord) (xs : List X) → all_of (map item_of words) ≡ Ok xs → list_all test xs ≡ true
   all_pass [] xs e = let same : [] ≡ xs = cc in rw (← same) refl
   all_pass (word ∷ words) xs e =
@@ -58,7 +60,7 @@ module _ {X : Type 0} (item_of : PlacedWord → Result X LineError) (test : X �
       let same : first.0 ∷ rest.0 ≡ xs = same_Ok (first.0 ∷ rest.0) xs (Ok (first.0 ∷ rest.0)) refl rest.1.1 in
       rw (← same, each word first.0 first.1.0, all_pass words rest.0 rest.1.0) refl
     where
-      same_Ok : (a b : List X) (r : Result (List X) LineError) → r ≡ Ok a → r ≡ Ok b → a ≡ b
+      same_Ok : (a b : List X) (r : Result (List X) LineFault) → r ≡ Ok a → r ≡ Ok b → a ≡ b
       same_Ok a b r h k = cc
 
   listed_pass : (words : List PlacedWord) (xs : List X) → listed item_of words ≡ Ok xs → list_all test xs ≡ true
@@ -91,12 +93,12 @@ deletion_in_range first words step e =
     rw (← same) (listed_pass (item id_in) is_id id_item words ids.0 ids.1.0)
 
 -- the same of what a call answers
-pub addition_given : (first : PlacedWord) (words : List PlacedWord) (result : Result (Option Step) LineError) → Gives Memory (λ step. step) result (addition first words) → IfOk result (λ step. IfSome step IsInRange)
+pub addition_given : (first : PlacedWord) (words : List PlacedWord) (result : Result (Option Step) LineError) → GivesWrapped Fault (λ step. step) result (addition first words) → IfOk result (λ step. IfSome step IsInRange)
 addition_given first words (Ok None) h = tt
 addition_given first words (Ok (Some step)) h = addition_in_range first words step h
 addition_given first words (Err fault) h = tt
 
-pub deletion_given : (first : PlacedWord) (words : List PlacedWord) (result : Result (Option Step) LineError) → Gives Memory (λ step. step) result (deletion first words) → IfOk result (λ step. IfSome step IsInRange)
+pub deletion_given : (first : PlacedWord) (words : List PlacedWord) (result : Result (Option Step) LineError) → GivesWrapped Fault (λ step. step) result (deletion first words) → IfOk result (λ step. IfSome step IsInRange)
 deletion_given first words (Ok None) h = tt
 deletion_given first words (Ok (Some step)) h = deletion_in_range first words step h
 deletion_given first words (Err fault) h = tt

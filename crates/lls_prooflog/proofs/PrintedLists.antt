@@ -7,7 +7,7 @@ use Rattle.std.proofs.lemmas.Bool.{and_parts}
 use Rattle.lls_base.specs.Results.{and_then}
 use Rattle.lls_text.specs.Words.{PlacedWord, is_solid, begins_solid, words_from}
 use Rattle.lls_text.proofs.Printed.{words_from-front, words_from-blank}
-use Rattle.lls_prooflog.specs.declared.line_error.LineError.{LineError}
+use Rattle.lls_prooflog.specs.declared.line_fault.LineFault.{LineFault}
 use Rattle.lls_prooflog.specs.Number.{is_zeros}
 use Rattle.lls_prooflog.specs.Line.{is_end, before_end, behind_end, all_of, if_ended, listed, begins_d}
 
@@ -15,7 +15,7 @@ use Rattle.lls_prooflog.specs.Line.{is_end, before_end, behind_end, all_of, if_e
 abbrev pub list_text : {X : Type 0} → (X → List ℕ) → List X → List ℕ
 list_text text_of xs = flat_map (λ x. text_of x ++ codes " ") xs ++ codes "0"
 
-module _ {X : Type 0} (item_of : PlacedWord → Result X LineError) where
+module _ {X : Type 0} (item_of : PlacedWord → Result X LineFault) where
   listed-end : (word : PlacedWord) (words : List PlacedWord) → is_end word ≡ true → listed item_of (word ∷ words) ≡ Ok []
   listed-end word words e = rw e refl
 
@@ -25,7 +25,7 @@ module _ {X : Type 0} (item_of : PlacedWord → Result X LineError) where
   behind-item : (word : PlacedWord) (words : List PlacedWord) → is_end word ≡ false → behind_end (word ∷ words) ≡ behind_end words
   behind-item word words e = rw e refl
 
-  ended : (x : X) (rest : Result (List X) LineError) (has : Bool) → and_then (and_then rest (λ values. Ok (x ∷ values))) (if_ended has) ≡ and_then (and_then rest (if_ended has)) (λ values. Ok (x ∷ values))
+  ended : (x : X) (rest : Result (List X) LineFault) (has : Bool) → and_then (and_then rest (λ values. Ok (x ∷ values))) (if_ended has) ≡ and_then (and_then rest (if_ended has)) (λ values. Ok (x ∷ values))
   ended x (Ok values) true = refl
   ended x (Ok values) false = refl
   ended x (Err fault) has = refl
@@ -34,7 +34,7 @@ module _ {X : Type 0} (item_of : PlacedWord → Result X LineError) where
   listed-item word words x e h = rw (e, h) (ended x (all_of (map item_of (before_end words))) (list_any is_end words))
 
 -- a printed number is a word that is read as that number, and ends no list
-pub record IsPrinted {X : Type 0} (item_of : PlacedWord → Result X LineError) (text : List ℕ) (x : X) : Type 0 where
+pub record IsPrinted {X : Type 0} (item_of : PlacedWord → Result X LineFault) (text : List ℕ) (x : X) : Type 0 where
   pub some : 0 < length text
   pub solid : list_all is_solid text ≡ true
   pub goes_on : is_zeros text ≡ false
@@ -42,13 +42,13 @@ pub record IsPrinted {X : Type 0} (item_of : PlacedWord → Result X LineError) 
   pub read : (column : ℕ) → item_of (record { column = column; text = text }) ≡ Ok x
 
 -- what stands behind a printed list that was read
-pub record IsRead {X : Type 0} (item_of : PlacedWord → Result X LineError) (words : List PlacedWord) (xs : List X) (tail : List ℕ) : Type 0 where
+pub record IsRead {X : Type 0} (item_of : PlacedWord → Result X LineFault) (words : List PlacedWord) (xs : List X) (tail : List ℕ) : Type 0 where
   pub column : ℕ
   pub no_d : begins_d words ≡ false
   pub listed : listed item_of words ≡ Ok xs
   pub behind : behind_end words ≡ words_from column tail
 
-module _ {X : Type 0} (item_of : PlacedWord → Result X LineError) (text_of : X → List ℕ) (test : X → Bool) (each : (x : X) → test x ≡ true → IsPrinted item_of (text_of x) x) where
+module _ {X : Type 0} (item_of : PlacedWord → Result X LineFault) (text_of : X → List ℕ) (test : X → Bool) (each : (x : X) → test x ≡ true → IsPrinted item_of (text_of x) x) where
   list_text-cons : (x : X) (xs : List X) (tail : List ℕ) → list_text text_of (x ∷ xs) ++ tail ≡ text_of x ++ 32 ∷ (list_text text_of xs ++ tail)
   list_text-cons x xs tail =
       let front = flat_map (λ y. text_of y ++ codes " ") xs in

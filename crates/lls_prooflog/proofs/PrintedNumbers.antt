@@ -1,44 +1,20 @@
 -- Printed numbers are words, and are read again.
-use Rattle.std.proofs.Common.{◌≡◌, ℕ, suc, ◌+◌, ◌^◌, ◌<◌, Bool, true, false, not, ◌&&◌, eqb, leb, leb-true, List, [], ◌∷◌, ◌++◌, length, get_or, Some, refl, ◌∙◌, arith}
+use Rattle.std.proofs.Common.{◌≡◌, ℕ, suc, ◌+◌, ◌^◌, ◌<◌, Bool, true, false, not, ◌&&◌, eqb, leb, leb-true, List, [], ◌∷◌, length, get_or, Some, refl, ◌∙◌, arith}
 use Rattle.std.specs.Prelude.{ℤ, pos, negsuc, Ok, codes}
 use Rattle.std.specs.List.{list_all}
 use Rattle.std.specs.Char.{is_ascii_digit}
 use Rattle.std.specs.Str.{bytes_eq}
 use Rattle.std.specs.Fmt.{decimal, signed_decimal}
-use Rattle.std.specs.Int.{IsInRange}
-use Rattle.std.specs.Str.Parse.{AllDigits}
-use Rattle.std.proofs.lemmas.Bool.{and_parts, le-leb}
+use Rattle.std.proofs.lemmas.Bool.{and_parts}
 use Rattle.std.proofs.lemmas.Bool.Decides.{nat_tests}
 use Rattle.std.proofs.lemmas.Fmt.{decimal_is_IsNumeral, first_decimal}
-use Rattle.std.proofs.lemmas.Str.Parse.{digit_from_value}
-use Rattle.lls_text.specs.Lines.{begins_with}
-use Rattle.lls_text.specs.Words.{is_blank, is_solid}
+use Rattle.lls_text.proofs.Printed.{passes-apart}
+use Rattle.lls_text.proofs.NumberBytes.{is_number_byte, digits_are_digits, digit_no_minus, natural_bytes}
 use Rattle.lls_lit.specs.Literal.{variable_of}
 use Rattle.lls_lit.specs.declared.var.TheConstants.Var.{MOST}
 use Rattle.lls_prooflog.specs.declared.step.TheConstants.Step.{MOST_ID}
 use Rattle.lls_prooflog.specs.Number.{is_zeros, number_in, signed_digits, id_in, hint_in, literal_in, item}
 use Rattle.lls_prooflog.specs.Range.{is_id, is_hint}
-use Rattle.lls_prooflog.specs.Line.{comment}
-
--- a byte of a printed number: from - to 9
-abbrev pub is_number_byte : ℕ → Bool
-is_number_byte b = leb 45 b && leb b 57
-
-number_byte : (b : ℕ) → IsInRange 45 57 b → is_number_byte b ≡ true
-number_byte b range = rw (le-leb 45 b (omega (arith, range)), le-leb b 57 (omega (arith, range))) refl
-
-digit_byte : (b : ℕ) → IsInRange 48 57 b → is_ascii_digit b ≡ true
-digit_byte b range = grind (arith, nat_tests)
-
-digits_are_bytes : (ds : List ℕ) → AllDigits 10 ds → list_all is_number_byte ds ≡ true
-digits_are_bytes [] h = refl
-digits_are_bytes (d ∷ ds) h =
-    let range = digit_from_value d h.0 in
-    rw (number_byte d (omega (arith, range)), digits_are_bytes ds h.1) refl
-
-digits_are_digits : (ds : List ℕ) → AllDigits 10 ds → list_all is_ascii_digit ds ≡ true
-digits_are_digits [] h = refl
-digits_are_digits (d ∷ ds) h = rw (digit_byte d (digit_from_value d h.0), digits_are_digits ds h.1) refl
 
 some_length : (n : ℕ) → 0 < n → eqb n 0 ≡ false
 some_length n lt = grind (arith, nat_tests)
@@ -53,22 +29,14 @@ signed_digits-decimal negative n lt =
 number_in-digits : (word : List ℕ) → list_all is_ascii_digit word ≡ true → 0 < length word → number_in word ≡ signed_digits false word
 number_in-digits [] digits some = absurd (omega arith)
 number_in-digits (b ∷ bs) digits some =
-    let digit = (and_parts (is_ascii_digit b) (list_all is_ascii_digit bs) digits).0 in
-    let other : eqb b 45 ≡ false = not_minus b digit in
-    rw other refl
-  where
-    not_minus : (c : ℕ) → is_ascii_digit c ≡ true → eqb c 45 ≡ false
-    not_minus c e = grind (arith, nat_tests)
+    rw (digit_no_minus b (and_parts (is_ascii_digit b) (list_all is_ascii_digit bs) digits).0) refl
 
 pub number_in-decimal : (n : ℕ) → n < 2 ^ 64 → number_in (decimal n) ≡ Some (record { is_negative = false; size = n })
 number_in-decimal n lt =
     let numeral = decimal_is_IsNumeral n lt in
     number_in-digits (decimal n) (digits_are_digits (decimal n) numeral.0.1) numeral.0.0 ∙ signed_digits-decimal false n lt
 
--- the bytes of a printed number
-pub natural_bytes : (n : ℕ) → n < 2 ^ 64 → (0 < length (decimal n)) × (list_all is_number_byte (decimal n) ≡ true)
-natural_bytes n lt = let numeral = decimal_is_IsNumeral n lt in (numeral.0.0, digits_are_bytes (decimal n) numeral.0.1)
-
+-- the bytes of a printed number with a sign
 pub signed_bytes : (z : ℤ) → variable_of z < 2 ^ 64 → (0 < length (signed_decimal z)) × (list_all is_number_byte (signed_decimal z) ≡ true)
 signed_bytes (pos n) lt = natural_bytes n lt
 signed_bytes (negsuc n) lt = (omega arith, (natural_bytes (suc n) (omega arith)).1)
@@ -125,30 +93,6 @@ lit_word column (negsuc n) e =
     let one : suc n ≡ n + 1 = omega arith in
     rw (signed_digits-decimal true (suc n) lt, one, e) refl
 
--- bytes of numbers aren't blanks
-pub solid_bytes : (word : List ℕ) → list_all is_number_byte word ≡ true → list_all is_solid word ≡ true
-solid_bytes [] bytes = refl
-solid_bytes (b ∷ bs) bytes =
-    let parts = and_parts (is_number_byte b) (list_all is_number_byte bs) bytes in
-    rw (apart b parts.0, solid_bytes bs parts.1) refl
-  where
-    apart : (c : ℕ) → is_number_byte c ≡ true → is_blank c ≡ false
-    apart c e = grind (arith, nat_tests)
-
 pub no_d : (word : List ℕ) → list_all is_number_byte word ≡ true → bytes_eq word (codes "d") ≡ false
 no_d [] bytes = refl
-no_d (b ∷ bs) bytes = rw (apart b (and_parts (is_number_byte b) (list_all is_number_byte bs) bytes).0) refl where
-  apart : (c : ℕ) → is_number_byte c ≡ true → eqb c 100 ≡ false
-  apart c e = grind (arith, nat_tests)
-
-pub no_comment : (word rest : List ℕ) → 0 < length word → list_all is_number_byte word ≡ true → begins_with comment (word ++ rest) ≡ false
-no_comment [] rest some bytes = absurd (omega arith)
-no_comment (b ∷ bs) rest some bytes =
-    let byte = (and_parts (is_number_byte b) (list_all is_number_byte bs) bytes).0 in
-    rw (solid b byte, other b byte) refl
-  where
-    solid : (c : ℕ) → is_number_byte c ≡ true → is_blank c ≡ false
-    solid c e = grind (arith, nat_tests)
-
-    other : (c : ℕ) → is_number_byte c ≡ true → eqb c 99 ≡ false
-    other c e = grind (arith, nat_tests)
+no_d (b ∷ bs) bytes = rw (passes-apart is_number_byte b 100 (and_parts (is_number_byte b) (list_all is_number_byte bs) bytes).0 refl) refl

@@ -8,6 +8,7 @@ use Rattle.std.proofs.lemmas.List.{append-nil}
 use Rattle.lls_text.specs.Lines.{begins_with}
 use Rattle.lls_text.specs.Words.{PlacedWord, words_from, words_of}
 use Rattle.lls_text.proofs.Printed.{words_from-front, words_from-blank}
+use Rattle.lls_text.proofs.NumberBytes.{natural_bytes, solid_bytes, begins_with-number}
 use Rattle.lls_lit.specs.Formula.{is_within}
 use Rattle.lls_lit.specs.declared.var.TheConstants.Var.{MOST}
 use Rattle.lls_prooflog.specs.declared.step.Step.{Step}
@@ -16,7 +17,7 @@ use Rattle.lls_prooflog.specs.Number.{id_in, leading_in, literal_in, hint_in, it
 use Rattle.lls_prooflog.specs.Range.{is_id, is_hint, IsInRange}
 use Rattle.lls_prooflog.specs.Line.{behind_end, listed, addition, deletion, begins_d, step_of_words, step_of_line, comment}
 use Rattle.lls_prooflog.specs.StepText.{step_line}
-use Rattle.lls_prooflog.proofs.PrintedNumbers.{natural_bytes, signed_bytes, solid_bytes, is_zeros-decimal, is_zeros-signed, is_lit, id_bounds, lit_bounds, hint_bounds, id_word, lit_word, hint_word, no_d, no_comment}
+use Rattle.lls_prooflog.proofs.PrintedNumbers.{signed_bytes, is_zeros-decimal, is_zeros-signed, is_lit, id_bounds, lit_bounds, hint_bounds, id_word, lit_word, hint_word, no_d}
 use Rattle.lls_prooflog.proofs.PrintedLists.{list_text, IsPrinted, read_list}
 
 printed_id : (n : ℕ) → is_id n ≡ true → IsPrinted (item id_in) (decimal n) n
@@ -68,7 +69,7 @@ printed_addition id lits hints within is all =
     let front = read_list (item literal_in) signed_decimal is_lit printed_lit from lits (32 ∷ last) within refl in
     let back = read_list (item hint_in) signed_decimal is_hint printed_hint (front.column + 1) hints [] all refl in
     let behind : behind_end words ≡ words_from (front.column + 1) (last ++ []) = front.behind ∙ words_from-blank front.column 32 last refl ∙ ap (words_from (front.column + 1)) (sym (append-nil last)) in
-    let none : begins_with comment (decimal id ++ 32 ∷ rest) ≡ false = no_comment (decimal id) (32 ∷ rest) bytes.0 bytes.1 in
+    let none : begins_with comment (decimal id ++ 32 ∷ rest) ≡ false = begins_with-number comment (decimal id) (32 ∷ rest) refl bytes.0 bytes.1 in
     ap step_of_line (line-shape (decimal id) (list_text signed_decimal lits) last)
     ∙ step_of_line-words (decimal id ++ 32 ∷ rest) none
     ∙ ap step_of_words split

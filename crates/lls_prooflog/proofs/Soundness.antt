@@ -3,6 +3,7 @@ use Rattle.std.proofs.Common.{◌≡◌, ℕ, zero, suc, ◌+◌, Bool, true, fa
 use Rattle.std.specs.Prelude.{ℤ, pos, negsuc, filter, is_some, is_none}
 use Rattle.std.specs.List.{list_all, enumerate_from}
 use Rattle.std.specs.Ordering.{int_eq}
+use Rattle.std.proofs.lemmas.Bool.{and_parts, not-true}
 use Rattle.std.proofs.lemmas.Bool.Decides.{Decides-int_eq}
 use Rattle.std.proofs.lemmas.List.{map-append}
 use Rattle.std.proofs.lemmas.List.Folds.{list_all-append}
@@ -10,30 +11,24 @@ use Rattle.lls_lit.specs.Literal.{negation}
 use Rattle.lls_lit.specs.Formula.{Clause, Cnf, is_true, value_at, satisfies_clause, satisfies, IsUnsatisfiable}
 use Rattle.lls_prooflog.specs.declared.step.Step.{Step}
 use Rattle.lls_prooflog.specs.declared.step.Step.TheVariants.{Add, Del}
-use Rattle.lls_prooflog.specs.UnitWalk.{Fault, IdLive, NotUnit, Live, find_clause, is_among, remaining, at_clause, at_hint, unit_walk}
+use Rattle.lls_prooflog.specs.declared.step_fault.StepFault.{StepFault}
+use Rattle.lls_prooflog.specs.declared.step_fault.StepFault.TheVariants.{IdLive, NotUnit}
+use Rattle.lls_prooflog.specs.UnitWalk.{Live, find_clause, is_among, remaining, at_clause, at_hint, unit_walk}
 use Rattle.lls_prooflog.specs.Steps.{numbered, fault_of, after, is_empty_addition, are_accepted, clauses_of, AreSatisfiable, KeepsSatisfiable}
 
 -- every one of these literals is false
 abbrev pub are_false : List Bool → List ℤ → Bool
 are_false values lits = list_all (λ l. not (is_true values l)) lits
 
-both_true : (a b : Bool) → (a && b) ≡ true → (a ≡ true) × (b ≡ true)
-both_true true b e = (refl, e)
-both_true false b e = absurd cc
-
 -- a clause that is found is satisfied where all are
 found_satisfied : (values : List Bool) (live : Live) (id : ℕ) (clause : Clause) → satisfies values (clauses_of live) ≡ true → find_clause live id ≡ Some clause → satisfies_clause values clause ≡ true
 found_satisfied values [] id clause all e = absurd cc
 found_satisfied values (pair ∷ rest) id clause all e =
-    let both = both_true (satisfies_clause values pair.1) (satisfies values (clauses_of rest)) all in
+    let both = and_parts (satisfies_clause values pair.1) (satisfies values (clauses_of rest)) all in
     elim (eqb pair.0 id) as (λ b. cond b (Some pair.1) (find_clause rest id) ≡ Some clause → satisfies_clause values clause ≡ true) [
       | true ↦ λ h. let same : pair.1 ≡ clause = grind arith in rw (← same) both.0
       | false ↦ λ h. found_satisfied values rest id clause both.1 h
     ] e
-
-not_true : (b : Bool) → not b ≡ true → b ≡ false
-not_true true e = absurd cc
-not_true false e = refl
 
 second_true : (a b : Bool) → a ≡ false → (a || b) ≡ true → b ≡ true
 second_true true b h e = absurd cc
@@ -43,9 +38,9 @@ second_true false b h e = e
 among_false : (values : List Bool) (assumed : List ℤ) (l : ℤ) → are_false values assumed ≡ true → is_among assumed l ≡ true → is_true values l ≡ false
 among_false values [] l all e = absurd cc
 among_false values (m ∷ ms) l all e =
-    let both = both_true (not (is_true values m)) (are_false values ms) all in
+    let both = and_parts (not (is_true values m)) (are_false values ms) all in
     elim (int_eq l m) as (λ b. int_eq l m ≡ b → (b || is_among ms l) ≡ true → is_true values l ≡ false) [
-      | true ↦ λ is _. let same : l ≡ m = (Decides-int_eq l m).0 is in rw same (not_true (is_true values m) both.0)
+      | true ↦ λ is _. let same : l ≡ m = (Decides-int_eq l m).0 is in rw same (not-true (is_true values m) both.0)
       | false ↦ λ _ h. among_false values ms l both.1 h
     ] refl e
 
@@ -73,7 +68,7 @@ or_twice false b e = e
 only_true : (values : List Bool) (l : ℤ) (ls : List ℤ) → list_all (int_eq l) ls ≡ true → satisfies_clause values (l ∷ ls) ≡ true → is_true values l ≡ true
 only_true values l [] all e = or_false (is_true values l) e
 only_true values l (m ∷ ms) all e =
-    let both = both_true (int_eq l m) (list_all (int_eq l) ms) all in
+    let both = and_parts (int_eq l m) (list_all (int_eq l) ms) all in
     let same : l ≡ m = (Decides-int_eq l m).0 both.0 in
     let twice : (is_true values l || (is_true values l || satisfies_clause values ms)) ≡ true = rw same (rw same at e) in
     only_true values l ms both.1 (or_twice (is_true values l) (satisfies_clause values ms) twice)
@@ -81,9 +76,9 @@ only_true values l (m ∷ ms) all e =
 negation_false : (values : List Bool) (l : ℤ) → is_true values l ≡ true → is_true values (negation l) ≡ false
 negation_false values (pos zero) e = absurd cc
 negation_false values (pos (suc n)) e = ap not e
-negation_false values (negsuc n) e = rw add-one (not_true (value_at values n) e)
+negation_false values (negsuc n) e = rw add-one (not-true (value_at values n) e)
 
-clause_refutes : (values : List Bool) (hint : ℤ) (lits : List ℤ) (goes_on : ℤ → Option Fault) → satisfies_clause values lits ≡ true → at_clause hint lits goes_on ≡ None → ((l : ℤ) → is_true values l ≡ true → goes_on l ≡ None → ⊥) → ⊥
+clause_refutes : (values : List Bool) (hint : ℤ) (lits : List ℤ) (goes_on : ℤ → Option StepFault) → satisfies_clause values lits ≡ true → at_clause hint lits goes_on ≡ None → ((l : ℤ) → is_true values l ≡ true → goes_on l ≡ None → ⊥) → ⊥
 clause_refutes values hint [] goes_on one e next = cc
 clause_refutes values hint (l ∷ ls) goes_on one e next =
     elim (list_all (int_eq l) ls) as (λ b. list_all (int_eq l) ls ≡ b → cond b (goes_on l) (Some (NotUnit hint)) ≡ None → ⊥) [
@@ -116,7 +111,7 @@ none_true values (l ∷ ls) e =
 kept_satisfied : (values : List Bool) (keep : ℕ × Clause → Bool) (live : Live) → satisfies values (clauses_of live) ≡ true → satisfies values (clauses_of (filter keep live)) ≡ true
 kept_satisfied values keep [] all = refl
 kept_satisfied values keep (pair ∷ rest) all =
-    let both = both_true (satisfies_clause values pair.1) (satisfies values (clauses_of rest)) all in
+    let both = and_parts (satisfies_clause values pair.1) (satisfies values (clauses_of rest)) all in
     let others = kept_satisfied values keep rest both.1 in
     elim (keep pair) as (λ b. satisfies values (clauses_of (cond b (pair ∷ filter keep rest) (filter keep rest))) ≡ true) [
       | true ↦ rw (both.0, others) refl

@@ -2,7 +2,8 @@ pub mod UnitWalk
 pub mod Steps
 pub mod Worked
 pub mod Range
-pub mod LineError
+pub mod FaultText
+pub mod Wrapped
 pub mod Number
 pub mod Line
 pub mod StepText

@@ -7,8 +7,8 @@ use Rattle.lls_text.specs.Words.{PlacedWord}
 use Rattle.lls_lit.specs.Literal.{negation}
 use Rattle.lls_lit.specs.declared.var.TheConstants.Var.{MOST}
 use Rattle.lls_prooflog.specs.declared.step.TheConstants.Step.{MOST_ID}
-use Rattle.lls_prooflog.specs.declared.line_error.LineError.{LineError}
-use Rattle.lls_prooflog.specs.declared.line_error.LineError.TheVariants.{BadWord, Range}
+use Rattle.lls_prooflog.specs.declared.line_fault.LineFault.{LineFault}
+use Rattle.lls_prooflog.specs.declared.line_fault.LineFault.TheVariants.{BadWord, Range}
 use Rattle.lls_prooflog.specs.declared.number.Number.{Number}
 
 -- the bytes - and 0
@@ -53,16 +53,16 @@ literal_in number = if nat_le 1 number.size && nat_le number.size MOST then Some
 abbrev pub hint_in : Number → Option ℤ
 hint_in number = if nat_le 1 number.size && nat_le number.size MOST_ID then Some (value_of number) else None
 
-abbrev pub in_range : {X : Type 0} → ℕ → Option X → Result X LineError
+abbrev pub in_range : {X : Type 0} → ℕ → Option X → Result X LineFault
 in_range column None = Err (Range column)
 in_range column (Some x) = Ok x
 
-abbrev pub ranged : {X : Type 0} → (Number → Option X) → ℕ → Option Number → Result X LineError
+abbrev pub ranged : {X : Type 0} → (Number → Option X) → ℕ → Option Number → Result X LineFault
 ranged within column None = Err (BadWord column)
 ranged within column (Some number) = in_range column (within number)
 
 -- what a word writes where a number of that range stands, or its fault
-abbrev pub item : {X : Type 0} → (Number → Option X) → PlacedWord → Result X LineError
+abbrev pub item : {X : Type 0} → (Number → Option X) → PlacedWord → Result X LineFault
 item within word = ranged within word.column (number_in word.text)
 
 -- a number as code keeps it: a size that passes 64 bits stands as the greatest

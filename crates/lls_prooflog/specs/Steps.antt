@@ -3,11 +3,13 @@ use Rattle.std.specs.Prelude.{◌≡◌, Bool, true, false, not, ◌||◌, List,
 use Rattle.std.specs.List.{list_any}
 use Rattle.lls_prooflog.specs.declared.step.Step.{Step}
 use Rattle.lls_prooflog.specs.declared.step.Step.TheVariants.{Add, Del}
+use Rattle.lls_prooflog.specs.declared.step_fault.StepFault.{StepFault}
+use Rattle.lls_prooflog.specs.declared.step_fault.StepFault.TheVariants.{IdLive}
 use Rattle.lls_lit.specs.Formula.{Clause, Cnf, satisfies}
-pub use Rattle.lls_prooflog.specs.UnitWalk.{Fault, IdLive, NoClause, NotUnit, NoConflict, RatHint, Live, numbered, find_clause, unit_walk}
+pub use Rattle.lls_prooflog.specs.UnitWalk.{Live, numbered, find_clause, unit_walk}
 
 -- what is wrong with a step: None where it is good. Every deletion is
-abbrev pub fault_of : Live → Step → Option Fault
+abbrev pub fault_of : Live → Step → Option StepFault
 fault_of live (Add id lits hints) = if is_some (find_clause live id) then Some (IdLive id) else unit_walk live lits hints
 fault_of live (Del ids) = None
 

@@ -4,19 +4,8 @@ use Rattle.std.specs.List.{list_any, list_all, enumerate_from}
 use Rattle.std.specs.Ordering.{int_eq}
 use Rattle.lls_lit.specs.Literal.{negation}
 use Rattle.lls_lit.specs.Formula.{Clause}
-
--- why a step isn't good
-pub data Fault : Type 0 where
-  -- the id of an addition is live
-  IdLive : ℕ → Fault
-  -- no live clause has the hint's id
-  NoClause : ℤ → Fault
-  -- the hint's clause has two different literals that aren't taken as false
-  NotUnit : ℤ → Fault
-  -- the hints are at their end
-  NoConflict : Fault
-  -- the hint is negative
-  RatHint : ℤ → Fault
+use Rattle.lls_prooflog.specs.declared.step_fault.StepFault.{StepFault}
+use Rattle.lls_prooflog.specs.declared.step_fault.StepFault.TheVariants.{NoClause, NotUnit, NoConflict, RatHint}
 
 -- clauses with their ids
 abbrev pub Live : Type 0
@@ -39,16 +28,16 @@ abbrev pub remaining : List ℤ → Clause → List ℤ
 remaining assumed clause = filter (λ l. not (is_among assumed l)) clause
 
 -- nothing remains: a conflict. One literal remains, however often: it must be true, and the walk goes on. Else the hint is no unit clause
-abbrev pub at_clause : ℤ → List ℤ → (ℤ → Option Fault) → Option Fault
+abbrev pub at_clause : ℤ → List ℤ → (ℤ → Option StepFault) → Option StepFault
 at_clause hint [] goes_on = None
 at_clause hint (l ∷ ls) goes_on = if list_all (int_eq l) ls then goes_on l else Some (NotUnit hint)
 
-abbrev pub at_hint : ℤ → List ℤ → Option Clause → (ℤ → Option Fault) → Option Fault
+abbrev pub at_hint : ℤ → List ℤ → Option Clause → (ℤ → Option StepFault) → Option StepFault
 at_hint hint assumed None goes_on = Some (NoClause hint)
 at_hint hint assumed (Some clause) goes_on = at_clause hint (remaining assumed clause) goes_on
 
 -- what keeps the hints from a conflict, where the assumed literals are taken as false: None where they lead to one
-abbrev pub unit_walk : Live → List ℤ → List ℤ → Option Fault
+abbrev pub unit_walk : Live → List ℤ → List ℤ → Option StepFault
 unit_walk live assumed [] = Some NoConflict
 unit_walk live assumed (pos id ∷ hints) =
     at_hint (pos id) assumed (find_clause live id) (λ l. unit_walk live (assumed ++ negation l ∷ []) hints)

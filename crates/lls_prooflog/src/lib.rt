@@ -6,19 +6,23 @@
 mod hints;
 mod ids;
 mod line_error;
+mod line_fault;
 mod lits;
 mod number;
 mod print;
 mod read;
 mod step;
+mod step_fault;
 
 pub use hints::Hints;
 pub use ids::Ids;
 pub use line_error::LineError;
+pub use line_fault::LineFault;
 pub use lits::Lits;
 pub use print::print_step;
 pub use read::read_line;
 pub use step::Step;
+pub use step_fault::{Culprit, StepFault};
 
 #[cfg(test)]
 mod line_tests;

@@ -1,21 +1,27 @@
-// Why a line of a proof writes no step.
+// Why a line of a proof wasn't read.
+use crate::LineFault;
 use lls_base::Memory;
 use std::alloc::AllocFailed;
 use std::fmt;
 
-/// Why a line of a proof writes no step. Columns are counted in bytes from 1, and are those of a word's first byte.
+/// Why a line of a proof wasn't read.
 #[derive(Clone, Copy, Debug, PartialEq, Eq)]
 pub enum LineError {
-    /// The word at this column is no number, nor the `d` of a deletion.
-    BadWord(u64),
-    /// The line ends before its last `0`.
-    NoZero,
-    /// The word at this column is the first behind the last `0`.
-    Extra(u64),
-    /// The number at this column is out of its range.
-    Range(u64),
+    /// The line writes no step.
+    Fault(LineFault),
     /// An allocation was refused.
     Memory,
+}
+
+impl From<LineFault> for LineError {
+    ghost use Rattle.std.specs.Prelude.{◌≡◌};
+    ghost use Rattle.lls_prooflog.specs.declared.line_error.LineError.TheVariants as errors;
+
+    ghost from_gives = { λ fault e. e ≡ errors.Fault fault };
+
+    fn from(fault: LineFault) -> Self {
+        LineError::Fault(fault)
+    }
 }
 
 impl From<Memory> for LineError {
@@ -42,16 +48,13 @@ impl<T: Drop> From<AllocFailed<T>> for LineError {
 
 impl fmt::Display for LineError {
     ghost use Rattle.std.specs.Prelude.{Some};
-    ghost use Rattle.lls_prooflog.specs.LineError.{line_fault_text};
+    ghost use Rattle.lls_prooflog.specs.FaultText.{line_error_text};
 
-    ghost output = { λ e. Some (line_fault_text e) };
+    ghost output = { λ e. Some (line_error_text e) };
 
     fn fmt<W: fmt::Write>(&self, f: &mut fmt::Formatter<W>) -> fmt::Result {
         match self {
-            LineError::BadWord(column) => write!(f, "BadWord {column}"),
-            LineError::NoZero => write!(f, "NoZero"),
-            LineError::Extra(column) => write!(f, "Extra {column}"),
-            LineError::Range(column) => write!(f, "Range {column}"),
+            LineError::Fault(fault) => write!(f, "{fault}"),
             LineError::Memory => write!(f, "Memory"),
         }
     }

@@ -7,7 +7,7 @@ ghost use Rattle.std.specs.Str.Parse.{digits_value};
 ghost use Rattle.lls_text.specs.Seen.{seen_word};
 ghost use Rattle.lls_prooflog.specs.Number.{digit_zero, is_digits, is_zeros, number_in, capped, id_in, leading_in, literal_in, hint_in, item};
 
-use crate::{LineError, Step};
+use crate::{LineFault, Step};
 use lls_lit::{Lit, Var};
 use lls_text::Word;
 
@@ -20,61 +20,61 @@ pub(crate) struct Number {
 }
 
 /// The id that a word writes.
-pub(crate) fn id(word: &Word) -> Result<u64, LineError>
+pub(crate) fn id(word: &Word) -> Result<u64, LineFault>
     ensures { result ≡ item id_in (seen_word word.now) }
 {
     let number = numeral(word)?;
     if number.is_negative || number.size < 1 || number.size > Step::MOST_ID {
-        return Err(LineError::Range(word.column));
+        return Err(LineFault::Range(word.column));
     }
     Ok(number.size)
 }
 
 /// The number before the `d` of a deletion.
-pub(crate) fn leading(word: &Word) -> Result<u64, LineError>
+pub(crate) fn leading(word: &Word) -> Result<u64, LineFault>
     ensures { result ≡ item leading_in (seen_word word.now) }
 {
     let number = numeral(word)?;
     if number.is_negative || number.size > Step::MOST_ID {
-        return Err(LineError::Range(word.column));
+        return Err(LineFault::Range(word.column));
     }
     Ok(number.size)
 }
 
 /// The literal that a word writes.
-pub(crate) fn literal(word: &Word) -> Result<Lit, LineError>
+pub(crate) fn literal(word: &Word) -> Result<Lit, LineFault>
     ensures { result ≡ item literal_in (seen_word word.now) }
 {
     let number = numeral(word)?;
     if number.size > u64::from(Var::MOST) {
-        return Err(LineError::Range(word.column));
+        return Err(LineFault::Range(word.column));
     }
     match Lit::from_number(number.size as i32) {
         Some(lit) if number.is_negative => Ok(lit.negated()),
         Some(lit) => Ok(lit),
-        None => Err(LineError::Range(word.column)),
+        None => Err(LineFault::Range(word.column)),
     }
 }
 
 /// The hint that a word writes.
-pub(crate) fn hint(word: &Word) -> Result<i64, LineError>
+pub(crate) fn hint(word: &Word) -> Result<i64, LineFault>
     ensures { result ≡ item hint_in (seen_word word.now) }
 {
     let number = numeral(word)?;
     if number.size < 1 || number.size > Step::MOST_ID {
-        return Err(LineError::Range(word.column));
+        return Err(LineFault::Range(word.column));
     }
     let size = number.size as i64;
     Ok(if number.is_negative { -size } else { size })
 }
 
 // The number that a word writes, whatever its range.
-fn numeral(word: &Word) -> Result<Number, LineError>
+fn numeral(word: &Word) -> Result<Number, LineFault>
     ensures { result ≡ item (λ number. Some (capped number)) (seen_word word.now) }
 {
     match number_in(word.text) {
         Some(number) => Ok(number),
-        None => Err(LineError::BadWord(word.column)),
+        None => Err(LineFault::BadWord(word.column)),
     }
 }
 

@@ -1,8 +1,12 @@
-// Worked steps, by computation.
+// Worked steps, by computation, and the texts of their faults.
 ghost use Rattle.std.specs.Prelude.{◌≡◌, pos, negsuc, [], ◌∷◌, true, false};
-ghost use Rattle.lls_prooflog.specs.Steps.{NotUnit, IdLive, NoClause, NoConflict, RatHint, fault_of, after, are_accepted};
+ghost use Rattle.lls_prooflog.specs.Steps.{fault_of, after, are_accepted};
 ghost use Rattle.lls_prooflog.specs.Worked.{worked};
 ghost use Rattle.lls_prooflog.specs.declared.step.Step.TheVariants.{Add, Del};
+ghost use Rattle.lls_prooflog.specs.declared.step_fault.StepFault.TheVariants.{IdLive, NoClause, NotUnit, NoConflict, RatHint};
+
+use crate::*;
+use std::test::Fail;
 
 // The clauses 1, 2, 1 -2 and -1 -2 have the ids 1 to 4. Each clause is one line of a proof, worked by hand.
 fn worked_steps()
@@ -22,4 +26,23 @@ fn worked_steps()
 #[test]
 fn steps_are_good_or_faulty_as_worked() {
     worked_steps();
+}
+
+#[test]
+fn faults_of_steps_are_printed(rt: HostRuntime) -> Result<(), Fail> {
+    let rows = [
+        (
+            StepFault::IdLive(18_446_744_073_709_551_615),
+            "IdLive 18446744073709551615",
+        ),
+        (StepFault::NoClause(4), "NoClause 4"),
+        (StepFault::NotUnit(3), "NotUnit 3"),
+        (StepFault::NoConflict, "NoConflict"),
+        (StepFault::RatHint(-2), "RatHint -2"),
+    ];
+    for (fault, want) in rows {
+        let text = format!(in rt.alloc(); "{fault}")?;
+        assert_eq!(rt; text.as_str(), want);
+    }
+    Ok(())
 }

@@ -12,4 +12,3 @@ pub mod Texts
 pub mod WordTexts
 pub mod Pieces
 pub mod HistoryTexts
-pub mod LineCounts

@@ -1,13 +1,13 @@
 -- The rows of a printed file, and what they read as.
-use Rattle.std.proofs.Common.{◌≡◌, ◌<◌, ◌≤◌, ℕ, zero, suc, ◌+◌, ◌-◌, leb, eqb, Bool, true, false, not, ◌&&◌, List, [], ◌∷◌, ◌++◌, length, get_or, map, None, Some, Ok, refl, sym, ap, ◌∙◌, arith, append_assoc, append-nil}
+use Rattle.std.proofs.Common.{◌≡◌, ◌<◌, ◌≤◌, ℕ, ◌+◌, leb, eqb, Bool, true, false, not, ◌&&◌, List, [], ◌∷◌, ◌++◌, length, map, None, Some, Ok, refl, sym, ap, ◌∙◌, arith, append_assoc, append-nil}
 use Rattle.std.specs.List.{list_all, prefix_len, position, join_with_byte}
 use Rattle.std.specs.Char.{is_ascii}
-use Rattle.std.proofs.lemmas.Bool.{and_parts, and_from, or_from, leb-true, le-leb, lt-ltb, le-ltb, ne_eqb}
+use Rattle.std.proofs.lemmas.Bool.{and_parts, and_from, or_from, not-true, leb-true, le-leb, lt-ltb, le-ltb, ne_eqb}
 use Rattle.std.proofs.lemmas.List.Folds.{list_all-append}
 use Rattle.lls_base.specs.Results.{and_then}
-use Rattle.lls_text.specs.Lines.{lines_of, is_line_feed, line_feed, is_blank_line, begins_with}
+use Rattle.lls_text.specs.Lines.{lines_of, line_feed, is_blank_line, begins_with}
 use Rattle.lls_text.specs.Words.{is_blank}
-use Rattle.lls_text.proofs.Printed.{lines_of-front}
+use Rattle.lls_text.proofs.Printed.{list_all-weaker, lines_of-line}
 use Rattle.lls_grid.specs.Text.{blank, rows_text}
 use Rattle.lls_search_file.specs.declared.cell.Cell.{Cell}
 use Rattle.lls_search_file.specs.Words.{comma_byte, mark_byte, is_solid, pieces_of, cells_read, cell_before, row_of, ascii_or}
@@ -30,22 +30,12 @@ are_spelled names cells = list_all (λ cell. is_spelled (word_in names cell)) ce
 abbrev pub is_row_byte : ℕ → Bool
 is_row_byte b = leb blank b && leb b 122
 
-all_as : (p q : ℕ → Bool) → ((b : ℕ) → p b ≡ true → q b ≡ true) → (bytes : List ℕ) → list_all p bytes ≡ true → list_all q bytes ≡ true
-all_as p q weaker [] e = refl
-all_as p q weaker (b ∷ bytes) e =
-    let parts = and_parts (p b) (list_all p bytes) e in
-    and_from (q b) (list_all q bytes) (weaker b parts.0) (all_as p q weaker bytes parts.1)
-
 -- what a byte of a word is: not below `'`, not above 122, no comma
 word_byte : (b : ℕ) → is_word_byte b ≡ true → (mark_byte ≤ b) × (b ≤ 122) × (eqb b comma_byte ≡ false)
 word_byte b e =
     let outer = and_parts (leb mark_byte b) (leb b 122 && not (eqb b comma_byte)) e in
     let inner = and_parts (leb b 122) (not (eqb b comma_byte)) outer.1 in
-    (leb-true mark_byte b outer.0, leb-true b 122 inner.0, untrue (eqb b comma_byte) inner.1)
-  where
-    untrue : (v : Bool) → not v ≡ true → v ≡ false
-    untrue true e = cc
-    untrue false e = refl
+    (leb-true mark_byte b outer.0, leb-true b 122 inner.0, not-true (eqb b comma_byte) inner.1)
 
 not_blank : (b : ℕ) → is_word_byte b ≡ true → is_blank b ≡ false
 not_blank b e = or_from _ _ (above _ (omega arith)) (above _ (omega arith))
@@ -61,9 +51,6 @@ row_byte b e =
     let facts = word_byte b e in
     and_from (leb blank b) (leb b 122) (le-leb blank b (omega (arith, facts.0))) (le-leb b 122 facts.1)
 
-low_byte : (b : ℕ) → is_row_byte b ≡ true → (low : ℕ) → low < blank → eqb b low ≡ false
-low_byte b e low below = ne_eqb b low (λ same. absurd (omega (arith, leb-true blank b (and_parts (leb blank b) (leb b 122) e).0, below, same)))
-
 -- a printed row reads as its cells
 line_reads : (names : List (List ℕ)) (number column : ℕ) (after_comma : Bool) (cells : List Cell) → are_spelled names cells ≡ true
     → cells_read number after_comma (pieces_of column (line_of names cells)) ≡ Ok (words_in names cells)
@@ -75,7 +62,7 @@ line_reads names number column after_comma (cell ∷ cells) e = behind cells (λ
     behind [] more =
         let spelled = (and_parts (is_spelled (word_in names cell)) (are_spelled names cells) e).0 in
         let word = word_text names cell in
-        let solid : list_all is_solid word ≡ true = all_as is_word_byte is_solid solid_byte word (word_all names cell spelled) in
+        let solid : list_all is_solid word ≡ true = list_all-weaker is_word_byte is_solid solid_byte word (word_all names cell spelled) in
         ap (λ bytes. cells_read number after_comma (pieces_of column bytes)) (sym (append-nil word)) ∙
         (ap (cells_read number after_comma) (word_then column word [] (some_word names cell spelled) solid refl) ∙
         ap (λ w. cell_before number column w (Ok [])) (word_reads names cell spelled))
@@ -83,7 +70,7 @@ line_reads names number column after_comma (cell ∷ cells) e = behind cells (λ
         let spelled = (and_parts (is_spelled (word_in names cell)) (are_spelled names cells) e).0 in
         let word = word_text names cell in
         let line = line_of names (next ∷ rest) in
-        let solid : list_all is_solid word ≡ true = all_as is_word_byte is_solid solid_byte word (word_all names cell spelled) in
+        let solid : list_all is_solid word ≡ true = list_all-weaker is_word_byte is_solid solid_byte word (word_all names cell spelled) in
         ap (cells_read number after_comma) (word_then column word (blank ∷ line) (some_word names cell spelled) solid refl) ∙
         (ap (λ w. cell_before number column w (cells_read number false (pieces_of ((column + length word) + 1) line))) (word_reads names cell spelled) ∙
         ap (cell_before number column (Some (word_in names cell))) (more ((column + length word) + 1)))
@@ -95,9 +82,9 @@ line_bytes names (cell ∷ cells) e = behind cells (line_bytes names cells (and_
   where
     behind : (rest : List Cell) → list_all is_row_byte (line_of names rest) ≡ true → list_all is_row_byte (line_of names (cell ∷ rest)) ≡ true
     behind [] more =
-        all_as is_word_byte is_row_byte row_byte (word_text names cell) (word_all names cell (and_parts (is_spelled (word_in names cell)) (are_spelled names cells) e).0)
+        list_all-weaker is_word_byte is_row_byte row_byte (word_text names cell) (word_all names cell (and_parts (is_spelled (word_in names cell)) (are_spelled names cells) e).0)
     behind (next ∷ rest) more =
-        let word = all_as is_word_byte is_row_byte row_byte (word_text names cell) (word_all names cell (and_parts (is_spelled (word_in names cell)) (are_spelled names cells) e).0) in
+        let word = list_all-weaker is_word_byte is_row_byte row_byte (word_text names cell) (word_all names cell (and_parts (is_spelled (word_in names cell)) (are_spelled names cells) e).0) in
         list_all-append is_row_byte (word_text names cell) (blank ∷ line_of names (next ∷ rest)) ∙ rw (word, more) refl
 
 -- every byte of it is ASCII
@@ -151,20 +138,9 @@ row_taken names number (cell ∷ cells) counts some e =
     ap (λ place. ascii_or number place (cells_read number true (pieces_of 1 line))) (no_high line (line_bytes names (cell ∷ cells) e)) ∙ line_reads names number 1 true (cell ∷ cells) e in
     rw (no_comment line begins, no_separator line begins) (ap (λ read. and_then read (with_words number counts)) read)
 
--- CR, which is dropped at the end of a line
-abbrev carriage_return : ℕ
-carriage_return = 13
-
-no_return_at : (line : List ℕ) (i : ℕ) → list_all is_row_byte line ≡ true → eqb (get_or line i 0) carriage_return ≡ false
-no_return_at [] i e = refl
-no_return_at (b ∷ line) zero e = low_byte b (and_parts (is_row_byte b) (list_all is_row_byte line) e).0 carriage_return (omega arith)
-no_return_at (b ∷ line) (suc i) e = no_return_at line i (and_parts (is_row_byte b) (list_all is_row_byte line) e).1
-
 -- the lines of a text that begins with a printed row
 lines_row : (line rest : List ℕ) → list_all is_row_byte line ≡ true → lines_of (line ++ line_feed ∷ rest) ≡ line ∷ lines_of rest
-lines_row line rest e =
-    lines_of-front line rest (all_as is_row_byte (λ b. not (is_line_feed b)) (λ b is. rw (low_byte b is line_feed (omega arith)) refl) line e)
-    (rw (no_return_at line (length line - 1) e) refl)
+lines_row line rest e = lines_of-line is_row_byte line rest refl refl e
 
 -- every row's names are spelled
 abbrev pub rows_spelled : List (List ℕ) → List (List Cell) → Bool

@@ -1,8 +1,8 @@
 -- The blanks and the word that stand first in a text.
-use Rattle.std.proofs.Common.{◌≡◌, ◌<◌, ◌≤◌, ◌+◌, ◌-◌, ℕ, suc, Bool, true, false, not, cond, ◌||◌, eqb, List, [], ◌∷◌, ◌++◌, length, take, drop, refl, sym, ap, ◌∙◌, arith, subst, length-drop}
+use Rattle.std.proofs.Common.{◌≡◌, ◌<◌, ◌≤◌, ◌+◌, ◌-◌, ℕ, suc, true, false, not, cond, List, [], ◌∷◌, length, take, drop, refl, sym, ◌∙◌, arith, subst, length-drop}
 use Rattle.std.specs.List.{position_or_len}
 use Rattle.std.proofs.lemmas.List.Sums.{prefix_len-le-length}
-use Rattle.lls_text.specs.Words.{is_blank, is_solid, begins_solid, PlacedWord, before_word, before_words, words_from}
+use Rattle.lls_text.specs.Words.{is_blank, is_solid, begins_solid, PlacedWord, before_word, words_from}
 
 -- how many blanks stand first, and how many bytes before the first blank
 abbrev pub blanks : List ℕ → ℕ

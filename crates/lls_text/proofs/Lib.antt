@@ -1,3 +1,5 @@
 pub mod Cuts
 pub mod Fronts
 pub mod Printed
+pub mod NumberBytes
+pub mod LineCounts

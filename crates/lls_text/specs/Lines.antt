@@ -1,5 +1,5 @@
 -- The lines of a text.
-use Rattle.std.specs.Prelude.{ℕ, ◌==◌, Bool, false, not, if◌then◌else◌, List, [], ◌∷◌, map, Option, None, Some}
+use Rattle.std.specs.Prelude.{ℕ, ◌==◌, Bool, false, if◌then◌else◌, List, [], ◌∷◌, map, Option, None, Some}
 use Rattle.std.specs.List.{find, list_all, onto_first}
 use Rattle.std.specs.Str.Lines.{strip_carriage_return}
 use Rattle.lls_text.specs.Words.{is_blank, is_solid}
@@ -7,6 +7,10 @@ use Rattle.lls_text.specs.Words.{is_blank, is_solid}
 -- LF
 abbrev pub line_feed : ℕ
 line_feed = 10
+
+-- CR, which isn't part of a line where it stands at its end
+abbrev pub carriage_return : ℕ
+carriage_return = 13
 
 abbrev pub is_line_feed : ℕ → Bool
 is_line_feed byte = byte == line_feed

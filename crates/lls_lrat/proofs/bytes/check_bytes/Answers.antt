@@ -1,6 +1,6 @@
 use Rattle.std.proofs.Common.{◌≡◌, ◌+◌, ◌∷◌, true, refl, sym, ap, ◌∙◌, arith}
 use Rattle.std.specs.Prelude.{fold}
-use Rattle.lls_cnf.proofs.Counts.{length-lines_of}
+use Rattle.lls_text.proofs.LineCounts.{length-lines_of}
 use Rattle.lls_lrat.specs.Verdict.{State, closing, answer_of, line_taken}
 use Rattle.lls_lrat.specs.UnderWay.{at_line}
 use Rattle.lls_lrat.proofs.Verdicts.{answer-fault, answer-done, is_done}

@@ -21,7 +21,7 @@ put-requires c = rw (c.negated.ensures, variable_of-negation c.in-One.lit) c.in-
 pub returns-in_err-clause-clause-exact : goal.returns-in_err-clause-clause-exact
 returns-in_err-clause-clause-exact c =
     let w = c.loop-hint.invariant.1 in
-    let refused = ends_without_clause c.args.live.now c.args.lits.now c.args.hints.now c.loop-hint.marks w.0 c.loop-hint.hint-index (get_or c.args.hints.now c.loop-hint.hint-index (pos 0)) c.in_err-clause.field-0.0 c.loop-hint-test.true refl w.1 c.in_err-clause.ensures.refusal in
+    let refused = ends_without_clause c.args.live.now c.args.lits.now c.args.hints.now c.loop-hint.marks w.0 c.loop-hint.hint-index (get_or c.args.hints.now c.loop-hint.hint-index (pos 0)) c.in_err-clause.field-0.0 c.loop-hint-test.true refl w.1 c.in_err-clause.ensures.fault in
     grind (arith, common_steps, refused)
 
 pub returns-in-Nothing-clause-exact : goal.returns-in-Nothing-clause-exact

@@ -1,7 +1,7 @@
 use Rattle.std.proofs.Common.{Bool, not, sym, ap, ◌∙◌, int_eq}
 use Rattle.std.specs.Prelude.{ℤ}
 use Rattle.std.specs.FinSet as set
-use Rattle.lls_lrat.proofs.Booleans.{not_true}
+use Rattle.std.proofs.lemmas.Bool.{not-true}
 use Rattle.lls_lrat.proofs.Lefts.{left_of, left_in-differs}
 use Rattle.lls_lrat.proofs.walk.unmarked.Goals as goal
 
@@ -10,5 +10,5 @@ returns-then-ne-clause-left c =
     let keep : ℤ → Bool = λ m. not (set.contains c.args.marks.now.lits m) in
     let l = c.lit-item.result in
     let passes = ap keep (sym c.lit-item.is) ∙ ap not (sym c.if-has.ensures) in
-    let apart = ap (int_eq c.in-Some.other) (sym c.lit-item.is) ∙ not_true (int_eq c.in-Some.other l) (sym c.if-ne.ensures) in
+    let apart = ap (int_eq c.in-Some.other) (sym c.lit-item.is) ∙ not-true (int_eq c.in-Some.other l) (sym c.if-ne.ensures) in
     sym (left_in-differs keep c.args.clause.now c.loop-lit.lit-index c.in-Some.other l c.loop-lit-test.true (c.loop-lit.invariant.0 ∙ ap left_of c.in-Some.is) passes apart)

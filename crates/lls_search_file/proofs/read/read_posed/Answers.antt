@@ -2,7 +2,7 @@ use Rattle.std.proofs.Common.{length, ap, arith}
 use Rattle.std.proofs.lemmas.Result.{err_from_is_err_and}
 use Rattle.lls_search_file.specs.Reader.{counts_of}
 use Rattle.lls_search_file.proofs.Endings.{posed_of-fault, posed_of-end}
-use Rattle.lls_search_file.proofs.LineCounts.{length-lines_of}
+use Rattle.lls_text.proofs.LineCounts.{length-lines_of}
 use Rattle.lls_search_file.proofs.read.read_posed.Goals as goal
 
 pub overflow_add-number : goal.overflow_add-number

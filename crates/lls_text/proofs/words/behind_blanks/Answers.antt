@@ -1,7 +1,5 @@
-use Rattle.std.proofs.Common.{◌≡◌, ◌<◌, ◌-◌, length, drop, take, arith, sym, subst, ◌∙◌, length-drop, List, ℕ, IsTrue}
 use Rattle.std.proofs.lemmas.List.{take_rest}
-use Rattle.lls_text.specs.Words.{begins_solid, words_from}
-use Rattle.lls_text.proofs.Fronts.{blanks, words_from-blanks, words_from-behind, begins_solid-blanks}
+use Rattle.lls_text.proofs.Fronts.{words_from-behind, begins_solid-blanks}
 use Rattle.lls_text.proofs.words.behind_blanks.Goals as goal
 
 pub returns-clause-words : goal.returns-clause-words

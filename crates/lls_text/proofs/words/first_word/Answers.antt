@@ -1,4 +1,3 @@
-use Rattle.std.proofs.Common.{length, arith, ap, ◌∙◌}
 use Rattle.lls_text.proofs.Fronts.{words_from-word}
 use Rattle.lls_text.proofs.words.first_word.Goals as goal
 

@@ -1,5 +1,5 @@
 use Rattle.std.proofs.Common.{arith}
-use Rattle.lls_cnf.proofs.Counts.{length-lines_of}
+use Rattle.lls_text.proofs.LineCounts.{length-lines_of}
 use Rattle.lls_cnf.proofs.counted_lines.CountedLines.new.Goals as goal
 
 pub invariant_of-result : goal.invariant_of-result
