@@ -1,6 +1,7 @@
 pub mod FaultText
 pub mod Refusals
 pub mod Stored
+pub mod Placed
 pub mod Hinted
 pub mod Left
 pub mod Checking
