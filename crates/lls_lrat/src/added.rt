@@ -1,8 +1,9 @@
 // The live clauses that steps added.
-ghost use Rattle.std.specs.Prelude.{◌≡◌, ℕ, ◌+◌, ◌<◌, not, [], ◌∷◌, ◌++◌, length, OnOk, OnErr, Some, None, filter, is_ok, if◌then◌else◌, ◌==◌};
+ghost use Rattle.std.specs.Prelude.{◌≡◌, ℕ, ◌+◌, ◌<◌, true, not, [], ◌∷◌, ◌++◌, length, OnOk, OnErr, IfOk, Some, None, filter, is_ok, if◌then◌else◌, ◌==◌};
 ghost use Rattle.std.specs.Option.{option_copied};
 ghost use Rattle.lls_prooflog.specs.UnitWalk.{find_clause};
 ghost use Rattle.lls_lrat.specs.Placed.{place_of};
+ghost use Rattle.lls_lrat.specs.Stored.{is_at};
 
 use crate::places::Places;
 use lls_base::Memory;
@@ -11,11 +12,23 @@ use lls_lit::Lit;
 use std::alloc::Global;
 use std::marker::Model;
 
+/// How much more room than half of all dead clauses may take.
+const SPARE_ROOM: usize = 256;
+
 /// Clauses with ids, in the order in which they were put in.
 ///
-/// A clause that is taken out stays stored: a clause is live where its id leads to its place.
+/// A clause that is taken out is dead, and stays stored for a while: a clause is live where its id leads to its place.
+/// `tidy` makes the store anew once dead clauses have more than half of the room, where a clause has one unit for itself
+/// and one for each literal. So the store takes memory by the clauses that are live.
 #[derive(Drop)]
 pub(crate) struct Added {
+    alloc: Global,
+    /// The number of live clauses.
+    live: usize,
+    /// The room of all stored clauses.
+    room: usize,
+    /// The room of those that are dead.
+    dead: usize,
     clauses: Clauses,
     ids: Vec<u64>,
     places: Places,
@@ -40,10 +53,22 @@ impl Added {
     pub(crate) fn new(alloc: Global, least: u64) -> Added
         ensures { result ≡ [] }
     {
+        Added::with_places(alloc, Places::new(alloc, least))
+    }
+
+    // No clause.
+    fn with_places(alloc: Global, places: Places) -> Added
+        requires { (q : ℕ) → place_of places q ≡ None }
+        ensures { result ≡ [] }
+    {
         Added {
+            alloc,
+            live: 0,
+            room: 0,
+            dead: 0,
             clauses: Clauses::new(alloc),
             ids: Vec::new(alloc),
-            places: Places::new(alloc, least),
+            places,
         }
     }
 
@@ -61,6 +86,8 @@ impl Added {
         ensures err { OnErr result (self.new ≡ self.old) }
     {
         store(&mut self.ids, &mut self.places, &mut self.clauses, id, lits)?;
+        self.live = self.live.saturating_add(1);
+        self.room = self.room.saturating_add(room_of(lits));
         Ok(())
     }
 
@@ -68,8 +95,63 @@ impl Added {
     pub(crate) fn remove(&mut self, id: u64)
         ensures { self.new ≡ filter (λ pair. not (id == pair.0)) self.old }
     {
-        self.places.take(id);
+        if let Some(place) = self.places.take(id) {
+            let clause = self.clauses.clause(place as usize);
+            self.live = self.live.saturating_sub(1);
+            self.dead = self.dead.saturating_add(room_of(clause));
+        }
     }
+
+    /// Gives the room of dead clauses back where it is more than half of all. Where memory lacks, that waits.
+    pub(crate) fn tidy(&mut self)
+        ensures { self.new ≡ self.old }
+    {
+        if self.dead <= SPARE_ROOM + self.room / 2 {
+            return;
+        }
+        if let Ok(fresh) = self.compacted() {
+            *self = fresh;
+        }
+    }
+
+    // The same clauses without the dead ones.
+    fn compacted(&self) -> Result<Added, Memory>
+        ensures { IfOk result (λ a. a ≡ self.now) }
+    {
+        let newest = self.ids.last().copied().unwrap_or(0);
+        let places = Places::up_to(self.alloc, newest, self.live)?;
+        let mut fresh = Added::with_places(self.alloc, places);
+        for place in 0..self.ids.len() {
+            let id = self.ids[place];
+            let is_live = leads_to(self.places.get(id), place);
+            push_live(&mut fresh, is_live, id, self.clauses.clause(place))?;
+        }
+        Ok(fresh)
+    }
+}
+
+fn room_of(lits: &[Lit]) -> usize {
+    lits.len().saturating_add(1)
+}
+
+fn leads_to(found: Option<u32>, place: usize) -> bool
+    ensures { result ≡ is_at found place }
+{
+    match found {
+        Some(there) => there as usize == place,
+        None => false,
+    }
+}
+
+// Puts a live clause at the end, and no other.
+fn push_live(added: &mut Added, is_live: bool, id: u64, lits: &[Lit]) -> Result<(), Memory>
+    requires { is_live ≡ true → find_clause added.old id ≡ None }
+    ensures { OnOk result (added.new ≡ (if is_live then added.old ++ (id, lits.now) ∷ [] else added.old)) }
+{
+    if is_live {
+        added.push(id, lits)?;
+    }
+    Ok(())
 }
 
 // Stores one more clause under a new id. After `Memory` all is as before.

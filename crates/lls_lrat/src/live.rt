@@ -61,6 +61,7 @@ impl<'f> LiveClauses<'f> {
         ensures { self.new ≡ filter (λ pair. not (list_any (λ id. id == pair.0) ids.now)) self.old }
     {
         remove_all(&mut self.given, &mut self.added, ids);
+        self.added.tidy();
     }
 }
 

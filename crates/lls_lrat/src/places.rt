@@ -1,22 +1,23 @@
 // Where the clause of each live id is stored.
-ghost use Rattle.std.specs.Prelude.{◌≡◌, ℕ, ◌+◌, ◌<◌, ◌≤◌, Some, None, OnOk, OnErr, IfSome, if◌then◌else◌, ◌==◌, length};
+ghost use Rattle.std.specs.Prelude.{◌≡◌, ℕ, ◌+◌, ◌<◌, ◌≤◌, Some, None, OnOk, OnErr, IfOk, IfSome, if◌then◌else◌, ◌==◌, length};
+ghost use Rattle.std.specs.Map.{lookup};
 ghost use Rattle.lls_lrat.specs.Placed.{slot, in_table, place_of};
 
 use lls_base::Memory;
 use std::alloc::Global;
 use std::collections::HashMap;
 
-/// The table has no more entries than this for each stored clause, and a few to spare.
-const ENTRIES_PER_CLAUSE: usize = 8;
+/// How many entries the table may have for each place, beside a few to spare.
+const ENTRIES_PER_PLACE: usize = 8;
 
 const SPARE_ENTRIES: usize = 1024;
 
 /// A map from ids to places, where places are counted from 0.
 ///
-/// A table has an entry for each id from its first on. An id before that is kept in a hash map, as is one so far behind
-/// that the table would have more than `ENTRIES_PER_CLAUSE` entries for each place up to its own, and
-/// `SPARE_ENTRIES`. So ids that ascend are looked up in the table, and whatever the ids, all takes room by the number
-/// of places.
+/// A table has an entry for each id from its first on. An id before that is kept in a hash map, and so is one so far
+/// behind that the table would get more than `ENTRIES_PER_PLACE` entries for each place before its own, and
+/// `SPARE_ENTRIES`. So ids that ascend are looked up in the table, and where the places ascend by one, all takes memory
+/// by their number, whatever the ids.
 #[derive(Drop)]
 pub(crate) struct Places {
     first: u64,
@@ -36,12 +37,26 @@ impl Places {
         }
     }
 
+    /// No places. The table has the ids up to the newest one, as many as it may have for so many places.
+    pub(crate) fn up_to(alloc: Global, newest: u64, places: usize) -> Result<Places, Memory>
+        ensures { IfOk result (λ p. (q : ℕ) → place_of p q ≡ None) }
+    {
+        let entries = places.saturating_mul(ENTRIES_PER_PLACE);
+        let table = vec![in alloc; None; entries]?;
+        Ok(Places {
+            first: newest.saturating_sub(entries as u64),
+            table,
+            rest: HashMap::new(alloc),
+        })
+    }
+
+    #[inline]
     pub(crate) fn get(&self, id: u64) -> Option<u32>
         ensures { result ≡ place_of self.now id }
     {
         match entry(&self.table, self.first, id) {
             Some(place) => Some(place),
-            None => self.rest.get(&id).copied(),
+            None => in_rest(&self.rest, id),
         }
     }
 
@@ -93,6 +108,13 @@ fn entry(table: &[Option<u32>], first: u64, id: u64) -> Option<u32>
     table.get((id - first) as usize).copied().flatten()
 }
 
+#[cold]
+fn in_rest(rest: &HashMap<u64, u32>, id: u64) -> Option<u32>
+    ensures { result ≡ lookup (λ q. id == q) rest.now.entries }
+{
+    rest.get(&id).copied()
+}
+
 // Where the entry of an id is or may be put.
 fn near(table: &[Option<u32>], first: u64, id: u64, place: u32) -> Option<usize>
     ensures index { IfSome result (λ k. id ≡ first + k) }
@@ -102,7 +124,7 @@ fn near(table: &[Option<u32>], first: u64, id: u64, place: u32) -> Option<usize>
         return None;
     }
     let k = (id - first) as usize;
-    let most = ENTRIES_PER_CLAUSE * place as usize + SPARE_ENTRIES;
+    let most = ENTRIES_PER_PLACE * place as usize + SPARE_ENTRIES;
     if k < table.len() || k < most {
         Some(k)
     } else {
