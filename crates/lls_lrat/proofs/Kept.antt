@@ -1,5 +1,5 @@
 -- The live clauses among those that are stored.
-use Rattle.std.proofs.Common.{◌≡◌, ℕ, zero, suc, ◌+◌, ◌<◌, ◌≢◌, Bool, true, false, not, cond, eqb, List, [], ◌∷◌, ◌++◌, length, Option, Some, None, refl, sym, ap, ◌∙◌, arith, eq-eqb, add-zero}
+use Rattle.std.proofs.Common.{◌≡◌, ℕ, zero, suc, ◌+◌, ◌<◌, ◌≤◌, ◌≢◌, Bool, true, false, not, cond, eqb, List, [], ◌∷◌, ◌++◌, length, take, Option, Some, None, refl, sym, ap, ◌∙◌, arith, eq-eqb, add-zero}
 use Rattle.std.specs.Prelude.{slice_get, filter}
 use Rattle.std.specs.List.{enumerate_from}
 use Rattle.std.proofs.lemmas.Bool.{eqb-true}
@@ -21,6 +21,10 @@ is_at-None (Some p) place e = absurd cc
 
 is_at-Some : (o : Option ℕ) (p place : ℕ) → o ≡ Some p → is_at o place ≡ eqb p place
 is_at-Some o p place e = rw e refl
+
+pub is_at-true : (o : Option ℕ) (place : ℕ) → true ≡ is_at o place → o ≡ Some place
+is_at-true None place e = absurd cc
+is_at-true (Some p) place e = ap (λ (n : ℕ). Some n) (eqb-true p place (sym e))
 
 differ : true ≡ false → ⊥
 differ e = cc
@@ -108,3 +112,34 @@ kept-enumerate_from place_of place (c ∷ cs) h =
     let i : place + 1 + 1 + j ≡ place + 1 + suc j = omega arith in
     let k : place + suc j ≡ place + 1 + j = omega arith in
     rw i (h (suc j) (omega arith) ∙ ap (λ (n : ℕ). Some n) k))))
+
+-- an id that leads behind these places isn't found among them
+pub find-kept_later : (place_of : ℕ → Option ℕ) (place : ℕ) (all : Live) (id n : ℕ) → place_of id ≡ Some n → place + length all ≤ n → find_clause (kept place_of place all) id ≡ None
+find-kept_later place_of place [] id n h far = refl
+find-kept_later place_of place (pair ∷ rest) id n h far =
+    let elsewhere : eqb n place ≡ false = not_same n place (λ same. omega arith) in
+    skip_other (is_at (place_of pair.0) place) pair (kept place_of (place + 1) rest) id (λ at same. differ (sym at ∙ is_at-Some (place_of pair.0) n place (ap place_of same ∙ h) ∙ elsewhere))
+    ∙ find-kept_later place_of (place + 1) rest id n h (omega arith)
+
+append_one : (b c : Bool) (pair one : ℕ × Clause) (before now : Live) → now ≡ cond c (before ++ one ∷ []) before → cond b (pair ∷ now) now ≡ cond c (cond b (pair ∷ before) before ++ one ∷ []) (cond b (pair ∷ before) before)
+append_one true true pair one before now e = ap (λ (l : Live). pair ∷ l) e
+append_one true false pair one before now e = ap (λ (l : Live). pair ∷ l) e
+append_one false true pair one before now e = e
+append_one false false pair one before now e = e
+
+-- the clause at the next place is kept, or not
+kept-more : (place_of : ℕ → Option ℕ) (place : ℕ) (all : Live) (j id : ℕ) (clause : Clause) → slice_get all j ≡ Some (id, clause) → kept place_of place (take (j + 1) all) ≡ cond (is_at (place_of id) (place + j)) (kept place_of place (take j all) ++ (id, clause) ∷ []) (kept place_of place (take j all))
+kept-more place_of place [] j id clause e = absurd cc
+kept-more place_of place (pair ∷ rest) zero id clause e =
+    let both : pair ≡ (id, clause) = same_Some pair (id, clause) e in
+    let z : place + 0 ≡ place = omega arith in
+    rw (both, z) refl
+kept-more place_of place (pair ∷ rest) (suc j) id clause e =
+    let s : place + suc j ≡ place + 1 + j = omega arith in
+    let t : suc j + 1 ≡ suc (j + 1) = omega arith in
+    rw (s, t) (append_one (is_at (place_of pair.0) place) (is_at (place_of id) (place + 1 + j)) pair (id, clause) (kept place_of (place + 1) (take j rest)) (kept place_of (place + 1) (take (j + 1) rest)) (kept-more place_of (place + 1) rest j id clause e))
+
+pub kept-next : (place_of : ℕ → Option ℕ) (all : Live) (j id : ℕ) (clause : Clause) → slice_get all j ≡ Some (id, clause) → kept place_of 0 (take (j + 1) all) ≡ cond (is_at (place_of id) j) (kept place_of 0 (take j all) ++ (id, clause) ∷ []) (kept place_of 0 (take j all))
+kept-next place_of all j id clause e =
+    let z : 0 + j ≡ j = omega arith in
+    kept-more place_of 0 all j id clause e ∙ ap (λ (n : ℕ). cond (is_at (place_of id) n) (kept place_of 0 (take j all) ++ (id, clause) ∷ []) (kept place_of 0 (take j all))) z

@@ -1,7 +1,7 @@
-pub mod Maps
 pub mod Kept
 pub mod Indexed
-pub mod PlaceMaps
+pub mod Flagged
+pub mod Found
 pub mod Lefts
 pub mod Walked
 pub mod Within

@@ -1,5 +1,6 @@
 pub mod FaultText
 pub mod Stored
+pub mod Placed
 pub mod Hinted
 pub mod Left
 pub mod Checking

@@ -1,12 +1,7 @@
--- Live clauses, as they are stored: each has a place, and a map has the place of each live id.
-use Rattle.std.specs.Prelude.{◌≡◌, ℕ, zero, suc, ◌+◌, Bool, false, List, [], ◌∷◌, ◌++◌, map, length, Option, Some, None, slice_get, if◌then◌else◌, ◌==◌, nat_lt}
-use Rattle.std.specs.List.{zip}
+-- For private contracts alone: clauses as they are stored. Each has a place, and is live where its id leads to its place.
+use Rattle.std.specs.Prelude.{◌≡◌, ℕ, zero, suc, ◌+◌, Bool, true, false, List, [], ◌∷◌, length, Option, Some, None, slice_get, if◌then◌else◌, ◌==◌}
 use Rattle.lls_lit.specs.Formula.{Clause}
-use Rattle.lls_prooflog.specs.UnitWalk.{Live, numbered}
-
--- the clauses in the order of their places: the formula's, then those that were added
-abbrev pub stored : List Clause → List ℕ → List Clause → Live
-stored clauses ids added = numbered clauses ++ zip ids added
+use Rattle.lls_prooflog.specs.UnitWalk.{Live}
 
 abbrev pub is_at : Option ℕ → ℕ → Bool
 is_at None place = false
@@ -19,11 +14,16 @@ kept place_of place (pair ∷ rest) =
     if is_at (place_of pair.0) place then pair ∷ kept place_of (place + 1) rest else kept place_of (place + 1) rest
 
 -- the map leads each id to a clause that was stored under it
-pub record IsIndexed (place_of : ℕ → Option ℕ) (clauses : List Clause) (ids : List ℕ) (added : List Clause) : Type 0 where
-  pub same_many : length ids ≡ length added
-  pub under : (id place : ℕ) → place_of id ≡ Some place → slice_get (map (λ pair. pair.0) (stored clauses ids added)) place ≡ Some id
+pub record IsIndexed (place_of : ℕ → Option ℕ) (ids : List ℕ) (clauses : List Clause) : Type 0 where
+  pub same_many : length ids ≡ length clauses
+  pub under : (id place : ℕ) → place_of id ≡ Some place → slice_get ids place ≡ Some id
 
--- where the formula's clauses are stored: the id is one more than the place
-abbrev pub place_in : ℕ → ℕ → Option ℕ
-place_in count zero = None
-place_in count (suc place) = if nat_lt place count then Some place else None
+abbrev pub where_set : Option Bool → ℕ → Option ℕ
+where_set (Some true) place = Some place
+where_set (Some false) place = None
+where_set None place = None
+
+-- the places of a formula's clauses whose flags are set: the id is one more than the place
+abbrev pub flagged : List Bool → ℕ → Option ℕ
+flagged flags zero = None
+flagged flags (suc place) = where_set (slice_get flags place) place

@@ -1,10 +1,12 @@
 //! The checker of LRAT proofs: it accepts a proof only where the formula has no satisfying assignment.
 #![tactic(auto)]
 
+mod added;
 mod bytes;
 mod checked;
 mod checker;
 mod error;
+mod given;
 mod live;
 mod places;
 mod refusal;

@@ -61,6 +61,8 @@ fn proofs_are_accepted_or_refused_as_worked(rt: HostRuntime) -> Result<(), Fail>
         ("5 1 0 1 0\r\nc rubbish\n \t\n5 0 1 2 4 0\r\n", "IdLive 4 5"),
         ("5 1 0 1 0\n5 d 5 0\n5 0 1 2 4 0", "accepted"),
         ("5 1 0 1 0\n", "NoEmpty"),
+        ("5 1 0 1 0\n5 d 1 0\n1 -2 0 5 4 0\n6 0 1 2 0\n", "accepted"),
+        ("5 1 0 1 0\n5 d 1 0\n6 -2 0 1 4 0\n", "NoClause 3 1"),
     ];
     for (text, want) in rows {
         compare(&rt, rt.alloc(), text.as_bytes(), want)?;
@@ -81,6 +83,18 @@ fn hostile_proofs(rt: HostRuntime) -> Result<(), Fail> {
         ("5 -2 -2 0 1 4 0\n6 0 2 5 0\n", "accepted"),
         ("5 1 -1 0 1 0\n6 0 5 0\n", "NotUnit 2 5"),
         ("5 0 1 3 2 4 0\n5 0 2 4 1 0", "NotUnit 1 3"),
+        (
+            "5 1 0 1 0\n9223372036854775807 -2 0 5 4 0\n6 0 9223372036854775807 2 0\n",
+            "accepted",
+        ),
+        (
+            "9223372036854775807 1 0 1 0\n5 -2 0 9223372036854775807 4 0\n6 0 5 2 0\n",
+            "accepted",
+        ),
+        (
+            "9223372036854775807 1 0 1 0\n6 d 9223372036854775807 0\n6 0 9223372036854775807 2 4 0\n",
+            "NoClause 3 9223372036854775807",
+        ),
     ];
     for (text, want) in rows {
         compare(&rt, rt.alloc(), text.as_bytes(), want)?;
@@ -110,6 +124,36 @@ fn a_million_hints(rt: HostRuntime) -> Result<(), Fail> {
     }
     text.extend_from_slice(b" 0")?;
     compare(&rt, rt.alloc(), &text, "NoConflict 1")
+}
+
+// A thousand clauses `1` under the ids from 5, of which those whose ids are multiples of 100 aren't taken out again, and
+// a last line.
+fn with_deletions(alloc: Global, last: &str) -> Result<String, Fail> {
+    let mut text = String::new(alloc);
+    for id in 5..1005 {
+        text.push_str(&format!(in alloc; "{id} 1 0 1 0\n")?)?;
+        if id % 100 != 0 {
+            text.push_str(&format!(in alloc; "{id} d {id} 0\n")?)?;
+        }
+    }
+    text.push_str(last)?;
+    Ok(text)
+}
+
+#[test]
+fn room_is_used_again(rt: HostRuntime) -> Result<(), Fail> {
+    let rows = [
+        ("1005 0 100 2 4 0", "accepted"),
+        ("1005 0 1000 2 4 0", "accepted"),
+        ("1005 0 101 2 4 0", "NoClause 1991 101"),
+        ("500 0 1 2 4 0", "IdLive 1991 500"),
+        ("501 0 1 2 4 0", "accepted"),
+    ];
+    for (last, want) in rows {
+        let text = with_deletions(rt.alloc(), last)?;
+        compare(&rt, rt.alloc(), text.as_bytes(), want)?;
+    }
+    Ok(())
 }
 
 fn addition(alloc: Global, id: u64, lits: &[i32], hints: &[i64]) -> Result<Step, Fail> {

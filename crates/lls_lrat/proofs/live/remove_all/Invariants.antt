@@ -1,7 +1,10 @@
-use Rattle.std.proofs.Common.{◌≡◌, ℕ, cond, eqb, take, None}
+use Rattle.std.proofs.Common.{◌≡◌, not, eqb, take}
+use Rattle.std.specs.Prelude.{filter}
 use Rattle.std.specs.List.{list_any}
-use Rattle.std.specs.FinMap as map
 use Rattle.lls_lrat.proofs.live.remove_all.Given as goal
 
 abbrev pub invariant-loop-id : goal.invariant-loop-id
-invariant-loop-id l = (q : ℕ) → map.get l.places q ≡ cond (list_any (λ id. eqb id q) (take l.id-index l.ids)) None (map.get l.initial.places q)
+invariant-loop-id l = record {
+  given : l.given ≡ filter (λ pair. not (list_any (λ id. eqb id pair.0) (take l.id-index l.ids))) l.initial.given;
+  added : l.added ≡ filter (λ pair. not (list_any (λ id. eqb id pair.0) (take l.id-index l.ids))) l.initial.added;
+}

@@ -1,0 +1,203 @@
+// The live clauses that steps added.
+ghost use Rattle.std.specs.Prelude.{◌≡◌, ℕ, ◌+◌, ◌<◌, true, not, [], ◌∷◌, ◌++◌, length, OnOk, OnErr, IfOk, Some, None, filter, is_ok, if◌then◌else◌, ◌==◌};
+ghost use Rattle.std.specs.Option.{option_copied};
+ghost use Rattle.lls_prooflog.specs.UnitWalk.{find_clause};
+ghost use Rattle.lls_lrat.specs.Placed.{place_of};
+ghost use Rattle.lls_lrat.specs.Stored.{is_at};
+
+use crate::places::Places;
+use lls_base::Memory;
+use lls_cnf::Clauses;
+use lls_lit::Lit;
+use std::alloc::Global;
+use std::marker::Model;
+
+/// How much more room than half of all dead clauses may take.
+const SPARE_ROOM: usize = 256;
+
+/// Clauses with ids, in the order in which they were put in.
+///
+/// A clause that is taken out is dead, and stays stored for a while: a clause is live where its id leads to its place.
+/// `tidy` makes the store anew once dead clauses have more than half of the room, where a clause has one unit for itself
+/// and one for each literal. So the store takes memory by the clauses that are live.
+#[derive(Drop)]
+pub(crate) struct Added {
+    alloc: Global,
+    /// The number of live clauses.
+    live: usize,
+    /// The room of all stored clauses.
+    room: usize,
+    /// The room of those that are dead.
+    dead: usize,
+    clauses: Clauses,
+    ids: Vec<u64>,
+    places: Places,
+}
+
+impl Model for Added {
+    ghost use Rattle.std.specs.Prelude.{List, ℕ};
+    ghost use Rattle.std.specs.List.{zip};
+    ghost use Rattle.lls_lit.specs.Formula.{Clause};
+    ghost use Rattle.lls_lrat.specs.Stored.{kept, IsIndexed};
+    ghost use Rattle.lls_lrat.specs.Placed.{place_of};
+
+    ghost Value = { List (ℕ × Clause) };
+
+    ghost view = { λ a. kept (place_of a.places) 0 (zip a.ids.items a.clauses) };
+
+    ghost invariant = { λ a. IsIndexed (place_of a.places) a.ids.items a.clauses };
+}
+
+impl Added {
+    /// No clause. The ids of most that will be added are from the least one on.
+    pub(crate) fn new(alloc: Global, least: u64) -> Added
+        ensures { result ≡ [] }
+    {
+        Added::with_places(alloc, Places::new(alloc, least))
+    }
+
+    // No clause.
+    fn with_places(alloc: Global, places: Places) -> Added
+        requires { (q : ℕ) → place_of places q ≡ None }
+        ensures { result ≡ [] }
+    {
+        Added {
+            alloc,
+            live: 0,
+            room: 0,
+            dead: 0,
+            clauses: Clauses::new(alloc),
+            ids: Vec::new(alloc),
+            places,
+        }
+    }
+
+    pub(crate) fn find(&self, id: u64) -> Option<&[Lit]>
+        ensures { option_copied result ≡ find_clause self.now id }
+    {
+        let place = self.places.get(id)?;
+        Some(self.clauses.clause(place as usize))
+    }
+
+    /// Puts a clause at the end. After `Memory` the clauses are as before.
+    pub(crate) fn push(&mut self, id: u64, lits: &[Lit]) -> Result<(), Memory>
+        requires { find_clause self.old id ≡ None }
+        ensures ok { OnOk result (self.new ≡ self.old ++ (id, lits.now) ∷ []) }
+        ensures err { OnErr result (self.new ≡ self.old) }
+    {
+        store(&mut self.ids, &mut self.places, &mut self.clauses, id, lits)?;
+        self.live = self.live.saturating_add(1);
+        self.room = self.room.saturating_add(room_of(lits));
+        Ok(())
+    }
+
+    /// Takes the clause of the id out, if there is one.
+    pub(crate) fn remove(&mut self, id: u64)
+        ensures { self.new ≡ filter (λ pair. not (id == pair.0)) self.old }
+    {
+        if let Some(place) = self.places.take(id) {
+            let clause = self.clauses.clause(place as usize);
+            self.live = self.live.saturating_sub(1);
+            self.dead = self.dead.saturating_add(room_of(clause));
+        }
+    }
+
+    /// Gives the room of dead clauses back where it is more than half of all. Where memory lacks, that waits.
+    pub(crate) fn tidy(&mut self)
+        ensures { self.new ≡ self.old }
+    {
+        if self.dead <= SPARE_ROOM + self.room / 2 {
+            return;
+        }
+        if let Ok(fresh) = self.compacted() {
+            *self = fresh;
+        }
+    }
+
+    // The same clauses without the dead ones.
+    fn compacted(&self) -> Result<Added, Memory>
+        ensures { IfOk result (λ a. a ≡ self.now) }
+    {
+        let newest = self.ids.last().copied().unwrap_or(0);
+        let places = Places::up_to(self.alloc, newest, self.live)?;
+        let mut fresh = Added::with_places(self.alloc, places);
+        for place in 0..self.ids.len() {
+            let id = self.ids[place];
+            let is_live = leads_to(self.places.get(id), place);
+            push_live(&mut fresh, is_live, id, self.clauses.clause(place))?;
+        }
+        Ok(fresh)
+    }
+}
+
+fn room_of(lits: &[Lit]) -> usize {
+    lits.len().saturating_add(1)
+}
+
+fn leads_to(found: Option<u32>, place: usize) -> bool
+    ensures { result ≡ is_at found place }
+{
+    match found {
+        Some(there) => there as usize == place,
+        None => false,
+    }
+}
+
+// Puts a live clause at the end, and no other.
+fn push_live(added: &mut Added, is_live: bool, id: u64, lits: &[Lit]) -> Result<(), Memory>
+    requires { is_live ≡ true → find_clause added.old id ≡ None }
+    ensures { OnOk result (added.new ≡ (if is_live then added.old ++ (id, lits.now) ∷ [] else added.old)) }
+{
+    if is_live {
+        added.push(id, lits)?;
+    }
+    Ok(())
+}
+
+// Stores one more clause under a new id. After `Memory` all is as before.
+fn store(
+    ids: &mut Vec<u64>,
+    places: &mut Places,
+    clauses: &mut Clauses,
+    id: u64,
+    lits: &[Lit],
+) -> Result<(), Memory>
+    requires { place_of places.old id ≡ None }
+    ensures ids { ids.new.items ≡ (if is_ok result then ids.old.items ++ id ∷ [] else ids.old.items) }
+    ensures clauses { clauses.new ≡ (if is_ok result then clauses.old ++ lits.now ∷ [] else clauses.old) }
+    ensures ok { OnOk result ((q : ℕ) → place_of places.new q
+        ≡ (if id == q then Some (length ids.old.items) else place_of places.old q)) }
+    ensures err { OnErr result ((q : ℕ) → place_of places.new q ≡ place_of places.old q) }
+{
+    let count = ids.len();
+    ids.push(id)?;
+    if store_at(places, clauses, id, count, lits).is_err() {
+        ids.truncate(count);
+        return Err(Memory);
+    }
+    Ok(())
+}
+
+fn store_at(
+    places: &mut Places,
+    clauses: &mut Clauses,
+    id: u64,
+    place: usize,
+    lits: &[Lit],
+) -> Result<(), Memory>
+    requires { place_of places.old id ≡ None }
+    ensures clauses { clauses.new ≡ (if is_ok result then clauses.old ++ lits.now ∷ [] else clauses.old) }
+    ensures ok { OnOk result ((q : ℕ) → place_of places.new q
+        ≡ (if id == q then Some place else place_of places.old q)) }
+    ensures err { OnErr result ((q : ℕ) → place_of places.new q ≡ place_of places.old q) }
+{
+    let Ok(place) = u32::try_from(place) else {
+        return Err(Memory);
+    };
+    places.put(id, place)?;
+    if clauses.push(lits).is_err() {
+        places.take(id);
+        return Err(Memory);
+    }
+    Ok(())
+}
