@@ -31,7 +31,7 @@ image_of ColumnMirror height width place = record { y = place.y; x = opposite wi
 image_of DownMirror height width place = record { y = place.x; x = place.y }
 image_of UpMirror height width place = record { y = opposite width place.x; x = opposite height place.y }
 
--- rows become columns, so the grid has to be a square
+-- whether rows become columns, so that the grid has to be a square
 abbrev pub exchanges : Motion → Bool
 exchanges HalfTurn = false
 exchanges QuarterTurn = true
@@ -66,6 +66,6 @@ pub record MotionLaws (height width : ℕ) : Type 0 where
   pub diagonals : MakesOnSquares DownMirror UpMirror HalfTurn height width
   -- so do two quarter turns
   pub turns : MakesOnSquares QuarterTurn QuarterTurn HalfTurn height width
-  -- a mirror of columns takes a quarter turn to the mirror on a diagonal, before it to the one and after it to the other
+  -- a quarter turn and then the mirror of columns is the mirror on one diagonal, and the other way round on the other
   pub down : MakesOnSquares QuarterTurn ColumnMirror DownMirror height width
   pub up : MakesOnSquares ColumnMirror QuarterTurn UpMirror height width

@@ -1,5 +1,5 @@
 -- A move by a shift from each generation to the one a period later, and the pairs of places that it makes equal.
-use Rattle.std.specs.Prelude.{◌≡◌, ◌<◌, ◌≤◌, ℕ, ◌+◌, ◌-◌, ℤ, pos, ◌+ℤ◌, ◌-ℤ◌, ◌≤ℤ◌, Bool, ◌&&◌, is_some, List, [], ◌∷◌, ◌++◌, map, All, if◌then◌else◌}
+use Rattle.std.specs.Prelude.{◌≡◌, ◌<◌, ◌≤◌, ℕ, ◌+◌, ◌-◌, ℤ, pos, ◌+ℤ◌, ◌-ℤ◌, Bool, ◌&&◌, is_some, List, [], ◌∷◌, ◌++◌, map, All, if◌then◌else◌}
 use Rattle.std.specs.List.{flat_map, range_with_len}
 use Rattle.lls_grid.specs.declared.history.TheConstants.History.{MOST_GENERATIONS}
 use Rattle.lls_grid.specs.Place.{inside, IsWithin}
@@ -7,8 +7,7 @@ use Rattle.lls_symmetry.specs.declared.moved.TheConstants.{MOST_SHIFT, MOST_PERI
 use Rattle.lls_symmetry.specs.declared.moved.Course.{Course}
 use Rattle.lls_symmetry.specs.declared.moved.Spot.{Spot}
 use Rattle.lls_symmetry.specs.declared.moved.Moved.{Moved}
-use Rattle.lls_symmetry.specs.Motion.{Place, IsOnGrid}
-use Rattle.lls_symmetry.specs.Pairs.{IsOutside}
+use Rattle.lls_symmetry.specs.Pairs.{HasBackground}
 
 -- within the limits
 pub record IsCourse (course : Course) : Type 0 where
@@ -42,7 +41,7 @@ abbrev pub entering : Course → ℕ → ℕ → ℕ → ℕ → List Moved
 entering course height width y x =
     if is_on_grid height width (pos y -ℤ course.dy) (pos x -ℤ course.dx) then [] else coming course y x ∷ []
 
--- by row, then by column: first the cells that leave for somewhere, then those that come from outside
+-- by row, then by column: each cell and where it goes; each cell that comes from outside the grid, and where it was
 abbrev pub row_leaving : Course → ℕ → ℕ → List Moved
 row_leaving course width y = map (leaving course y) (range_with_len 0 width)
 
@@ -71,13 +70,13 @@ moved_pairs_of generations height width period dx dy =
 abbrev pub IsMoved : ℕ → ℕ → ℤ → ℤ → (ℕ → ℤ → ℤ → Bool) → Type 0
 IsMoved generations period dx dy value = (t : ℕ) (y x : ℤ) → t + period < generations → value (t + period) (y +ℤ dy) (x +ℤ dx) ≡ value t y x
 
--- every place of generation t outside the grid has the value `outside t`
-abbrev pub AreOutside : ℕ → ℕ → (ℕ → ℤ → ℤ → Bool) → (ℕ → Bool) → Type 0
-AreOutside height width value outside = (t : ℕ) → IsOutside height width (value t) (outside t)
+-- every place outside the grid has the background of its generation
+abbrev pub HaveBackgrounds : ℕ → ℕ → (ℕ → ℤ → ℤ → Bool) → (ℕ → Bool) → Type 0
+HaveBackgrounds height width value backgrounds = (t : ℕ) → HasBackground height width (value t) (backgrounds t)
 
--- these values are the same a period later
-abbrev pub ComesBack : ℕ → ℕ → (ℕ → Bool) → Type 0
-ComesBack generations period outside = (t : ℕ) → t + period < generations → outside t ≡ outside (t + period)
+-- the backgrounds are the same a period later
+abbrev pub BackgroundsReturn : ℕ → ℕ → (ℕ → Bool) → Type 0
+BackgroundsReturn generations period backgrounds = (t : ℕ) → t + period < generations → backgrounds t ≡ backgrounds (t + period)
 
 -- the places of each pair have equal values
 abbrev pub AreMoved : (ℕ → ℤ → ℤ → Bool) → List Moved → Type 0

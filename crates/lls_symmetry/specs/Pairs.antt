@@ -25,9 +25,9 @@ motion_pairs height width motion = flat_map (row_pairs motion height width) (ran
 unfoldable pub pairs_of : Symmetry → ℕ → ℕ → List Pair
 pairs_of symmetry height width = flat_map (motion_pairs height width) (generators_of symmetry)
 
--- every place outside the grid has that value
-abbrev pub IsOutside : ℕ → ℕ → (ℤ → ℤ → Bool) → Bool → Type 0
-IsOutside height width value outside = (place : Place) → (IsOnGrid height width place → ⊥) → value place.y place.x ≡ outside
+-- every place outside the grid has the background
+abbrev pub HasBackground : ℕ → ℕ → (ℤ → ℤ → Bool) → Bool → Type 0
+HasBackground height width value background = (place : Place) → (IsOnGrid height width place → ⊥) → value place.y place.x ≡ background
 
 -- the cells of each pair have equal values
 abbrev pub AreEqual : (ℤ → ℤ → Bool) → List Pair → Type 0

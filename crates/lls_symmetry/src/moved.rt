@@ -1,7 +1,7 @@
 // A move by a shift from each generation to the one a period later.
 ghost use Rattle.std.specs.Prelude.{◌≡◌, ◌<◌, ◌≤◌, ◌++◌, ◌↔◌, ℕ, ℤ, Bool, IfOk, OnOk};
 ghost use Rattle.lls_grid.specs.Place.{IsWithin};
-ghost use Rattle.lls_symmetry.specs.Moved.{IsCourse, leaving, coming, is_on_grid, entering, row_leaving, row_entering, all_leaving, all_entering, moved_pairs_of, IsMoved, AreOutside, ComesBack, AreMoved};
+ghost use Rattle.lls_symmetry.specs.Moved.{IsCourse, leaving, coming, is_on_grid, entering, row_leaving, row_entering, all_leaving, all_entering, moved_pairs_of, IsMoved, HaveBackgrounds, BackgroundsReturn, AreMoved};
 
 use lls_base::Memory;
 use lls_grid::{History, index_within};
@@ -98,10 +98,10 @@ pub fn moved_pairs(
     requires rows { IsWithin MOST_SHIFT dy }
     ensures pairs { IfOk result (λ moved. moved.items ≡ moved_pairs_of generations height width period dx dy) }
 
-    // Where all places of a generation outside the grid have one value, all places are moved exactly where these values
-    // come back and the places of each pair have equal values.
-    ensures moved { IfOk result (λ moved. (value : ℕ → ℤ → ℤ → Bool) (outside : ℕ → Bool) → AreOutside height width value outside
-        → (IsMoved generations period dx dy value ↔ (ComesBack generations period outside × AreMoved value moved.items))) }
+    // Where the places outside the grid have the background of their generation, all places are moved exactly where the
+    // backgrounds return and the places of each pair have equal values.
+    ensures moved { IfOk result (λ moved. (value : ℕ → ℤ → ℤ → Bool) (backgrounds : ℕ → Bool) → HaveBackgrounds height width value backgrounds
+        → (IsMoved generations period dx dy value ↔ (BackgroundsReturn generations period backgrounds × AreMoved value moved.items))) }
 {
     let mut moved = Vec::new(alloc);
     for t in 0..generations.saturating_sub(period) {

@@ -2,7 +2,7 @@
 ghost use Rattle.std.specs.Prelude.{◌≡◌, ◌<◌, ◌++◌, ◌↔◌, ℤ, Bool, true, IfOk, OnOk};
 ghost use Rattle.lls_symmetry.specs.Motion.{exchanges};
 ghost use Rattle.lls_symmetry.specs.Symmetry.{fits, IsSymmetric};
-ghost use Rattle.lls_symmetry.specs.Pairs.{pair_at, row_pairs, motion_pairs, pairs_of, IsOutside, AreEqual};
+ghost use Rattle.lls_symmetry.specs.Pairs.{pair_at, row_pairs, motion_pairs, pairs_of, HasBackground, AreEqual};
 
 use crate::Symmetry;
 use crate::motion::Motion;
@@ -28,8 +28,9 @@ pub fn pairs(
     requires { fits symmetry height width ≡ true }
     ensures pairs { IfOk result (λ pairs. pairs.items ≡ pairs_of symmetry height width) }
 
-    // Where all places outside the grid have one value, values are symmetric exactly where those of each pair are equal.
-    ensures symmetric { IfOk result (λ pairs. (value : ℤ → ℤ → Bool) (outside : Bool) → IsOutside height width value outside
+    // Where the places outside the grid have one background, values are symmetric exactly where those of each pair are
+    // equal.
+    ensures symmetric { IfOk result (λ pairs. (value : ℤ → ℤ → Bool) (background : Bool) → HasBackground height width value background
         → (IsSymmetric symmetry height width value ↔ AreEqual value pairs.items)) }
 {
     let mut pairs = Vec::new(alloc);
@@ -40,12 +41,7 @@ pub fn pairs(
 }
 
 /// Pushes the pairs of a motion.
-fn push_motion(
-    pairs: &mut Vec<Pair>,
-    motion: Motion,
-    height: u32,
-    width: u32,
-) -> Result<(), Memory>
+fn push_motion(pairs: &mut Vec<Pair>, motion: Motion, height: u32, width: u32) -> Result<(), Memory>
     requires { exchanges motion ≡ true → height ≡ width }
     ensures { OnOk result (pairs.new.items ≡ pairs.old.items ++ motion_pairs height width motion) }
 {

@@ -9,7 +9,7 @@ use crate::motion::Motion;
 /// Which motions of the grid a pattern has to look the same under.
 #[derive(Clone, Copy, Debug, PartialEq, Eq)]
 pub enum Symmetry {
-    /// None but rest.
+    /// No motion.
     C1,
     /// A half turn.
     C2,
@@ -86,7 +86,9 @@ impl Symmetry {
 pub fn read_symmetry(text: &[u8]) -> Option<Symmetry>
     ensures symmetry { result ≡ symmetry_of text.now }
     ensures named { IfSome result (λ symmetry. text.now ≡ symmetry_text symmetry) }
-    ensures each { (symmetry : Symmetry) → text.now ≡ symmetry_text symmetry → result ≡ Some symmetry }
+
+    // Each symmetry's text is its own.
+    ensures each { (symmetry : Symmetry) → symmetry_of (symmetry_text symmetry) ≡ Some symmetry }
 {
     Symmetry::ALL
         .iter()
