@@ -1,0 +1,8 @@
+use Rattle.std.proofs.Common.{◌≡◌, ◌++◌}
+use Rattle.std.specs.List.{flat_map, range_with_len}
+use Rattle.lls_symmetry.specs.Moved.{row_leaving}
+use Rattle.lls_symmetry.proofs.moved.push_leaving.Given as goal
+
+-- those of the rows so far
+abbrev pub invariant-loop-y : goal.invariant-loop-y
+invariant-loop-y l = l.moved.items ≡ l.fn.moved.items ++ flat_map (row_leaving l.course l.width) (range_with_len 0 l.y)

@@ -1,0 +1,4 @@
+pub mod Motion
+pub mod Symmetry
+pub mod Pairs
+pub mod Moved

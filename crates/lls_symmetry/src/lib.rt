@@ -1,0 +1,13 @@
+//! Symmetries of a grid and moves by a shift: which places have to have equal values, and the lists of their pairs.
+#![tactic(auto)]
+
+mod motion;
+mod moved;
+mod pair;
+mod symmetry;
+#[cfg(test)]
+mod tests;
+
+pub use moved::{MOST_PERIOD, MOST_SHIFT, Moved, Spot, moved_pairs};
+pub use pair::{Pair, pairs};
+pub use symmetry::{Symmetry, fits, generators, image, read_symmetry};
