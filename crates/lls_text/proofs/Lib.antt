@@ -3,3 +3,4 @@ pub mod Fronts
 pub mod Printed
 pub mod NumberBytes
 pub mod LineCounts
+pub mod CappedDigits

@@ -62,3 +62,24 @@ fn lines_are_told_by_their_first_byte(rt: HostRuntime) -> Result<(), Fail> {
     }
     Ok(())
 }
+
+#[test]
+fn digits_are_numbers(rt: HostRuntime) {
+    let rows: [(&[u8], Option<u64>); 7] = [
+        (b"0", Some(0)),
+        (b"007", Some(7)),
+        (b"18446744073709551615", Some(18_446_744_073_709_551_615)),
+        (b"18446744073709551617", Some(18_446_744_073_709_551_615)),
+        (b"", None),
+        (b"+1", None),
+        (b"1 ", None),
+    ];
+    for (text, want) in rows {
+        let found = if is_digits(text) {
+            Some(digits_number(text))
+        } else {
+            None
+        };
+        assert_eq!(rt; found, want);
+    }
+}
