@@ -41,7 +41,7 @@ pub one_learnt_spent : IsSpent searched one_learnt 1
 one_learnt_spent = record {
   budgeted = refl;
   good = (refl, tt);
-  additions = (record { fresh = first_fresh; some = refl; once = refl; within = refl }, tt);
+  additions = (record { fresh = first_fresh; some = omega arith; once = refl; within = refl }, tt);
   deletions = (tt, tt);
   further = further;
   unrefuted = unrefuted;

@@ -1,5 +1,5 @@
 -- Spent logs: a search added as many clauses as it may, each of them fresh, and wasn't done.
-use Rattle.std.specs.Prelude.{◌≡◌, ◌≤◌, ℕ, zero, suc, ◌+◌, ◌*◌, ℤ, pos, negsuc, Bool, true, false, not, ◌&&◌, ◌==◌, List, [], ◌∷◌, length, fold, count_by, None, is_some}
+use Rattle.std.specs.Prelude.{◌≡◌, ◌<◌, ◌≤◌, ℕ, zero, suc, ◌+◌, ◌*◌, ℤ, pos, negsuc, Bool, true, false, not, ◌&&◌, ◌==◌, List, [], ◌∷◌, length, fold, count_by, None, is_some}
 use Rattle.std.specs.List.{list_any, list_all}
 use Rattle.lls_lit.specs.Literal.{variable_of}
 use Rattle.lls_lit.specs.Formula.{Clause, Cnf, is_within}
@@ -46,7 +46,7 @@ IsGood state step = fault_of state.live step ≡ None
 -- an added clause: fresh against the clauses that are live before it, not empty, of different variables of the formula
 pub record AddsFresh (vars : ℕ) (live : Live) (lits : Clause) : Type 0 where
   pub fresh : IsFresh (clauses_of live) lits
-  pub some : length lits == 0 ≡ false
+  pub some : 0 < length lits
   pub once : has_variables_once lits ≡ true
   pub within : is_within vars lits ≡ true
 
