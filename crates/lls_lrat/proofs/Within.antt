@@ -1,22 +1,18 @@
 -- Clauses and literals within the variables.
-use Rattle.std.proofs.Common.{◌≡◌, ℕ, zero, suc, ◌<◌, ◌≤◌, true, false, cond, eqb, [], ◌∷◌, length, get_or, Some, None, refl, ap, ◌∙◌, arith, leb, leb-true}
+use Rattle.std.proofs.Common.{◌≡◌, ℕ, zero, suc, ◌<◌, ◌≤◌, true, length, get_or, Some, None, refl, ap, ◌∙◌, arith, leb, leb-true}
 use Rattle.std.specs.Prelude.{ℤ, pos, negsuc, Ok}
-use Rattle.std.proofs.lemmas.Option.{same_Some, slice_get-get_or}
+use Rattle.std.proofs.lemmas.Option.{slice_get-get_or}
 use Rattle.lls_lit.specs.Literal.{variable_of, negation}
 use Rattle.lls_lit.specs.Formula.{Clause, is_literal_of, is_within}
 use Rattle.lls_cnf.proofs.Elements.{passes_at}
 use Rattle.lls_prooflog.specs.UnitWalk.{Live, find_clause}
+use Rattle.lls_prooflog.proofs.Soundness.{found_passes}
+use Rattle.std.proofs.lemmas.List.Folds.{list_all-map}
 use Rattle.lls_lrat.specs.Hinted.{are_within, known_clause, hinted_clause}
 use Rattle.std.proofs.lemmas.Bool.{and_parts}
 
 found_within : (vars : ℕ) (live : Live) (id : ℕ) (clause : Clause) → are_within vars live ≡ true → find_clause live id ≡ Some clause → is_within vars clause ≡ true
-found_within vars [] id clause all e = absurd cc
-found_within vars (pair ∷ rest) id clause all e =
-    let both = and_parts (is_within vars pair.1) (are_within vars rest) all in
-    elim (eqb pair.0 id) as (λ b. cond b (Some pair.1) (find_clause rest id) ≡ Some clause → is_within vars clause ≡ true) [
-      | true ↦ λ h. let same : pair.1 ≡ clause = same_Some pair.1 clause h in rw (← same) both.0
-      | false ↦ λ h. found_within vars rest id clause both.1 h
-    ] e
+found_within vars live id clause all e = found_passes (is_within vars) live id clause (list_all-map (is_within vars) (λ (pair : ℕ × Clause). pair.1) live ∙ all) e
 
 pub hinted_within : (vars : ℕ) (live : Live) (hint : ℤ) (clause : Clause) → are_within vars live ≡ true → hinted_clause live hint ≡ Ok clause → is_within vars clause ≡ true
 hinted_within vars live (pos id) clause all e =

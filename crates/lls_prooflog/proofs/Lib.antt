@@ -1,3 +1,4 @@
+pub mod LiteralLists
 pub mod Soundness
 pub mod Digits
 pub mod Lists
@@ -5,3 +6,6 @@ pub mod InRange
 pub mod PrintedNumbers
 pub mod PrintedLists
 pub mod PrintedSteps
+pub mod FreshClauses
+pub mod WorkedLogs
+pub mod StepLines

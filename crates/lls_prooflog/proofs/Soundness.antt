@@ -1,10 +1,9 @@
 -- A good step keeps the live clauses satisfiable where the formula is.
-use Rattle.std.proofs.Common.{◌≡◌, ℕ, zero, suc, ◌+◌, Bool, true, false, not, ◌&&◌, ◌||◌, cond, List, [], ◌∷◌, ◌++◌, Option, Some, None, refl, ap, arith, add-one, eqb}
+use Rattle.std.proofs.Common.{◌≡◌, ℕ, zero, suc, ◌+◌, Bool, true, false, not, ◌&&◌, ◌||◌, cond, List, [], ◌∷◌, ◌++◌, Option, Some, None, refl, sym, ap, ◌∙◌, arith, add-one, eqb}
 use Rattle.std.specs.Prelude.{ℤ, pos, negsuc, filter, is_some, is_none}
 use Rattle.std.specs.List.{list_all, enumerate_from}
 use Rattle.std.specs.Ordering.{int_eq}
 use Rattle.std.proofs.lemmas.Bool.{and_parts, not-true}
-use Rattle.std.proofs.lemmas.Bool.Decides.{Decides-int_eq}
 use Rattle.std.proofs.lemmas.List.{map-append}
 use Rattle.std.proofs.lemmas.List.Folds.{list_all-append}
 use Rattle.lls_lit.specs.Literal.{negation}
@@ -14,64 +13,35 @@ use Rattle.lls_prooflog.specs.declared.step.Step.TheVariants.{Add, Del}
 use Rattle.lls_prooflog.specs.declared.step_fault.StepFault.{StepFault}
 use Rattle.lls_prooflog.specs.declared.step_fault.StepFault.TheVariants.{IdLive, NotUnit}
 use Rattle.lls_prooflog.specs.UnitWalk.{Live, find_clause, is_among, remaining, at_clause, at_hint, unit_walk}
+use Rattle.lls_prooflog.proofs.LiteralLists.{passes_among, any_kept, true_alone}
 use Rattle.lls_prooflog.specs.Steps.{numbered, fault_of, after, is_empty_addition, are_accepted, clauses_of, AreSatisfiable, KeepsSatisfiable}
 
 -- every one of these literals is false
 abbrev pub are_false : List Bool → List ℤ → Bool
 are_false values lits = list_all (λ l. not (is_true values l)) lits
 
--- a clause that is found is satisfied where all are
-found_satisfied : (values : List Bool) (live : Live) (id : ℕ) (clause : Clause) → satisfies values (clauses_of live) ≡ true → find_clause live id ≡ Some clause → satisfies_clause values clause ≡ true
-found_satisfied values [] id clause all e = absurd cc
-found_satisfied values (pair ∷ rest) id clause all e =
-    let both = and_parts (satisfies_clause values pair.1) (satisfies values (clauses_of rest)) all in
-    elim (eqb pair.0 id) as (λ b. cond b (Some pair.1) (find_clause rest id) ≡ Some clause → satisfies_clause values clause ≡ true) [
+-- a clause that is found passes what all pass
+pub found_passes : (test : Clause → Bool) (live : Live) (id : ℕ) (clause : Clause) → list_all test (clauses_of live) ≡ true → find_clause live id ≡ Some clause → test clause ≡ true
+found_passes test [] id clause all e = absurd cc
+found_passes test (pair ∷ rest) id clause all e =
+    let both = and_parts (test pair.1) (list_all test (clauses_of rest)) all in
+    elim (eqb pair.0 id) as (λ b. cond b (Some pair.1) (find_clause rest id) ≡ Some clause → test clause ≡ true) [
       | true ↦ λ h. let same : pair.1 ≡ clause = grind arith in rw (← same) both.0
-      | false ↦ λ h. found_satisfied values rest id clause both.1 h
+      | false ↦ λ h. found_passes test rest id clause both.1 h
     ] e
-
-second_true : (a b : Bool) → a ≡ false → (a || b) ≡ true → b ≡ true
-second_true true b h e = absurd cc
-second_true false b h e = e
 
 -- among false literals, each is false
 among_false : (values : List Bool) (assumed : List ℤ) (l : ℤ) → are_false values assumed ≡ true → is_among assumed l ≡ true → is_true values l ≡ false
-among_false values [] l all e = absurd cc
-among_false values (m ∷ ms) l all e =
-    let both = and_parts (not (is_true values m)) (are_false values ms) all in
-    elim (int_eq l m) as (λ b. int_eq l m ≡ b → (b || is_among ms l) ≡ true → is_true values l ≡ false) [
-      | true ↦ λ is _. let same : l ≡ m = (Decides-int_eq l m).0 is in rw same (not-true (is_true values m) both.0)
-      | false ↦ λ _ h. among_false values ms l both.1 h
-    ] refl e
+among_false values assumed l all among = not-true (is_true values l) (passes_among (λ m. not (is_true values m)) assumed l all among)
 
 -- a satisfied clause has a true literal that remains
 remaining_satisfied : (values : List Bool) (assumed : List ℤ) (clause : Clause) → are_false values assumed ≡ true → satisfies_clause values clause ≡ true → satisfies_clause values (remaining assumed clause) ≡ true
-remaining_satisfied values assumed [] all e = absurd cc
-remaining_satisfied values assumed (l ∷ ls) all e =
-    elim (is_among assumed l) as (λ b. is_among assumed l ≡ b → satisfies_clause values (cond (not b) (l ∷ remaining assumed ls) (remaining assumed ls)) ≡ true) [
-      | true ↦ λ is. remaining_satisfied values assumed ls all (second_true (is_true values l) (satisfies_clause values ls) (among_false values assumed l all is) e)
-      | false ↦ λ _. elim (is_true values l) as (λ t. (t || satisfies_clause values ls) ≡ true → (t || satisfies_clause values (remaining assumed ls)) ≡ true) [
-        | true ↦ λ _. refl
-        | false ↦ λ h. remaining_satisfied values assumed ls all h
-      ] e
-    ] refl
-
-or_false : (a : Bool) → (a || false) ≡ true → a ≡ true
-or_false true e = refl
-or_false false e = e
-
-or_twice : (a b : Bool) → (a || (a || b)) ≡ true → (a || b) ≡ true
-or_twice true b e = refl
-or_twice false b e = e
-
--- where all are the first, and one is true, the first is true
-only_true : (values : List Bool) (l : ℤ) (ls : List ℤ) → list_all (int_eq l) ls ≡ true → satisfies_clause values (l ∷ ls) ≡ true → is_true values l ≡ true
-only_true values l [] all e = or_false (is_true values l) e
-only_true values l (m ∷ ms) all e =
-    let both = and_parts (int_eq l m) (list_all (int_eq l) ms) all in
-    let same : l ≡ m = (Decides-int_eq l m).0 both.0 in
-    let twice : (is_true values l || (is_true values l || satisfies_clause values ms)) ≡ true = rw same (rw same at e) in
-    only_true values l ms both.1 (or_twice (is_true values l) (satisfies_clause values ms) twice)
+remaining_satisfied values assumed clause all e = any_kept (is_true values) (λ l. not (is_among assumed l)) clause kept e where
+  kept : (l : ℤ) → is_true values l ≡ true → not (is_among assumed l) ≡ true
+  kept l is = elim (is_among assumed l) as (λ b. is_among assumed l ≡ b → not b ≡ true) [
+    | true ↦ λ among. let clash : true ≡ false = sym is ∙ among_false values assumed l all among in absurd cc
+    | false ↦ λ _. refl
+  ] refl
 
 negation_false : (values : List Bool) (l : ℤ) → is_true values l ≡ true → is_true values (negation l) ≡ false
 negation_false values (pos zero) e = absurd cc
@@ -82,7 +52,7 @@ clause_refutes : (values : List Bool) (hint : ℤ) (lits : List ℤ) (goes_on : 
 clause_refutes values hint [] goes_on one e next = cc
 clause_refutes values hint (l ∷ ls) goes_on one e next =
     elim (list_all (int_eq l) ls) as (λ b. list_all (int_eq l) ls ≡ b → cond b (goes_on l) (Some (NotUnit hint)) ≡ None → ⊥) [
-      | true ↦ λ same h. next l (only_true values l ls same one) h
+      | true ↦ λ same h. next l (true_alone (is_true values) l ls same one) h
       | false ↦ λ _ h. cc
     ] refl e
 
@@ -94,7 +64,7 @@ walk_refutes values live assumed (pos id ∷ hints) all none e =
       | None ↦ λ _ h. cc
       | Some clause ↦ λ found h.
           clause_refutes values (pos id) (remaining assumed clause) (λ l. unit_walk live (assumed ++ negation l ∷ []) hints)
-          (remaining_satisfied values assumed clause none (found_satisfied values live id clause all found))
+          (remaining_satisfied values assumed clause none (found_passes (satisfies_clause values) live id clause all found))
           h
           (λ l is next. walk_refutes values live (assumed ++ negation l ∷ []) hints all (rw (list_all-append (λ m. not (is_true values m)) assumed (negation l ∷ []), none, negation_false values l is) refl) next)
     ] refl e

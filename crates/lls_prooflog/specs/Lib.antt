@@ -7,3 +7,5 @@ pub mod Wrapped
 pub mod Number
 pub mod Line
 pub mod StepText
+pub mod Fresh
+pub mod Spent

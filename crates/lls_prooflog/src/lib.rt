@@ -1,6 +1,6 @@
 //! Steps of a proof that a formula has no satisfying assignment, as LRAT has them.
 //!
-//! What a good step is, and which clauses are live after it, stands in specs/.
+//! What a good step is, which clauses are live after it, and when a log is spent, stands in specs/.
 #![tactic(auto)]
 
 mod hints;
@@ -26,5 +26,7 @@ pub use step_fault::{Culprit, StepFault};
 
 #[cfg(test)]
 mod line_tests;
+#[cfg(test)]
+mod spent_tests;
 #[cfg(test)]
 mod tests;

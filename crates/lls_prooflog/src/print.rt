@@ -1,5 +1,6 @@
 // The line that writes a step.
-ghost use Rattle.std.specs.Prelude.{◌≡◌, ◌++◌, true, IfOk, OnOk, Ok, Some};
+ghost use Rattle.std.specs.Prelude.{◌≡◌, ◌++◌, ◌∷◌, [], true, IfOk, OnOk, Ok, Some};
+ghost use Rattle.lls_text.specs.Lines.{lines_of};
 ghost use Rattle.lls_lit.specs.Formula.{is_within};
 ghost use Rattle.lls_prooflog.specs.declared.step.Step.TheVariants.{Add, Del};
 ghost use Rattle.lls_prooflog.specs.Range.{IsInRange};
@@ -17,6 +18,7 @@ use std::alloc::Global;
 pub fn print_step(alloc: Global, step: &Step) -> Result<Vec<u8>, Memory>
     requires { IsInRange step.now }
     ensures text { IfOk result (λ text. text.items ≡ step_text step.now) }
+    ensures one_line { OnOk result (lines_of (step_text step.now) ≡ step_line step.now ∷ []) }
     ensures read_again { OnOk result (step_of_line (step_line step.now) ≡ Ok (Some step.now)) }
 {
     let mut text = match step {
