@@ -19,7 +19,8 @@ const SPARE_ROOM: usize = 256;
 ///
 /// A clause that is taken out is dead, and stays stored for a while: a clause is live where its id leads to its place.
 /// `tidy` makes the store anew once dead clauses have more than half of the room, where a clause has one unit for itself
-/// and one for each literal. So the store takes memory by the clauses that are live.
+/// and one for each literal. So the store takes memory by the clauses that are live. It is full at 2^32 stored clauses,
+/// and then answers `Memory`.
 #[derive(Drop)]
 pub(crate) struct Added {
     alloc: Global,

@@ -108,6 +108,7 @@ fn entry(table: &[Option<u32>], first: u64, id: u64) -> Option<u32>
     table.get((id - first) as usize).copied().flatten()
 }
 
+// What the hash map has for an id. It stands apart, so that the look-up in the table stays short where it is inlined.
 #[cold]
 fn in_rest(rest: &HashMap<u64, u32>, id: u64) -> Option<u32>
     ensures { result ≡ lookup (λ q. id == q) rest.now.entries }
