@@ -259,7 +259,8 @@ fn symmetries(rt: HostRuntime) -> Result<(), Fail> {
 
 // The demands of a period and a shift, under the closed edge.
 fn moved(length: u32, dx: i32, dy: i32) -> Demands
-    ensures { ForSome result.period (λ period. (period.length ≡ length) × (period.dx ≡ dx) × (period.dy ≡ dy)) }
+    requires { IsPeriod (record { length = length; dx = dx; dy = dy }) }
+    ensures { ForSome result.period IsPeriod }
 {
     let mut demands = Demands::new(Edge::Framed);
     demands.period = Some(Period { length, dx, dy });
