@@ -1,6 +1,6 @@
 -- What of a history is lost a period later: the losses of a generation by their parts, and that none are where it returns.
-use Rattle.std.proofs.Common.{◌≡◌, ◌<◌, ℕ, ◌+◌, ◌-◌, Bool, true, false, not, List, [], ◌∷◌, ◌++◌, map, Option, None, Some, refl, sym, ap, ◌∙◌}
-use Rattle.std.specs.List.{flat_map, range_with_len}
+use Rattle.std.proofs.Common.{◌≡◌, ℕ, ◌+◌, Bool, true, false, not, List, [], ◌∷◌, ◌++◌, map, None, Some, refl, sym, ap, ◌∙◌}
+use Rattle.std.specs.List.{flat_map}
 use Rattle.std.proofs.Math.Bool.{beq}
 use Rattle.std.proofs.lemmas.Grind.{flat_map-append}
 use Rattle.lls_rule.specs.Rule.{background}
@@ -8,7 +8,6 @@ use Rattle.lls_grid.specs.History.{History}
 use Rattle.lls_symmetry.specs.declared.moved.Spot.{Spot}
 use Rattle.lls_symmetry.specs.Moved.{all_leaving, all_entering}
 use Rattle.lls_problem.specs.declared.demands.Period.{Period}
-use Rattle.lls_problem.specs.declared.losses.Loss.{Loss}
 use Rattle.lls_problem.specs.declared.losses.Loss.TheVariants.{OfBackground, OfPlace}
 use Rattle.lls_problem.specs.Problem.{PosedProblem}
 use Rattle.lls_problem.specs.Firsts.{first}

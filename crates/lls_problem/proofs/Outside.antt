@@ -1,5 +1,5 @@
 -- The places outside the grid have the background.
-use Rattle.std.proofs.Common.{◌≡◌, ◌<◌, ℕ, ℤ, pos, Bool, Option, None, Some, refl, ap, arith}
+use Rattle.std.proofs.Common.{◌≡◌, ◌<◌, ℕ, ℤ, Option, None, Some, refl, ap, arith}
 use Rattle.std.specs.Prelude.{unwrap_or}
 use Rattle.std.proofs.lemmas.Int.{ints}
 use Rattle.lls_rule.specs.Rule.{background}
@@ -7,7 +7,7 @@ use Rattle.lls_grid.specs.Place.{inside}
 use Rattle.lls_grid.specs.History.{History, at}
 use Rattle.lls_grid.proofs.InOrder.{place_cell-above, place_cell-beside}
 use Rattle.lls_grid.proofs.Folded.{some_row}
-use Rattle.lls_symmetry.specs.Motion.{Place, IsOnGrid}
+use Rattle.lls_symmetry.specs.Motion.{IsOnGrid}
 use Rattle.lls_symmetry.specs.Moved.{HaveBackgrounds}
 use Rattle.lls_problem.specs.Problem.{PosedProblem}
 use Rattle.lls_problem.specs.Judgement.{HasItsSizes}

@@ -1,11 +1,10 @@
 -- A history returns exactly where nothing of it is lost.
-use Rattle.std.proofs.Common.{◌≡◌, ◌<◌, ℕ, ◌+◌, ◌-◌, Bool, true, false, List, [], ◌∷◌, ◌++◌, map, Option, None, Some, refl, sym, ap, ◌∙◌, arith}
-use Rattle.std.specs.List.{AllByRecursion as Each, flat_map, range_with_len}
+use Rattle.std.proofs.Common.{◌≡◌, ◌<◌, ℕ, ◌+◌, ◌-◌, Bool, List, [], ◌∷◌, ◌++◌, map, Option, None, Some, refl, sym, ap, ◌∙◌, arith}
+use Rattle.std.specs.List.{AllByRecursion as Each, flat_map}
 use Rattle.std.specs.Option.{option_map_or}
 use Rattle.lls_rule.specs.Rule.{background}
 use Rattle.lls_grid.specs.History.{History, at}
 use Rattle.lls_symmetry.specs.declared.moved.Moved.{Moved}
-use Rattle.lls_symmetry.specs.declared.moved.Spot.{Spot}
 use Rattle.lls_symmetry.specs.Moved.{generation_moved, IsMoved, IsMovedPair}
 use Rattle.lls_symmetry.proofs.Shifted.{IsMoved-by_generations, back_by_moved, pairs_moved}
 use Rattle.lls_problem.specs.declared.demands.Period.{Period}
@@ -13,7 +12,6 @@ use Rattle.lls_problem.specs.declared.losses.Loss.TheVariants.{OfBackground, OfP
 use Rattle.lls_problem.specs.Problem.{PosedProblem, AreFitting}
 use Rattle.lls_problem.specs.Solution.{Returns}
 use Rattle.lls_problem.specs.Judgement.{HasItsSizes}
-use Rattle.lls_problem.specs.Unlike.{differ}
 use Rattle.lls_problem.specs.Losses.{is_lost, lost_of, course_of, lost_places, background_losses, losses_at, losses_of, losses}
 use Rattle.lls_problem.proofs.FirstOf.{both_empty, empty_in_range, empty_range, empty_where, false_where_empty}
 use Rattle.lls_problem.proofs.Outside.{at_outside}

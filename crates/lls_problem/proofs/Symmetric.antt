@@ -1,9 +1,9 @@
 -- A history is symmetric exactly where no cell differs from its image.
-use Rattle.std.proofs.Common.{◌≡◌, ◌<◌, ℕ, pos, Bool, true, false, not, List, [], length, refl, sym}
+use Rattle.std.proofs.Common.{◌≡◌, Bool, true, false, [], length, refl}
 use Rattle.lls_rule.specs.Rule.{background}
 use Rattle.lls_grid.specs.History.{History, at}
-use Rattle.lls_symmetry.specs.Motion.{image_of, cell_place}
-use Rattle.lls_symmetry.specs.Symmetry.{generators_of, generator_at}
+use Rattle.lls_symmetry.specs.Motion.{cell_place}
+use Rattle.lls_symmetry.specs.Symmetry.{generators_of}
 use Rattle.lls_symmetry.proofs.Symmetric.{IsSymmetric-by_cells}
 use Rattle.lls_problem.specs.Problem.{PosedProblem, AreFitting}
 use Rattle.lls_problem.specs.Solution.{AreSymmetric}

@@ -8,3 +8,4 @@ pub mod Judgement
 pub mod Texts
 pub mod Transitions
 pub mod Differences
+pub mod Board

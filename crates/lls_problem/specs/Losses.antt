@@ -1,10 +1,8 @@
 -- What of a history isn't there again a period later, in the order of judging.
-use Rattle.std.specs.Prelude.{◌<◌, ℕ, ◌+◌, ◌-◌, Bool, List, [], ◌∷◌, ◌++◌, map, if◌then◌else◌}
+use Rattle.std.specs.Prelude.{ℕ, ◌+◌, ◌-◌, Bool, List, [], ◌∷◌, ◌++◌, map, if◌then◌else◌}
 use Rattle.std.specs.List.{flat_map, range_with_len}
 use Rattle.std.specs.Option.{option_map_or}
 use Rattle.lls_rule.specs.Rule.{background}
-use Rattle.lls_grid.specs.declared.history.TheConstants.History.{FARTHEST}
-use Rattle.lls_grid.specs.Place.{IsWithin}
 use Rattle.lls_grid.specs.History.{History, at}
 use Rattle.lls_symmetry.specs.declared.moved.Course.{Course}
 use Rattle.lls_symmetry.specs.declared.moved.Moved.{Moved}
@@ -44,9 +42,3 @@ losses_of p h period = flat_map (losses_at p h period) (range_with_len 0 (p.pose
 
 abbrev pub losses : PosedProblem → History → List Loss
 losses p h = option_map_or (losses_of p h) p.demands.period []
-
--- For a private contract alone: a place of a generation of the file, near enough to the grid to be read.
-pub record IsOnBoard (p : PosedProblem) (place : Spot) : Type 0 where
-  pub generation : place.t < p.posed.generations
-  pub row : IsWithin FARTHEST place.y
-  pub column : IsWithin FARTHEST place.x

@@ -5,7 +5,8 @@ ghost use Rattle.lls_symmetry.specs.Moved.{IsCourse, row_leaving, all_leaving, e
 ghost use Rattle.lls_problem.specs.Problem.{IsPeriod};
 ghost use Rattle.lls_problem.specs.Judgement.{HasItsSizes, judgement_of};
 ghost use Rattle.lls_problem.specs.Firsts.{first};
-ghost use Rattle.lls_problem.specs.Losses.{is_lost, lost_of, course_of, losses_at, losses_of, losses, IsOnBoard};
+ghost use Rattle.lls_problem.specs.Losses.{is_lost, lost_of, course_of, losses_at, losses_of, losses};
+ghost use Rattle.lls_problem.specs.Board.{IsOnBoard};
 
 use crate::{Judgement, Period, Problem};
 use lls_grid::History;

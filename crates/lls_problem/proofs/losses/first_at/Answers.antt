@@ -1,4 +1,4 @@
-use Rattle.std.proofs.Common.{◌≡◌, ◌+◌, false, ap, sym, ◌∙◌}
+use Rattle.std.proofs.Common.{◌+◌, false, ap, sym, ◌∙◌}
 use Rattle.std.specs.List.{flat_map}
 use Rattle.lls_rule.specs.Rule.{background}
 use Rattle.lls_symmetry.specs.declared.moved.Course.{Course}

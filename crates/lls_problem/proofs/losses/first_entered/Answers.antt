@@ -1,6 +1,5 @@
-use Rattle.std.proofs.Common.{◌≡◌, ap, sym, ◌∙◌, arith, ℕ, List}
+use Rattle.std.proofs.Common.{◌≡◌, ap, sym, ◌∙◌, arith}
 use Rattle.std.specs.List.{flat_map}
-use Rattle.lls_symmetry.specs.declared.moved.Spot.{Spot}
 use Rattle.lls_symmetry.specs.Moved.{row_entering}
 use Rattle.lls_problem.specs.Firsts.{first}
 use Rattle.lls_problem.specs.Losses.{lost_of}
