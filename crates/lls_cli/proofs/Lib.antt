@@ -3,3 +3,4 @@ pub mod Ending
 pub mod Stopped
 pub mod Written
 pub mod RightAnswers
+pub mod Made

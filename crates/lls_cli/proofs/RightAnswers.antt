@@ -1,5 +1,5 @@
 -- Answers that are right, and what they do to the shelf.
-use Rattle.std.proofs.Common.{◌≡◌, ◌≢◌, ℕ, List, Option, None, Some, refl, ap, sym, subst}
+use Rattle.std.proofs.Common.{◌≡◌, ◌≢◌, ℕ, List, refl, ap, sym, subst}
 use Rattle.lls_lit.specs.Formula.{IsUnsatisfiable}
 use Rattle.lls_grid.specs.History.{History}
 use Rattle.lls_problem.specs.declared.judgement.Judgement.{Judgement}
@@ -10,7 +10,7 @@ use Rattle.lls_problem.specs.Solution.{IsSolution, IsAbsent}
 use Rattle.lls_encode.specs.Formula.{formula_of}
 use Rattle.lls_cli.specs.declared.status.Status.{Status}
 use Rattle.lls_cli.specs.declared.status.Status.TheVariants as statuses
-use Rattle.lls_cli.specs.Answer.{GivenAnswer, NamedFile, judge_answer, Holds, IsAnswer}
+use Rattle.lls_cli.specs.Answer.{GivenAnswer, judge_answer, Holds, IsAnswer}
 use Rattle.lls_cli.specs.Question.{Question, checks, refutes, judges, encodes, prints}
 use Rattle.lls_cli.specs.Moment.{ShelfMoment}
 use Rattle.lls_cli.specs.Steps.{LeavesAlone, LeavesPrinting}

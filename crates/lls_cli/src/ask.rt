@@ -1,6 +1,6 @@
 // From a job to its question: the inputs are read in their order.
 ghost use Rattle.std.specs.Prelude.{IfOk, OnErr};
-ghost use Rattle.lls_words.specs.Job.{IsPrintable};
+ghost use Rattle.lls_words.specs.Job.{KeepsLimits};
 ghost use Rattle.lls_cli.specs.Ends.{HasInputs, LeavesShelf};
 ghost use Rattle.lls_cli.specs.Moment.{shelf_moment, files_at};
 ghost use Rattle.lls_cli.specs.Question.{Asks};
@@ -16,7 +16,7 @@ use std::alloc::Global;
 
 /// What a job asks, read from the shelf.
 pub fn ask<S: Shelf>(alloc: Global, shelf: &mut S, job: Job) -> Result<Question, Fault>
-    requires { IsPrintable job }
+    requires { KeepsLimits job }
     ensures read { Reads seen_question (Asks job (files_at (shelf_moment (S.told shelf.old) (S.has_input shelf.old) (S.has_output shelf.old) (S.faults shelf.old)))) result
         (shelf_moment (S.told shelf.old) (S.has_input shelf.old) (S.has_output shelf.old) (S.faults shelf.old))
         (shelf_moment (S.told shelf.new) (S.has_input shelf.new) (S.has_output shelf.new) (S.faults shelf.new)) }

@@ -1,5 +1,6 @@
 // Command lines over a shelf and sinks in memory.
 mod checks;
+mod demands;
 mod faults;
 mod formulas;
 mod judging;

@@ -1,5 +1,5 @@
 -- The history of every assignment that satisfies the formula is a solution.
-use Rattle.std.proofs.Common.{◌≡◌, ◌<◌, ◌≤◌, take, ℕ, ◌+◌, ◌-◌, ◌*◌, Bool, true, false, cond, List, [], ◌∷◌, ◌++◌, length, refl, sym, ap, ◌∙◌, subst, arith}
+use Rattle.std.proofs.Common.{◌≡◌, ◌<◌, ◌≤◌, take, ℕ, ◌+◌, ◌-◌, ◌*◌, Bool, true, false, cond, List, [], ◌∷◌, ◌++◌, length, None, refl, sym, ap, ◌∙◌, subst, arith}
 use Rattle.std.specs.List.{flat_map}
 use Rattle.std.proofs.lemmas.Bool.{and_parts, false_from_ne_true}
 use Rattle.std.proofs.lemmas.List.{take_all, length-take-le}
@@ -11,8 +11,12 @@ use Rattle.lls_grid.proofs.Folded.{length-folded, height_of-folded, width_of-fol
 use Rattle.lls_grid.proofs.Chunks.{folded-chunked, joined-chunked, length-chunked}
 use Rattle.lls_search_file.specs.Posed.{IsPosed}
 use Rattle.lls_problem.specs.Problem.{PosedProblem}
-use Rattle.lls_problem.specs.Solution.{MeetsCells, is_marked, Obeys, IsSolution, IsAbsent}
-use Rattle.lls_encode.specs.Formula.{place_clauses, line_clauses, generation_clauses, fixed_part, name_part, transition_part, formula_of}
+use Rattle.lls_symmetry.specs.declared.symmetry.Symmetry.{Symmetry}
+use Rattle.lls_symmetry.specs.declared.symmetry.Symmetry.TheVariants.{C1}
+use Rattle.lls_symmetry.specs.Symmetry.{generators_of}
+use Rattle.lls_problem.specs.declared.demands.Demands.{Demands}
+use Rattle.lls_problem.specs.Solution.{MeetsCells, is_marked, AreSymmetric, Obeys, IsSolution, IsAbsent}
+use Rattle.lls_encode.specs.Formula.{place_clauses, line_clauses, generation_clauses, fixed_part, name_part, transition_part, formula_of, DemandsEdgeAlone}
 use Rattle.lls_encode.specs.History.{history_of}
 use Rattle.lls_encode.proofs.Framed.{framed_row, framed_column}
 use Rattle.lls_encode.proofs.Complete.{vars-formula_of}
@@ -78,10 +82,17 @@ parts_of p values satisfied =
     let cells = and_parts _ _ (sym (satisfies-append values (fixed_part p) (name_part p)) ∙ all.0) in
     record { fixed = cells.0; names = cells.1; transitions = all.1 }
 
+-- a symmetry without generators is every history's
+AreSymmetric-none : (p : PosedProblem) (h : History) → p.demands.symmetry ≡ C1 → AreSymmetric p h
+AreSymmetric-none p h none = λ t in_file k place generator.
+    let P : Symmetry → Type 0 = λ symmetry. k < length (generators_of symmetry) in
+    let past : k < 0 = subst P none generator in
+    absurd (omega (arith, past))
+
 -- the theorem
-pub IsSolution-history_of : (p : PosedProblem) → IsPosed p.posed → (values : List Bool) → length values ≡ (formula_of p).vars
+pub IsSolution-history_of : (p : PosedProblem) → IsPosed p.posed → DemandsEdgeAlone p → (values : List Bool) → length values ≡ (formula_of p).vars
     → satisfies values (formula_of p).clauses ≡ true → IsSolution p (history_of p values)
-IsSolution-history_of p kept values len satisfied =
+IsSolution-history_of p kept alone values len satisfied =
     let parts = parts_of p values satisfied in
     let sizes = HasSizes-history_of p values kept in
     let many : length values ≡ length p.posed.cells = len ∙ vars-formula_of p in
@@ -90,10 +101,13 @@ IsSolution-history_of p kept values len satisfied =
     record {
       sizes = sizes;
       cells = subst (MeetsCells p.posed.cells) (sym cells) (MeetsCells-by_clauses values p.posed.cells parts.fixed parts.names);
+      symmetric = AreSymmetric-none p (history_of p values) (ap (λ (d : Demands). d.symmetry) alone);
+      moved = let none : p.demands.period ≡ None = ap (λ (d : Demands). d.period) alone in rw none (λ x is. absurd cc);
+      differ = let none : p.demands.differ ≡ None = ap (λ (d : Demands). d.differ) alone in rw none (λ x is. absurd cc);
       rule = Obeys-by_clauses p (history_of p values) sizes (ap (λ vs. satisfies vs (transition_part p)) cells ∙ parts.transitions);
     }
 
 -- so where there is no solution nothing satisfies the formula
-pub unsatisfiable_from : (p : PosedProblem) → IsPosed p.posed → IsAbsent p → IsUnsatisfiable (formula_of p)
-unsatisfiable_from p kept absent values len =
-    false_from_ne_true (satisfies values (formula_of p).clauses) (λ satisfied. absent (history_of p values) (IsSolution-history_of p kept values len satisfied))
+pub unsatisfiable_from : (p : PosedProblem) → IsPosed p.posed → DemandsEdgeAlone p → IsAbsent p → IsUnsatisfiable (formula_of p)
+unsatisfiable_from p kept alone absent values len =
+    false_from_ne_true (satisfies values (formula_of p).clauses) (λ satisfied. absent (history_of p values) (IsSolution-history_of p kept alone values len satisfied))

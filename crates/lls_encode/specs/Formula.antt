@@ -1,5 +1,5 @@
 -- The formula of a problem, by its parts: fixed cells, names, transitions.
-use Rattle.std.specs.Prelude.{ℕ, ◌+◌, ◌-◌, ℤ, pos, negsuc, ◌-ℤ◌, Bool, false, ◌==◌, List, [], ◌∷◌, ◌++◌, map, length, Option, None, Some, if◌then◌else◌}
+use Rattle.std.specs.Prelude.{◌≡◌, ℕ, ◌+◌, ◌-◌, ℤ, pos, negsuc, ◌-ℤ◌, Bool, false, ◌==◌, List, [], ◌∷◌, ◌++◌, map, length, Option, None, Some, if◌then◌else◌}
 use Rattle.std.specs.Option.{option_map_or}
 use Rattle.std.specs.List.{flat_map, range_with_len, position_from}
 use Rattle.lls_lit.specs.Literal.{negation}
@@ -10,7 +10,7 @@ use Rattle.lls_search_file.specs.declared.cell.Kind.TheVariants.{Dead, Live, Fre
 use Rattle.lls_search_file.specs.Posed.{name_of}
 use Rattle.lls_problem.specs.declared.demands.Edge.{Edge}
 use Rattle.lls_problem.specs.declared.demands.Edge.TheVariants.{Framed, Bare}
-use Rattle.lls_problem.specs.Problem.{PosedProblem}
+use Rattle.lls_problem.specs.Problem.{PosedProblem, edge_alone}
 use Rattle.lls_problem.specs.Solution.{cell_number, is_marked}
 use Rattle.lls_transition.specs.Transition.{transition_clauses}
 use Rattle.lls_encode.specs.Place.{inputs_at}
@@ -79,6 +79,10 @@ name_part p = flat_map (name_clauses p.posed.cells) (range_with_len 0 (length p.
 
 abbrev pub transition_part : PosedProblem → List Clause
 transition_part p = flat_map (generation_clauses p) (range_with_len 0 (p.posed.generations - 1))
+
+-- of a problem that demands an edge, and nothing else, the formula says all
+abbrev pub DemandsEdgeAlone : PosedProblem → Type 0
+DemandsEdgeAlone p = p.demands ≡ edge_alone p.demands.edge
 
 -- one variable a cell
 unfoldable pub formula_of : PosedProblem → Cnf

@@ -22,7 +22,7 @@ fn clauses(alloc: Global, formula: &Formula) -> Result<String, AllocError> {
 
 // The formula of a search file under a rule and an edge.
 fn encoded(alloc: Global, file: &[u8], rule: Rule, edge: Edge) -> Result<Formula, Fail> {
-    let problem = make_problem(read_posed(alloc, file)?, rule, Demands { edge })?;
+    let problem = make_problem(read_posed(alloc, file)?, rule, Demands::new(edge))?;
     Ok(encode(alloc, &problem)?)
 }
 
@@ -109,7 +109,7 @@ fn assignments_are_histories(rt: HostRuntime) -> Result<(), Fail> {
     let alloc = rt.alloc();
     let life = Rule::from_counts(0b0_0000_1000, 0b0_0000_1100);
     let posed = read_posed(alloc, b"* * *\n* * *\n\n* * *\n* * *")?;
-    let problem = make_problem(posed, life, Demands { edge: Edge::Framed })?;
+    let problem = make_problem(posed, life, Demands::new(Edge::Framed))?;
     let values = "0110010010111".bytes().map(|byte| byte == b'1');
     let assignment = Assignment::new(values.collect::<Vec<bool>>(alloc)?);
     assert!(rt; problem.posed().cells.items().len() <= assignment.values().len());

@@ -3,3 +3,8 @@ pub mod NameValues
 pub mod Sides
 pub mod Order
 pub mod OneJudgement
+pub mod FirstOf
+pub mod Lost
+pub mod Outside
+pub mod Symmetric
+pub mod Returned

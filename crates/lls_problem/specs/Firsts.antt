@@ -1,5 +1,5 @@
 -- Places in and around the grid, their order, and the first of them at which something isn't kept.
-use Rattle.std.specs.Prelude.{◌≡◌, ◌<◌, ℕ, ℤ, pos, ◌<ℤ◌, ◌⊎◌}
+use Rattle.std.specs.Prelude.{◌≡◌, ◌<◌, ℕ, ℤ, pos, ◌<ℤ◌, ◌⊎◌, List, Option, slice_get}
 use Rattle.lls_grid.specs.declared.sizes.GridPlace.{GridPlace}
 
 -- a generation, and a row and a column that count from the top left cell of the grid
@@ -20,3 +20,7 @@ pub record IsFirstBroken (IsDemanded Keeps : Place → Type 0) (place : Place) :
   pub demanded : IsDemanded place
   pub broken : Keeps place → ⊥
   pub before : (other : Place) → IsDemanded other → IsBefore other place → Keeps other
+
+-- the first of a list, where it has one
+abbrev pub first : {X : Type 0} → List X → Option X
+first xs = slice_get xs 0

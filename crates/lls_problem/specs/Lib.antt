@@ -2,6 +2,10 @@ pub mod Problem
 pub mod Solution
 pub mod Firsts
 pub mod Named
+pub mod Unlike
+pub mod Losses
 pub mod Judgement
 pub mod Texts
 pub mod Transitions
+pub mod Differences
+pub mod Board

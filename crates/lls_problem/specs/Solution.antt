@@ -1,5 +1,6 @@
 -- What a solution of a problem is. It is said of whole histories, by reading cells and comparing them.
-use Rattle.std.specs.Prelude.{◌≡◌, ◌<◌, ℕ, ◌+◌, ℤ, pos, negsuc, ◌≤ℤ◌, ◌<ℤ◌, Bool, true, false, not, List, Option, None, Some, length, slice_index_or}
+use Rattle.std.specs.Prelude.{◌≡◌, ◌≢◌, ◌<◌, ℕ, ◌+◌, ℤ, pos, negsuc, ◌≤ℤ◌, ◌<ℤ◌, Bool, true, false, not, List, Option, None, Some, length, slice_index_or}
+use Rattle.std.specs.Option.{ForSome}
 use Rattle.lls_rule.specs.Rule.{successor}
 use Rattle.lls_grid.specs.Sizes.{index_of}
 use Rattle.lls_grid.specs.Place.{inside}
@@ -8,6 +9,8 @@ use Rattle.lls_search_file.specs.declared.cell.Cell.{Cell}
 use Rattle.lls_search_file.specs.declared.cell.Kind.{Kind}
 use Rattle.lls_search_file.specs.declared.cell.Kind.TheVariants.{Dead, Live, Free, Named, Negated}
 use Rattle.lls_search_file.specs.Posed.{PosedFile, sizes_of}
+use Rattle.lls_symmetry.specs.Symmetry.{IsSymmetric}
+use Rattle.lls_symmetry.specs.Moved.{IsMoved}
 use Rattle.lls_problem.specs.declared.demands.Edge.{Edge}
 use Rattle.lls_problem.specs.declared.demands.Edge.TheVariants.{Framed, Bare}
 use Rattle.lls_problem.specs.Problem.{PosedProblem}
@@ -63,11 +66,34 @@ Obeys problem history = (t : ℕ) (y x : ℤ) → t + 1 < problem.posed.generati
     → is_marked problem.posed (t + 1) y x ≡ false
     → at problem.rule history (t + 1) y x ≡ successor problem.rule (nine problem.rule history t y x)
 
+-- each generation is symmetric: every place, in the grid or outside it, has the value of its image
+abbrev pub AreSymmetric : PosedProblem → History → Type 0
+AreSymmetric problem history = (t : ℕ) → t < problem.posed.generations
+    → IsSymmetric problem.demands.symmetry problem.posed.height problem.posed.width (at problem.rule history t)
+
+-- where a period is asked, each generation is there again a period later, moved by the shift, with its background
+abbrev pub Returns : PosedProblem → History → Type 0
+Returns problem history = ForSome problem.demands.period (λ period.
+    IsMoved problem.posed.generations period.length period.dx period.dy (at problem.rule history))
+
+-- a cell of the grid that isn't the same in generations s and t
+pub record IsDifference (problem : PosedProblem) (history : History) (s t y x : ℕ) : Type 0 where
+  pub row : y < problem.posed.height
+  pub column : x < problem.posed.width
+  pub differs : at problem.rule history s (pos y) (pos x) ≢ at problem.rule history t (pos y) (pos x)
+
+-- where two generations are asked to differ, they do in some cell
+abbrev pub Differs : PosedProblem → History → Type 0
+Differs problem history = ForSome problem.demands.differ (λ pair. (y : ℕ) × ((x : ℕ) × IsDifference problem history pair.0 pair.1 y x))
+
 -- the history meets the file and every demand
 pub record IsSolution (problem : PosedProblem) (history : History) : Type 0 where
   pub sizes : HasSizes problem.posed.generations problem.posed.height problem.posed.width history
   pub cells : MeetsCells problem.posed.cells (cells_of history)
+  pub symmetric : AreSymmetric problem history
+  pub moved : Returns problem history
   pub rule : Obeys problem history
+  pub differ : Differs problem history
 
 -- no history is a solution
 abbrev pub IsAbsent : PosedProblem → Type 0

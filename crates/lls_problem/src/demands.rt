@@ -1,4 +1,8 @@
 // What is demanded of a pattern beside the file and the rule.
+ghost use Rattle.std.specs.Prelude.{◌≡◌};
+ghost use Rattle.lls_problem.specs.Problem.{edge_alone};
+
+use lls_symmetry::Symmetry;
 use std::error::Error;
 use std::fmt;
 
@@ -11,10 +15,36 @@ pub enum Edge {
     Bare,
 }
 
+/// After how many generations a pattern is there again, and how far to the right and downwards it has moved then.
+#[derive(Clone, Copy, Debug, PartialEq, Eq)]
+pub struct Period {
+    pub length: u32,
+    pub dx: i32,
+    pub dy: i32,
+}
+
 /// What is demanded of a pattern.
 #[derive(Debug, PartialEq, Eq, Drop)]
 pub struct Demands {
     pub edge: Edge,
+    pub symmetry: Symmetry,
+    pub period: Option<Period>,
+    /// Two generations that have to differ in some cell.
+    pub differ: Option<(u32, u32)>,
+}
+
+impl Demands {
+    /// The edge, and nothing else.
+    pub fn new(edge: Edge) -> Demands
+        ensures { result ≡ edge_alone edge }
+    {
+        Demands {
+            edge,
+            symmetry: Symmetry::C1,
+            period: None,
+            differ: None,
+        }
+    }
 }
 
 /// A demand that doesn't fit the posed file.

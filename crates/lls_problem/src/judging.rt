@@ -6,7 +6,10 @@ ghost use Rattle.lls_problem.specs.Judgement.{IsJudgement};
 ghost use Rattle.lls_problem.specs.declared.judgement.Judgement.{Judgement};
 
 use crate::cells::{first_disagreement, first_misfit};
+use crate::differences::differs;
+use crate::losses::first_loss;
 use crate::transitions::first_transition;
+use crate::unlike::first_unlike;
 use crate::{Judgement, Problem};
 use lls_grid::History;
 use lls_search_file::Posed;
@@ -26,6 +29,8 @@ pub fn judge(problem: &Problem, history: &History) -> Judgement
     ensures meets { result ≡ Judgement.Meets → IsSolution problem.now history.now }
     ensures broken { result ≢ Judgement.Meets → IsSolution problem.now history.now → ⊥ }
 {
+    // That the demands fit the file is known from here on.
+    let _demands = problem.demands();
     if !has_its_sizes(problem.posed(), history) {
         return Judgement::Size;
     }
@@ -35,8 +40,17 @@ pub fn judge(problem: &Problem, history: &History) -> Judgement
     if let Some(place) = first_disagreement(problem, history) {
         return Judgement::Name(place.t, place.y, place.x);
     }
+    if let Some(place) = first_unlike(problem, history) {
+        return Judgement::Symmetry(place.t, place.y, place.x);
+    }
+    if let Some(loss) = first_loss(problem, history) {
+        return loss.judgement();
+    }
     if let Some(place) = first_transition(problem, history) {
         return Judgement::Rule(place.t, place.y, place.x);
+    }
+    if !differs(problem, history) {
+        return Judgement::Same;
     }
     Judgement::Meets
 }

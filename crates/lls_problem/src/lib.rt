@@ -3,14 +3,17 @@
 
 mod cells;
 mod demands;
+mod differences;
 mod judgement;
 mod judging;
+mod losses;
 mod problem;
 #[cfg(test)]
 mod tests;
 mod transitions;
+mod unlike;
 
-pub use demands::{DemandError, Demands, Edge};
+pub use demands::{DemandError, Demands, Edge, Period};
 pub use judgement::Judgement;
 pub use judging::judge;
 pub use problem::{Problem, make_problem};

@@ -1,14 +1,16 @@
 // A problem.
 ghost use Rattle.std.specs.Prelude.{◌≡◌, ◌<◌, length};
+ghost use Rattle.std.specs.Option.{ForSome};
 ghost use Rattle.lls_grid.specs.Sizes.{IsInside};
 ghost use Rattle.lls_search_file.specs.Posed.{IsPosed, sizes_of};
-ghost use Rattle.lls_problem.specs.Problem.{problem_made};
+ghost use Rattle.lls_problem.specs.Problem.{problem_made, missing_generation, too_long, IsPeriod, AreFitting};
 ghost use Rattle.lls_problem.specs.Solution.{is_marked, place_of};
 
-use crate::{DemandError, Demands};
+use crate::{DemandError, Demands, Edge};
 use lls_grid::{GridPlace, index_within};
 use lls_rule::Rule;
 use lls_search_file::Posed;
+use lls_symmetry::fits;
 use std::marker::Model;
 
 /// A posed file with a rule and demands that fit it. `make_problem` alone makes one.
@@ -20,22 +22,61 @@ pub struct Problem {
 }
 
 impl Model for Problem {
-    ghost use Rattle.lls_problem.specs.Problem.{PosedProblem};
+    ghost use Rattle.lls_problem.specs.Problem.{PosedProblem, AreFitting};
 
     ghost Value = { PosedProblem };
 
     ghost view = { λ p. record { posed = p.posed; rule = p.rule; demands = p.demands } };
+
+    ghost invariant = { λ p. AreFitting p.posed p.demands };
 }
 
-/// Puts the three together. It takes no memory; after a refusal the three are given up.
+/// Puts the three together, or answers the first demand that doesn't fit the file. It takes no memory; after a refusal
+/// the three are given up.
 pub fn make_problem(posed: Posed, rule: Rule, demands: Demands) -> Result<Problem, DemandError>
+    requires { ForSome demands.period IsPeriod }
     ensures { result ≡ problem_made posed rule demands }
 {
+    if !fits(demands.symmetry, posed.height, posed.width) {
+        return Err(DemandError::NotSquare(posed.height as u64, posed.width as u64));
+    }
+    if let Some(t) = missing_generation(&posed, &demands) {
+        return Err(DemandError::NoGeneration(t as u64));
+    }
+    if let Some(length) = too_long(&posed, &demands) {
+        return Err(DemandError::PeriodTooLong(length as u64));
+    }
     Ok(Problem {
         posed,
         rule,
         demands,
     })
+}
+
+/// The first generation that the demands name and the file hasn't.
+fn missing_generation(posed: &Posed, demands: &Demands) -> Option<u32>
+    ensures { result ≡ missing_generation posed.now demands.now }
+{
+    let (first, second) = demands.differ?;
+    if posed.generations <= first {
+        Some(first)
+    } else if posed.generations <= second {
+        Some(second)
+    } else {
+        None
+    }
+}
+
+/// The length of the period, where it isn't less than the number of generations.
+fn too_long(posed: &Posed, demands: &Demands) -> Option<u32>
+    ensures { result ≡ too_long posed.now demands.now }
+{
+    let length = demands.period?.length;
+    if length < posed.generations {
+        None
+    } else {
+        Some(length)
+    }
 }
 
 impl Problem {
@@ -76,8 +117,15 @@ impl Problem {
         &self.rule
     }
 
+    pub(crate) fn edge(&self) -> Edge
+        ensures { result ≡ self.now.demands.edge }
+    {
+        self.demands.edge
+    }
+
     pub fn demands(&self) -> &Demands
-        ensures { result.now ≡ self.now.demands }
+        ensures value { result.now ≡ self.now.demands }
+        ensures kept { AreFitting self.now.posed self.now.demands }
     {
         &self.demands
     }

@@ -1,20 +1,26 @@
 // Histories judged by problems, with answers worked out by hand.
-use crate::{DemandError, Demands, Edge, Judgement, judge, make_problem};
+ghost use Rattle.std.specs.Option.{ForSome};
+ghost use Rattle.lls_problem.specs.Problem.{IsPeriod};
+
+use crate::{DemandError, Demands, Edge, Judgement, Period, judge, make_problem};
 use lls_grid::History;
 use lls_rule::Rule;
 use lls_search_file::{read_history, read_posed};
+use lls_symmetry::Symmetry;
 use std::alloc::Global;
 use std::test::Fail;
 
-// What `judge` says of a file, a rule, an edge and a pattern.
+// What `judge` says of a file, a rule, demands and a pattern.
 fn judged(
     alloc: Global,
     file: &[u8],
     rule: Rule,
-    edge: Edge,
+    demands: Demands,
     pattern: &[u8],
-) -> Result<Judgement, Fail> {
-    let problem = make_problem(read_posed(alloc, file)?, rule, Demands { edge })?;
+) -> Result<Judgement, Fail>
+    requires { ForSome demands.period IsPeriod }
+{
+    let problem = make_problem(read_posed(alloc, file)?, rule, demands)?;
     Ok(judge(&problem, &read_history(alloc, pattern)?))
 }
 
@@ -77,7 +83,10 @@ fn files_of_one_row(rt: HostRuntime) -> Result<(), Fail> {
         ),
     ];
     for (file, pattern, edge, answer) in rows {
-        assert_eq!(rt; judged(rt.alloc(), file, life, edge, pattern)?, answer);
+        assert_eq!(rt;
+            judged(rt.alloc(), file, life, Demands::new(edge), pattern)?,
+            answer
+        );
     }
     Ok(())
 }
@@ -154,8 +163,14 @@ fn blinkers_blocks_and_gliders(rt: HostRuntime) -> Result<(), Fail> {
         ),
     ];
     for (file, pattern, closed, open) in rows {
-        assert_eq!(rt; judged(alloc, file, life, Edge::Framed, pattern)?, closed);
-        assert_eq!(rt; judged(alloc, file, life, Edge::Bare, pattern)?, open);
+        assert_eq!(rt;
+            judged(alloc, file, life, Demands::new(Edge::Framed), pattern)?,
+            closed
+        );
+        assert_eq!(rt;
+            judged(alloc, file, life, Demands::new(Edge::Bare), pattern)?,
+            open
+        );
     }
     Ok(())
 }
@@ -172,9 +187,249 @@ fn blinking_background(rt: HostRuntime) -> Result<(), Fail> {
     ];
     for (pattern, answer) in rows {
         assert_eq!(rt;
-            judged(rt.alloc(), b"*\n\n*\n\n*", blinking, Edge::Framed, pattern)?,
+            judged(
+                rt.alloc(),
+                b"*\n\n*\n\n*",
+                blinking,
+                Demands::new(Edge::Framed),
+                pattern
+            )?,
             answer
         );
+    }
+    Ok(())
+}
+
+// One live cell, and four that a quarter turn takes to one another, under each symmetry.
+#[test]
+fn symmetries(rt: HostRuntime) -> Result<(), Fail> {
+    let life = Rule::from_counts(0b0_0000_1000, 0b0_0000_1100);
+    let file: &[u8] = b"* * * *\n* * * *\n* * * *\n* * * *";
+    let one: &[u8] = b"0 0 0 0\n0 0 0 0\n0 1 0 0\n0 0 0 0";
+    let rotor: &[u8] = b"0 1 0 0\n0 0 0 1\n1 0 0 0\n0 0 1 0";
+    let rows: [(Symmetry, Judgement, Judgement); 10] = [
+        (Symmetry::C1, Judgement::Meets, Judgement::Meets),
+        (Symmetry::C2, Judgement::Symmetry(0, 1, 2), Judgement::Meets),
+        (Symmetry::C4, Judgement::Symmetry(0, 2, 1), Judgement::Meets),
+        (
+            Symmetry::D2Row,
+            Judgement::Symmetry(0, 1, 1),
+            Judgement::Symmetry(0, 0, 1),
+        ),
+        (
+            Symmetry::D2Col,
+            Judgement::Symmetry(0, 2, 1),
+            Judgement::Symmetry(0, 0, 1),
+        ),
+        (
+            Symmetry::D2Down,
+            Judgement::Symmetry(0, 1, 2),
+            Judgement::Symmetry(0, 0, 1),
+        ),
+        (
+            Symmetry::D2Up,
+            Judgement::Meets,
+            Judgement::Symmetry(0, 0, 1),
+        ),
+        (
+            Symmetry::D4Plus,
+            Judgement::Symmetry(0, 1, 1),
+            Judgement::Symmetry(0, 0, 1),
+        ),
+        (
+            Symmetry::D4Cross,
+            Judgement::Symmetry(0, 1, 2),
+            Judgement::Symmetry(0, 0, 1),
+        ),
+        (
+            Symmetry::D8,
+            Judgement::Symmetry(0, 2, 1),
+            Judgement::Symmetry(0, 0, 1),
+        ),
+    ];
+    for (symmetry, of_one, of_rotor) in rows {
+        for (pattern, answer) in [(one, of_one), (rotor, of_rotor)] {
+            let mut demands = Demands::new(Edge::Framed);
+            demands.symmetry = symmetry;
+            assert_eq!(rt; judged(rt.alloc(), file, life, demands, pattern)?, answer);
+        }
+    }
+    Ok(())
+}
+
+// The demands of a period and a shift, under the closed edge.
+fn moved(length: u32, dx: i32, dy: i32) -> Demands
+    requires { IsPeriod (record { length = length; dx = dx; dy = dy }) }
+    ensures { ForSome result.period IsPeriod }
+{
+    let mut demands = Demands::new(Edge::Framed);
+    demands.period = Some(Period { length, dx, dy });
+    demands
+}
+
+// A glider and its three next phases with each number of its period and shift wrong in turn, and small files with shifts
+// into the grid and out of it.
+#[test]
+fn periods_and_shifts(rt: HostRuntime) -> Result<(), Fail> {
+    let life = Rule::from_counts(0b0_0000_1000, 0b0_0000_1100);
+    let free: &[u8] =
+        b"* * * *\n* * * *\n* * * *\n* * * *\n\n* * * *\n* * * *\n* * * *\n* * * *\n\n* * * *\n* * * *\n* * * *\n* * * *\n\n* * * *\n* * * *\n* * * *\n* * * *\n\n* * * *\n* * * *\n* * * *\n* * * *";
+    let glider: &[u8] =
+        b"0 1 0 0\n0 0 1 0\n1 1 1 0\n0 0 0 0\n\n0 0 0 0\n1 0 1 0\n0 1 1 0\n0 1 0 0\n\n0 0 0 0\n0 0 1 0\n1 0 1 0\n0 1 1 0\n\n0 0 0 0\n0 1 0 0\n0 0 1 1\n0 1 1 0\n\n0 0 0 0\n0 0 1 0\n0 0 0 1\n0 1 1 1";
+    let two: &[u8] = b"*\n\n*";
+    let three: &[u8] = b"*\n\n*\n\n*";
+    let rows: [(&[u8], &[u8], u32, i32, i32, Judgement); 14] = [
+        (free, glider, 4, 1, 1, Judgement::Meets),
+        (free, glider, 4, 0, 1, Judgement::Moved(0, 0, 1)),
+        (free, glider, 4, 1, 0, Judgement::Moved(0, 0, 1)),
+        (free, glider, 4, 2, 1, Judgement::Moved(0, 0, 0)),
+        (free, glider, 4, 1, 2, Judgement::Moved(0, 0, 1)),
+        (free, glider, 4, -1, -1, Judgement::Moved(0, 0, 1)),
+        (free, glider, 3, 1, 1, Judgement::Moved(0, 0, 0)),
+        (free, glider, 2, 1, 1, Judgement::Moved(0, 1, 1)),
+        (free, glider, 1, 0, 0, Judgement::Moved(0, 0, 1)),
+        (two, b"1\n\n0", 1, 0, 0, Judgement::Moved(0, 0, 0)),
+        (two, b"0\n\n1", 1, 1, 0, Judgement::Moved(0, 0, -1)),
+        (two, b"0\n\n0", 1, 64, -64, Judgement::Meets),
+        (three, b"0\n\n0\n\n1", 1, 0, 0, Judgement::Moved(1, 0, 0)),
+        (three, b"0\n\n0\n\n1", 2, 0, 1, Judgement::Moved(0, -1, 0)),
+    ];
+    for (file, pattern, length, dx, dy, answer) in rows {
+        assert!(rt; 1 <= length && length <= 63 && -64 <= dx && dx <= 64 && -64 <= dy && dy <= 64);
+        assert_eq!(rt;
+            judged(rt.alloc(), file, life, moved(length, dx, dy), pattern)?,
+            answer
+        );
+    }
+    Ok(())
+}
+
+// Where the background blinks it is there again after two generations and not after one.
+#[test]
+fn periods_of_a_blinking_background(rt: HostRuntime) -> Result<(), Fail> {
+    let blinking = Rule::from_counts(1, 0);
+    let file: &[u8] = b"*\n\n*\n\n*";
+    let rows: [(&[u8], u32, i32, Judgement); 6] = [
+        (b"0\n\n0\n\n0", 1, 0, Judgement::Background(0)),
+        (b"0\n\n1\n\n0", 1, 0, Judgement::Background(0)),
+        (b"0\n\n1\n\n0", 2, 0, Judgement::Meets),
+        (b"0\n\n1\n\n0", 2, 1, Judgement::Meets),
+        (b"0\n\n1\n\n1", 2, 0, Judgement::Moved(0, 0, 0)),
+        (b"1\n\n1\n\n1", 2, 0, Judgement::Rule(1, -1, -1)),
+    ];
+    for (pattern, length, dx, answer) in rows {
+        assert!(rt; 1 <= length && length <= 63 && -64 <= dx && dx <= 64);
+        assert_eq!(rt;
+            judged(rt.alloc(), file, blinking, moved(length, dx, 0), pattern)?,
+            answer
+        );
+    }
+    Ok(())
+}
+
+#[test]
+fn differing_generations(rt: HostRuntime) -> Result<(), Fail> {
+    let life = Rule::from_counts(0b0_0000_1000, 0b0_0000_1100);
+    let three: &[u8] = b"* * *\n* * *\n* * *\n\n* * *\n* * *\n* * *";
+    let free: &[u8] = b"* *\n* *\n\n*' *'\n*' *'";
+    let rows: [(&[u8], &[u8], (u32, u32), Judgement); 8] = [
+        (b"*\n\n*", b"0\n\n0", (0, 1), Judgement::Same),
+        (b"*\n\n*", b"1\n\n0", (0, 1), Judgement::Meets),
+        (b"*\n\n*", b"1\n\n0", (1, 0), Judgement::Meets),
+        (b"*\n\n*", b"1\n\n0", (0, 0), Judgement::Same),
+        (b"*\n\n*", b"1\n\n1", (0, 1), Judgement::Rule(1, 0, 0)),
+        (
+            three,
+            b"0 0 0\n1 1 1\n0 0 0\n\n0 1 0\n0 1 0\n0 1 0",
+            (0, 1),
+            Judgement::Meets,
+        ),
+        (free, b"0 0\n0 0\n\n0 0\n0 1", (0, 1), Judgement::Meets),
+        (free, b"0 0\n0 0\n\n0 0\n0 0", (0, 1), Judgement::Same),
+    ];
+    for (file, pattern, pair, answer) in rows {
+        let mut demands = Demands::new(Edge::Framed);
+        demands.differ = Some(pair);
+        assert_eq!(rt; judged(rt.alloc(), file, life, demands, pattern)?, answer);
+    }
+    Ok(())
+}
+
+// Of several broken demands the first in their order is answered.
+#[test]
+fn order_of_demands(rt: HostRuntime) -> Result<(), Fail> {
+    let life = Rule::from_counts(0b0_0000_1000, 0b0_0000_1100);
+    let rows: [(&[u8], &[u8], Judgement); 4] = [
+        (b"a -a\n\n* *", b"1 1\n\n0 0", Judgement::Name(0, 0, 1)),
+        (b"* *\n\n* *", b"0 0\n\n1 0", Judgement::Symmetry(1, 0, 0)),
+        (b"* *\n\n* *", b"0 0\n\n1 1", Judgement::Moved(0, 0, 0)),
+        (b"* *\n\n* *", b"0 0\n\n0 0", Judgement::Same),
+    ];
+    for (file, pattern, answer) in rows {
+        let mut demands = moved(1, 0, 0);
+        demands.symmetry = Symmetry::C2;
+        demands.differ = Some((0, 1));
+        assert_eq!(rt; judged(rt.alloc(), file, life, demands, pattern)?, answer);
+    }
+    Ok(())
+}
+
+// Demands that don't fit the file.
+#[test]
+fn demands_refused(rt: HostRuntime) -> Result<(), Fail> {
+    let life = Rule::from_counts(0b0_0000_1000, 0b0_0000_1100);
+    let rows: [(&[u8], Symmetry, u32, (u32, u32), DemandError); 7] = [
+        (
+            b"1 0 0",
+            Symmetry::C4,
+            1,
+            (0, 1),
+            DemandError::NotSquare(1, 3),
+        ),
+        (
+            b"1\n0\n\n1\n0",
+            Symmetry::D4Cross,
+            1,
+            (0, 0),
+            DemandError::NotSquare(2, 1),
+        ),
+        (
+            b"1 0 0",
+            Symmetry::C2,
+            1,
+            (0, 1),
+            DemandError::NoGeneration(1),
+        ),
+        (
+            b"*\n\n*",
+            Symmetry::C1,
+            1,
+            (0, 2),
+            DemandError::NoGeneration(2),
+        ),
+        (
+            b"*\n\n*",
+            Symmetry::D8,
+            1,
+            (3, 2),
+            DemandError::NoGeneration(3),
+        ),
+        (
+            b"*\n\n*",
+            Symmetry::C1,
+            2,
+            (0, 1),
+            DemandError::PeriodTooLong(2),
+        ),
+        (b"*", Symmetry::C1, 1, (0, 0), DemandError::PeriodTooLong(1)),
+    ];
+    for (file, symmetry, length, pair, fault) in rows {
+        assert!(rt; 1 <= length && length <= 63);
+        let mut demands = moved(length, 0, 0);
+        demands.symmetry = symmetry;
+        demands.differ = Some(pair);
+        let problem = make_problem(read_posed(rt.alloc(), file)?, life, demands);
+        assert_eq!(rt; problem.err(), Some(fault));
     }
     Ok(())
 }
@@ -191,7 +446,7 @@ fn largest_file(rt: HostRuntime) -> Result<(), Fail> {
         text.extend_from_slice(if row == 63 { b"\n\n" } else { b"\n" })?;
     }
     let life = Rule::from_counts(0b0_0000_1000, 0b0_0000_1100);
-    let demands = Demands { edge: Edge::Framed };
+    let demands = Demands::new(Edge::Framed);
     let problem = make_problem(read_posed(alloc, &text)?, life, demands)?;
     let history = History::new(alloc, 2, 64, 64)?;
     assert_eq!(rt; judge(&problem, &history), Judgement::Meets);

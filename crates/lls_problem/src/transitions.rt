@@ -46,13 +46,7 @@ fn keeps_rule(problem: &Problem, history: &History, t: u32, line: u32, column: u
     ensures { MatchBool result (KeepsRule problem.now history.now t line column) (BreaksRule problem.now history.now t line column) }
 {
     let posed = problem.posed();
-    if !is_framed(
-        problem.demands().edge,
-        posed.height,
-        posed.width,
-        line,
-        column,
-    ) {
+    if !is_framed(problem.edge(), posed.height, posed.width, line, column) {
         return true;
     }
     let y = line as i32 - 1;

@@ -1,6 +1,5 @@
 pub mod LiteralLists
 pub mod Soundness
-pub mod Digits
 pub mod Lists
 pub mod InRange
 pub mod PrintedNumbers

@@ -1,8 +1,8 @@
 -- The numbers that words of a proof write, and their ranges.
 use Rattle.std.specs.Prelude.{ℕ, ◌-◌, ◌^◌, ℤ, pos, Bool, true, false, not, ◌&&◌, List, [], ◌∷◌, length, min, Option, Some, None, Result, Ok, Err, if◌then◌else◌, ◌==◌, nat_le}
 use Rattle.std.specs.List.{list_all}
-use Rattle.std.specs.Char.{is_ascii_digit}
 use Rattle.std.specs.Str.Parse.{digits_value}
+use Rattle.lls_text.specs.Digits.{is_digits}
 use Rattle.lls_text.specs.Words.{PlacedWord}
 use Rattle.lls_lit.specs.Literal.{negation}
 use Rattle.lls_lit.specs.declared.var.TheConstants.Var.{MOST}
@@ -17,10 +17,6 @@ minus = 45
 
 abbrev pub digit_zero : ℕ
 digit_zero = 48
-
--- at least one digit, and digits alone
-abbrev pub is_digits : List ℕ → Bool
-is_digits text = not (length text == 0) && list_all is_ascii_digit text
 
 -- at least one zero, and zeros alone
 abbrev pub is_zeros : List ℕ → Bool

@@ -1,15 +1,13 @@
 // The numbers that words of a proof write.
-ghost use Rattle.std.specs.Prelude.{◌≡◌, ◌==◌, ◌^◌, ◌-◌, true, min, Some};
+ghost use Rattle.std.specs.Prelude.{◌≡◌, ◌==◌, Some};
 ghost use Rattle.std.specs.List.{list_all};
-ghost use Rattle.std.specs.Char.{is_ascii_digit};
 ghost use Rattle.std.specs.Option.{option_map};
-ghost use Rattle.std.specs.Str.Parse.{digits_value};
 ghost use Rattle.lls_text.specs.Seen.{seen_word};
-ghost use Rattle.lls_prooflog.specs.Number.{digit_zero, is_digits, is_zeros, number_in, capped, id_in, leading_in, literal_in, hint_in, item};
+ghost use Rattle.lls_prooflog.specs.Number.{digit_zero, is_zeros, number_in, capped, id_in, leading_in, literal_in, hint_in, item};
 
 use crate::{LineFault, Step};
 use lls_lit::{Lit, Var};
-use lls_text::Word;
+use lls_text::{Word, digits_number, is_digits};
 
 /// A number as it is written: digits, with or without a `-`.
 #[derive(Clone, Copy, Debug)]
@@ -88,7 +86,7 @@ fn number_in(text: &[u8]) -> Option<Number>
     if !is_digits(digits) {
         return None;
     }
-    let size = size_of(digits);
+    let size = digits_number(digits);
     Some(Number { is_negative, size })
 }
 
@@ -103,30 +101,4 @@ fn has_zeros_alone(text: &[u8]) -> bool
     ensures { result ≡ list_all (λ b. b == digit_zero) text.now }
 {
     text.iter().all(|byte| *byte == b'0')
-}
-
-fn is_digits(text: &[u8]) -> bool
-    ensures { result ≡ is_digits text.now }
-{
-    !text.is_empty() && has_digits_alone(text)
-}
-
-fn has_digits_alone(text: &[u8]) -> bool
-    ensures { result ≡ list_all is_ascii_digit text.now }
-{
-    text.iter().all(|byte| byte.is_ascii_digit())
-}
-
-// The number that digits write, or `u64::MAX` where it is above that.
-fn size_of(digits: &[u8]) -> u64
-    requires { list_all is_ascii_digit digits.now ≡ true }
-    ensures { result ≡ min (digits_value 10 digits.now) (2 ^ 64 - 1) }
-{
-    let mut size: u64 = 0;
-    for byte in digits {
-        size = size
-            .saturating_mul(10)
-            .saturating_add(u64::from(*byte - b'0'));
-    }
-    size
 }

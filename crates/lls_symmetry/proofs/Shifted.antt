@@ -8,7 +8,7 @@ use Rattle.lls_grid.specs.Place.{inside, IsWithin}
 use Rattle.lls_symmetry.specs.declared.moved.Moved.{Moved}
 use Rattle.lls_symmetry.specs.declared.moved.TheConstants.{MOST_SHIFT}
 use Rattle.lls_symmetry.specs.Motion.{Place, IsOnGrid}
-use Rattle.lls_symmetry.specs.Moved.{leaving, coming, is_on_grid, entering, row_leaving, row_entering, all_leaving, all_entering, course_at, generation_moved, moved_pairs_of, IsMoved, HaveBackgrounds, BackgroundsReturn, AreMoved}
+use Rattle.lls_symmetry.specs.Moved.{leaving, coming, is_on_grid, entering, row_leaving, row_entering, all_leaving, all_entering, course_at, generation_moved, moved_pairs_of, IsMoved, HaveBackgrounds, BackgroundsReturn, IsMovedPair, AreMoved}
 use Rattle.lls_symmetry.proofs.Joined.{joined_more}
 use Rattle.lls_symmetry.proofs.Everywhere.{Each-append, Each-front, Each-back, Each-range, range-each, Each-mapped, mapped-each}
 use Rattle.lls_symmetry.proofs.Symmetric.{pos-unsigned_abs, row-on_grid, on_grid_or_off}
@@ -37,10 +37,6 @@ on_grid-by_test height width y x test =
     let column = inside-some width x both.1 in
     record { top = row.0; bottom = row.1; left = column.0; right = column.1 }
 
--- the values of the two places of a pair are equal
-abbrev IsEqual : (ℕ → ℤ → ℤ → Bool) → Moved → Type 0
-IsEqual value pair = value pair.early.t pair.early.y pair.early.x ≡ value pair.late.t pair.late.y pair.late.x
-
 back_and_forth : (a b : ℤ) → (a -ℤ b) +ℤ b ≡ a
 back_and_forth a b = omega (arith, ints)
 
@@ -48,22 +44,22 @@ forth_and_back : (a b : ℤ) → (a +ℤ b) -ℤ b ≡ a
 forth_and_back a b = omega (arith, ints)
 
 -- where values are moved, those outside the grid come back: far enough from the grid a place and where it goes are outside
-back_by_moved : (generations height width period : ℕ) (dx dy : ℤ) (value : ℕ → ℤ → ℤ → Bool) (backgrounds : ℕ → Bool) → IsWithin MOST_SHIFT dy
-    → HaveBackgrounds height width value backgrounds → IsMoved generations period dx dy value → BackgroundsReturn generations period backgrounds
+pub back_by_moved : (generations height width period : ℕ) (dx dy : ℤ) (value : ℕ → ℤ → ℤ → Bool) (backgrounds : ℕ → Bool) → IsWithin MOST_SHIFT dy
+    → HaveBackgrounds generations height width value backgrounds → IsMoved generations period dx dy value → BackgroundsReturn generations period backgrounds
 back_by_moved generations height width period dx dy value backgrounds rows blank moved = λ t later.
     let far : ℤ = pos (height + 64) in
     let low : pos height ≤ℤ far = omega (arith, ints) in
     let low' : pos height ≤ℤ (far +ℤ dy) = omega (arith, ints, rows.0) in
-    sym (blank t (place_of far (pos 0)) (λ on. absurd (omega (arith, ints, on.bottom))))
+    sym (blank t (omega arith) (place_of far (pos 0)) (λ on. absurd (omega (arith, ints, on.bottom))))
     ∙ sym (moved t far (pos 0) later)
-    ∙ blank (t + period) (place_of (far +ℤ dy) (pos 0 +ℤ dx)) (λ on. absurd (omega (arith, ints, on.bottom)))
+    ∙ blank (t + period) later (place_of (far +ℤ dy) (pos 0 +ℤ dx)) (λ on. absurd (omega (arith, ints, on.bottom)))
 
 -- and those of each pair are equal
 leaving_equal : (generations height width period t : ℕ) (dx dy : ℤ) (value : ℕ → ℤ → ℤ → Bool) → IsMoved generations period dx dy value → t + period < generations
-    → Each (IsEqual value) (all_leaving (course_at period dx dy t) height width)
+    → Each (IsMovedPair value) (all_leaving (course_at period dx dy t) height width)
 leaving_equal generations height width period t dx dy value moved later =
-    Each-range (IsEqual value) (row_leaving (course_at period dx dy t) width) height (λ y row.
-    Each-mapped (IsEqual value) (leaving (course_at period dx dy t) y) width (λ x column. sym (moved t (pos y) (pos x) later)))
+    Each-range (IsMovedPair value) (row_leaving (course_at period dx dy t) width) height (λ y row.
+    Each-mapped (IsMovedPair value) (leaving (course_at period dx dy t) y) width (λ x column. sym (moved t (pos y) (pos x) later)))
 
 came_equal : (value : ℕ → ℤ → ℤ → Bool) (generations period t : ℕ) (dx dy y x : ℤ) → IsMoved generations period dx dy value → t + period < generations
     → value t (y -ℤ dy) (x -ℤ dx) ≡ value (t + period) y x
@@ -72,48 +68,53 @@ came_equal value generations period t dx dy y x moved later =
     ∙ ap (λ z. value (t + period) z ((x -ℤ dx) +ℤ dx)) (back_and_forth y dy) ∙ ap (value (t + period) y) (back_and_forth x dx)
 
 entering_equal : (generations height width period t : ℕ) (dx dy : ℤ) (value : ℕ → ℤ → ℤ → Bool) → IsMoved generations period dx dy value → t + period < generations
-    → Each (IsEqual value) (all_entering (course_at period dx dy t) height width)
+    → Each (IsMovedPair value) (all_entering (course_at period dx dy t) height width)
 entering_equal generations height width period t dx dy value moved later =
-    Each-range (IsEqual value) (row_entering (course_at period dx dy t) height width) height (λ y row.
-    Each-range (IsEqual value) (entering (course_at period dx dy t) height width y) width (λ x column.
+    Each-range (IsMovedPair value) (row_entering (course_at period dx dy t) height width) height (λ y row.
+    Each-range (IsMovedPair value) (entering (course_at period dx dy t) height width y) width (λ x column.
     one_or_none value (coming (course_at period dx dy t) y x) _ (came_equal value generations period t dx dy (pos y) (pos x) moved later)))
   where
-    one_or_none : (value : ℕ → ℤ → ℤ → Bool) (pair : Moved) (b : Bool) → IsEqual value pair → Each (IsEqual value) (cond b [] (pair ∷ []))
+    one_or_none : (value : ℕ → ℤ → ℤ → Bool) (pair : Moved) (b : Bool) → IsMovedPair value pair → Each (IsMovedPair value) (cond b [] (pair ∷ []))
     one_or_none value pair true equal = tt
     one_or_none value pair false equal = (equal, tt)
 
+-- so those of each pair of a generation
+pub pairs_moved : (generations height width period t : ℕ) (dx dy : ℤ) (value : ℕ → ℤ → ℤ → Bool) → IsMoved generations period dx dy value → t + period < generations
+    → Each (IsMovedPair value) (generation_moved height width (course_at period dx dy t))
+pairs_moved generations height width period t dx dy value moved later =
+    Each-append (IsMovedPair value) (all_leaving (course_at period dx dy t) height width) (all_entering (course_at period dx dy t) height width)
+    (leaving_equal generations height width period t dx dy value moved later) (entering_equal generations height width period t dx dy value moved later)
+
 equal_by_moved : (generations height width period : ℕ) (dx dy : ℤ) (value : ℕ → ℤ → ℤ → Bool) → IsMoved generations period dx dy value
-    → Each (IsEqual value) (moved_pairs_of generations height width period dx dy)
+    → Each (IsMovedPair value) (moved_pairs_of generations height width period dx dy)
 unfolding moved_pairs_of
 equal_by_moved generations height width period dx dy value moved =
-    Each-range (IsEqual value) (λ t. generation_moved height width (course_at period dx dy t)) (generations - period) (λ t below.
-    let later : t + period < generations = omega arith in
-    Each-append (IsEqual value) (all_leaving (course_at period dx dy t) height width) (all_entering (course_at period dx dy t) height width)
-    (leaving_equal generations height width period t dx dy value moved later) (entering_equal generations height width period t dx dy value moved later))
+    Each-range (IsMovedPair value) (λ t. generation_moved height width (course_at period dx dy t)) (generations - period)
+    (λ t below. pairs_moved generations height width period t dx dy value moved (omega arith))
 
 -- a place goes where its pair says, from the grid
 left_equal : (height width period t : ℕ) (dx dy y x : ℤ) (value : ℕ → ℤ → ℤ → Bool) → IsOnGrid height width (place_of y x)
-    → Each (IsEqual value) (all_leaving (course_at period dx dy t) height width) → value (t + period) (y +ℤ dy) (x +ℤ dx) ≡ value t y x
+    → Each (IsMovedPair value) (all_leaving (course_at period dx dy t) height width) → value (t + period) (y +ℤ dy) (x +ℤ dx) ≡ value t y x
 left_equal height width period t dx dy y x value on each =
     let row : unsigned_abs y < height = row-on_grid height y on.top on.bottom in
     let column : unsigned_abs x < width = row-on_grid width x on.left on.right in
-    let equal = mapped-each (IsEqual value) (leaving (course_at period dx dy t) (unsigned_abs y)) width
-    (range-each (IsEqual value) (row_leaving (course_at period dx dy t) width) height each (unsigned_abs y) row) (unsigned_abs x) column in
+    let equal = mapped-each (IsMovedPair value) (leaving (course_at period dx dy t) (unsigned_abs y)) width
+    (range-each (IsMovedPair value) (row_leaving (course_at period dx dy t) width) height each (unsigned_abs y) row) (unsigned_abs x) column in
     sym (subst (λ a. value t a x ≡ value (t + period) (a +ℤ dy) (x +ℤ dx)) (pos-unsigned_abs y on.top)
     (subst (λ b. value t (pos (unsigned_abs y)) b ≡ value (t + period) (pos (unsigned_abs y) +ℤ dy) (b +ℤ dx)) (pos-unsigned_abs x on.left) equal))
 
 -- or to the grid from outside
-the_one : (value : ℕ → ℤ → ℤ → Bool) (pair : Moved) (b : Bool) → (b ≡ true → ⊥) → Each (IsEqual value) (cond b [] (pair ∷ [])) → IsEqual value pair
+the_one : (value : ℕ → ℤ → ℤ → Bool) (pair : Moved) (b : Bool) → (b ≡ true → ⊥) → Each (IsMovedPair value) (cond b [] (pair ∷ [])) → IsMovedPair value pair
 the_one value pair true off each = absurd (off refl)
 the_one value pair false off each = each.0
 
 came_in_equal : (height width period t : ℕ) (dx dy y x : ℤ) (value : ℕ → ℤ → ℤ → Bool) → IsOnGrid height width (place_of y x) → (IsOnGrid height width (place_of (y -ℤ dy) (x -ℤ dx)) → ⊥)
-    → Each (IsEqual value) (all_entering (course_at period dx dy t) height width) → value (t + period) y x ≡ value t (y -ℤ dy) (x -ℤ dx)
+    → Each (IsMovedPair value) (all_entering (course_at period dx dy t) height width) → value (t + period) y x ≡ value t (y -ℤ dy) (x -ℤ dx)
 came_in_equal height width period t dx dy y x value on off each =
     let row : unsigned_abs y < height = row-on_grid height y on.top on.bottom in
     let column : unsigned_abs x < width = row-on_grid width x on.left on.right in
-    let here = range-each (IsEqual value) (entering (course_at period dx dy t) height width (unsigned_abs y)) width
-    (range-each (IsEqual value) (row_entering (course_at period dx dy t) height width) height each (unsigned_abs y) row) (unsigned_abs x) column in
+    let here = range-each (IsMovedPair value) (entering (course_at period dx dy t) height width (unsigned_abs y)) width
+    (range-each (IsMovedPair value) (row_entering (course_at period dx dy t) height width) height each (unsigned_abs y) row) (unsigned_abs x) column in
     let at_y = pos-unsigned_abs y on.top in
     let at_x = pos-unsigned_abs x on.left in
     let equal = the_one value (coming (course_at period dx dy t) (unsigned_abs y) (unsigned_abs x)) _
@@ -123,13 +124,13 @@ came_in_equal height width period t dx dy y x value on off each =
     sym (subst (λ a. value t (a -ℤ dy) (x -ℤ dx) ≡ value (t + period) a x) at_y
     (subst (λ b. value t (pos (unsigned_abs y) -ℤ dy) (b -ℤ dx) ≡ value (t + period) (pos (unsigned_abs y)) b) at_x equal))
 
-moved_by_equal : (generations height width period : ℕ) (dx dy : ℤ) (value : ℕ → ℤ → ℤ → Bool) (backgrounds : ℕ → Bool) → HaveBackgrounds height width value backgrounds
-    → BackgroundsReturn generations period backgrounds → Each (IsEqual value) (moved_pairs_of generations height width period dx dy) → IsMoved generations period dx dy value
-unfolding moved_pairs_of
-moved_by_equal generations height width period dx dy value backgrounds blank back each = λ t y x later.
-    let both = range-each (IsEqual value) (λ t. generation_moved height width (course_at period dx dy t)) (generations - period) each t (omega arith) in
-    let first = Each-front (IsEqual value) (all_leaving (course_at period dx dy t) height width) (all_entering (course_at period dx dy t) height width) both in
-    let second = Each-back (IsEqual value) (all_leaving (course_at period dx dy t) height width) (all_entering (course_at period dx dy t) height width) both in
+-- where the backgrounds return and the values of each generation's pairs are equal, all places are moved
+pub IsMoved-by_generations : (generations height width period : ℕ) (dx dy : ℤ) (value : ℕ → ℤ → ℤ → Bool) (backgrounds : ℕ → Bool)
+    → HaveBackgrounds generations height width value backgrounds → BackgroundsReturn generations period backgrounds
+    → ((t : ℕ) → t + period < generations → Each (IsMovedPair value) (generation_moved height width (course_at period dx dy t))) → IsMoved generations period dx dy value
+IsMoved-by_generations generations height width period dx dy value backgrounds blank back each = λ t y x later.
+    let first = Each-front (IsMovedPair value) (all_leaving (course_at period dx dy t) height width) (all_entering (course_at period dx dy t) height width) (each t later) in
+    let second = Each-back (IsMovedPair value) (all_leaving (course_at period dx dy t) height width) (all_entering (course_at period dx dy t) height width) (each t later) in
     elim (on_grid_or_off height width (place_of y x)) [
       | inl on ↦ left_equal height width period t dx dy y x value on first
       | inr off ↦ elim (on_grid_or_off height width (place_of (y +ℤ dy) (x +ℤ dx))) [
@@ -137,20 +138,28 @@ moved_by_equal generations height width period dx dy value backgrounds blank bac
             came_in_equal height width period t dx dy (y +ℤ dy) (x +ℤ dx) value on
             (λ there. off (rw (forth_and_back y dy, forth_and_back x dx) at there)) second
             ∙ ap (λ a. value t a ((x +ℤ dx) -ℤ dx)) (forth_and_back y dy) ∙ ap (value t y) (forth_and_back x dx)
-        | inr off' ↦ blank (t + period) (place_of (y +ℤ dy) (x +ℤ dx)) off' ∙ sym (back t later) ∙ sym (blank t (place_of y x) off)
+        | inr off' ↦ blank (t + period) later (place_of (y +ℤ dy) (x +ℤ dx)) off' ∙ sym (back t later) ∙ sym (blank t (omega arith) (place_of y x) off)
       ]
     ]
 
+moved_by_equal : (generations height width period : ℕ) (dx dy : ℤ) (value : ℕ → ℤ → ℤ → Bool) (backgrounds : ℕ → Bool)
+    → HaveBackgrounds generations height width value backgrounds → BackgroundsReturn generations period backgrounds
+    → Each (IsMovedPair value) (moved_pairs_of generations height width period dx dy) → IsMoved generations period dx dy value
+unfolding moved_pairs_of
+moved_by_equal generations height width period dx dy value backgrounds blank back each =
+    IsMoved-by_generations generations height width period dx dy value backgrounds blank back
+    (λ t later. range-each (IsMovedPair value) (λ s. generation_moved height width (course_at period dx dy s)) (generations - period) each t (omega arith))
+
 pub IsMoved-by_pairs : (generations height width period : ℕ) (dx dy : ℤ) (moved : List Moved) → IsWithin MOST_SHIFT dy → moved ≡ moved_pairs_of generations height width period dx dy
-    → (value : ℕ → ℤ → ℤ → Bool) (backgrounds : ℕ → Bool) → HaveBackgrounds height width value backgrounds
+    → (value : ℕ → ℤ → ℤ → Bool) (backgrounds : ℕ → Bool) → HaveBackgrounds generations height width value backgrounds
     → IsMoved generations period dx dy value ↔ (BackgroundsReturn generations period backgrounds × AreMoved value moved)
 IsMoved-by_pairs generations height width period dx dy moved rows is value backgrounds blank = (
   λ whole. (
     back_by_moved generations height width period dx dy value backgrounds rows blank whole,
-    subst (λ list. AreMoved value list) (sym is) (All-from_recursion (IsEqual value) (moved_pairs_of generations height width period dx dy) (equal_by_moved generations height width period dx dy value whole)),
+    subst (λ list. AreMoved value list) (sym is) (All-from_recursion (IsMovedPair value) (moved_pairs_of generations height width period dx dy) (equal_by_moved generations height width period dx dy value whole)),
   ),
   λ parts. moved_by_equal generations height width period dx dy value backgrounds blank parts.0
-      (recursion_from_All (IsEqual value) (moved_pairs_of generations height width period dx dy) (subst (λ list. AreMoved value list) is parts.1)),
+      (recursion_from_All (IsMovedPair value) (moved_pairs_of generations height width period dx dy) (subst (λ list. AreMoved value list) is parts.1)),
 )
 
 -- the pairs of one generation more, and of all

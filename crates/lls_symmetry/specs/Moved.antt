@@ -71,13 +71,16 @@ abbrev pub IsMoved : ℕ → ℕ → ℤ → ℤ → (ℕ → ℤ → ℤ → Bo
 IsMoved generations period dx dy value = (t : ℕ) (y x : ℤ) → t + period < generations → value (t + period) (y +ℤ dy) (x +ℤ dx) ≡ value t y x
 
 -- every place outside the grid has the background of its generation
-abbrev pub HaveBackgrounds : ℕ → ℕ → (ℕ → ℤ → ℤ → Bool) → (ℕ → Bool) → Type 0
-HaveBackgrounds height width value backgrounds = (t : ℕ) → HasBackground height width (value t) (backgrounds t)
+abbrev pub HaveBackgrounds : ℕ → ℕ → ℕ → (ℕ → ℤ → ℤ → Bool) → (ℕ → Bool) → Type 0
+HaveBackgrounds generations height width value backgrounds = (t : ℕ) → t < generations → HasBackground height width (value t) (backgrounds t)
 
 -- the backgrounds are the same a period later
 abbrev pub BackgroundsReturn : ℕ → ℕ → (ℕ → Bool) → Type 0
 BackgroundsReturn generations period backgrounds = (t : ℕ) → t + period < generations → backgrounds t ≡ backgrounds (t + period)
 
--- the places of each pair have equal values
+-- the places of a pair, and of each pair, have equal values
+abbrev pub IsMovedPair : (ℕ → ℤ → ℤ → Bool) → Moved → Type 0
+IsMovedPair value pair = value pair.early.t pair.early.y pair.early.x ≡ value pair.late.t pair.late.y pair.late.x
+
 abbrev pub AreMoved : (ℕ → ℤ → ℤ → Bool) → List Moved → Type 0
-AreMoved value moved = All (λ pair. value pair.early.t pair.early.y pair.early.x ≡ value pair.late.t pair.late.y pair.late.x) moved
+AreMoved value moved = All (IsMovedPair value) moved

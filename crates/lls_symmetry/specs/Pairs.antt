@@ -29,6 +29,9 @@ pairs_of symmetry height width = flat_map (motion_pairs height width) (generator
 abbrev pub HasBackground : ℕ → ℕ → (ℤ → ℤ → Bool) → Bool → Type 0
 HasBackground height width value background = (place : Place) → (IsOnGrid height width place → ⊥) → value place.y place.x ≡ background
 
--- the cells of each pair have equal values
+-- the cells of a pair, and of each pair, have equal values
+abbrev pub IsEqualPair : (ℤ → ℤ → Bool) → Pair → Type 0
+IsEqualPair value pair = value (pos pair.from_y) (pos pair.from_x) ≡ value (pos pair.to_y) (pos pair.to_x)
+
 abbrev pub AreEqual : (ℤ → ℤ → Bool) → List Pair → Type 0
-AreEqual value pairs = All (λ pair. value (pos pair.from_y) (pos pair.from_x) ≡ value (pos pair.to_y) (pos pair.to_x)) pairs
+AreEqual value pairs = All (IsEqualPair value) pairs

@@ -8,6 +8,6 @@ mod symmetry;
 #[cfg(test)]
 mod tests;
 
-pub use moved::{MOST_PERIOD, MOST_SHIFT, Moved, Spot, moved_pairs};
+pub use moved::{Course, MOST_PERIOD, MOST_SHIFT, Moved, Spot, is_on_grid, moved_pairs};
 pub use pair::{Pair, pairs};
 pub use symmetry::{Symmetry, fits, generators, image, read_symmetry};

@@ -28,18 +28,18 @@ pub struct Moved {
     pub late: Spot,
 }
 
-/// From generation t to the one a period later, by a shift.
-#[derive(Clone, Copy)]
-struct Course {
-    t: u32,
-    period: u32,
-    dx: i32,
-    dy: i32,
+/// From generation t to the one a period later, by a shift. It serves those who go over the pairs without memory.
+#[derive(Clone, Copy, Debug, PartialEq, Eq)]
+pub struct Course {
+    pub t: u32,
+    pub period: u32,
+    pub dx: i32,
+    pub dy: i32,
 }
 
 impl Course {
     /// The cell of a row and a column, and the place to which it goes.
-    fn leaving(self, y: u32, x: u32) -> Moved
+    pub fn leaving(self, y: u32, x: u32) -> Moved
         requires course { IsCourse self }
         requires row { y < History.MOST_HEIGHT }
         requires column { x < History.MOST_WIDTH }
@@ -57,7 +57,7 @@ impl Course {
     }
 
     /// The place from which the cell of a row and a column of the later generation comes, and the cell.
-    fn coming(self, y: u32, x: u32) -> Moved
+    pub fn coming(self, y: u32, x: u32) -> Moved
         requires course { IsCourse self }
         requires row { y < History.MOST_HEIGHT }
         requires column { x < History.MOST_WIDTH }
@@ -100,7 +100,7 @@ pub fn moved_pairs(
 
     // Where the places outside the grid have the background of their generation, all places are moved exactly where the
     // backgrounds return and the places of each pair have equal values.
-    ensures moved { IfOk result (λ moved. (value : ℕ → ℤ → ℤ → Bool) (backgrounds : ℕ → Bool) → HaveBackgrounds height width value backgrounds
+    ensures moved { IfOk result (λ moved. (value : ℕ → ℤ → ℤ → Bool) (backgrounds : ℕ → Bool) → HaveBackgrounds generations height width value backgrounds
         → (IsMoved generations period dx dy value ↔ (BackgroundsReturn generations period backgrounds × AreMoved value moved.items))) }
 {
     let mut moved = Vec::new(alloc);
@@ -206,8 +206,8 @@ fn push_cell_entering(
     Ok(())
 }
 
-/// Whether a place is a cell of the grid.
-fn is_on_grid(height: u32, width: u32, spot: Spot) -> bool
+/// Whether a place is a cell of a grid with these numbers of rows and columns.
+pub fn is_on_grid(height: u32, width: u32, spot: Spot) -> bool
     ensures { result ≡ is_on_grid height width spot.y spot.x }
 {
     index_within(spot.y, height).is_some() && index_within(spot.x, width).is_some()

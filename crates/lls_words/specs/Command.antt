@@ -18,7 +18,10 @@ command_of name =
 abbrev pub setting_of : List ℕ → Option Setting
 setting_of name =
     if bytes_eq name (codes "rule") then Some settings.Rule else
-    if bytes_eq name (codes "edge") then Some settings.Edge else None
+    if bytes_eq name (codes "edge") then Some settings.Edge else
+    if bytes_eq name (codes "symmetry") then Some settings.Symmetry else
+    if bytes_eq name (codes "period") then Some settings.Period else
+    if bytes_eq name (codes "differ") then Some settings.Differ else None
 
 abbrev pub operand_count : Command → ℕ
 operand_count commands.Check = 2
@@ -30,7 +33,7 @@ operand_count commands.Rule = 1
 -- the options that a command takes
 abbrev pub options_of : Command → List Setting
 options_of commands.Check = settings.Rule ∷ settings.Edge ∷ []
-options_of commands.Judge = settings.Rule ∷ settings.Edge ∷ []
+options_of commands.Judge = settings.Rule ∷ settings.Edge ∷ settings.Symmetry ∷ settings.Period ∷ settings.Differ ∷ []
 options_of commands.Cnf = settings.Rule ∷ settings.Edge ∷ []
 options_of commands.Lrat = []
 options_of commands.Rule = []
@@ -39,6 +42,9 @@ options_of commands.Rule = []
 abbrev pub table_place : Setting → ℕ
 table_place settings.Rule = 0
 table_place settings.Edge = 1
+table_place settings.Symmetry = 2
+table_place settings.Period = 3
+table_place settings.Differ = 4
 
 abbrev pub same_setting : Setting → Setting → Bool
 same_setting a b = table_place a == table_place b

@@ -1,13 +1,15 @@
 -- The job of a command line, or its first fault.
-use Rattle.std.specs.Prelude.{ℕ, Bool, List, [], ◌∷◌, length, codes, Option, None, Some, Result, Ok, Err, if◌then◌else◌}
-use Rattle.std.specs.Str.{bytes_eq}
+use Rattle.std.specs.Prelude.{ℕ, Bool, List, [], ◌∷◌, length, Option, None, Some, Result, Ok, Err}
+use Rattle.std.specs.Option.{ForSome}
 use Rattle.lls_rule.specs.Rule.{table_of, by_counts}
 use Rattle.lls_hensel.specs.declared.read.RuleError.{RuleError}
 use Rattle.lls_hensel.specs.Isotropy.{IsIsotropic}
 use Rattle.lls_hensel.specs.Reading.{entries_of}
 use Rattle.lls_hensel.specs.Entries.{next_of}
-use Rattle.lls_problem.specs.declared.demands.Edge.{Edge}
-use Rattle.lls_problem.specs.declared.demands.Edge.TheVariants.{Framed, Bare}
+use Rattle.lls_symmetry.specs.Symmetry.{symmetry_of}
+use Rattle.lls_problem.specs.declared.demands.Edge.TheVariants.{Framed}
+use Rattle.lls_problem.specs.declared.demands.Demands.{Demands}
+use Rattle.lls_problem.specs.Problem.{edge_alone, IsPeriod}
 use Rattle.lls_words.specs.declared.command.Command.{Command}
 use Rattle.lls_words.specs.declared.command.Command.TheVariants as commands
 use Rattle.lls_words.specs.declared.command.Setting.{Setting}
@@ -20,6 +22,7 @@ use Rattle.lls_words.specs.declared.error.WordsError.TheVariants.{NoCommand, Unk
 use Rattle.lls_words.specs.Command.{command_of, operand_count}
 use Rattle.lls_base.specs.Results.{and_then}
 use Rattle.lls_words.specs.Scan.{Operand, Given, scan}
+use Rattle.lls_words.specs.Values.{edge_in, period_in, generations_in}
 
 -- a rule text at a place
 abbrev pub rule_or : ℕ → Result (List Bool) RuleError → Result (List Bool) WordsError
@@ -33,14 +36,24 @@ rule_read text = and_then (entries_of text) (λ entries. Ok (table_of (next_of e
 abbrev pub rule_at : ℕ → List ℕ → Result (List Bool) WordsError
 rule_at place text = rule_or place (rule_read text)
 
-abbrev pub edge_at : ℕ → List ℕ → Result Edge WordsError
-edge_at place text =
-    if bytes_eq text (codes "closed") then Ok Framed else
-    if bytes_eq text (codes "open") then Ok Bare else Err (BadValue place)
+-- a value, or the fault of the option's
+abbrev pub value_or : {X : Type 0} → ℕ → Option X → Result X WordsError
+value_or place None = Err (BadValue place)
+value_or place (Some value) = Ok value
+
+abbrev pub with_demands : Settings → Demands → Settings
+with_demands s demands = record s { demands = demands }
 
 abbrev pub setting_value : Settings → ℕ → List ℕ → Setting → Result Settings WordsError
 setting_value s place text settings.Rule = and_then (rule_at place text) (λ rule. Ok (record s { rule = rule }))
-setting_value s place text settings.Edge = and_then (edge_at place text) (λ edge. Ok (record s { demands = record s.demands { edge = edge } }))
+setting_value s place text settings.Edge =
+    and_then (value_or place (edge_in text)) (λ edge. Ok (with_demands s (record s.demands { edge = edge })))
+setting_value s place text settings.Symmetry =
+    and_then (value_or place (symmetry_of text)) (λ symmetry. Ok (with_demands s (record s.demands { symmetry = symmetry })))
+setting_value s place text settings.Period =
+    and_then (value_or place (period_in text)) (λ period. Ok (with_demands s (record s.demands { period = Some period })))
+setting_value s place text settings.Differ =
+    and_then (value_or place (generations_in text)) (λ pair. Ok (with_demands s (record s.demands { differ = Some pair })))
 
 -- the settings with the value of one option
 abbrev pub with_value : Settings → Given → Result Settings WordsError
@@ -51,9 +64,9 @@ abbrev pub settled : Settings → List Given → Result Settings WordsError
 settled s [] = Ok s
 settled s (given ∷ givens) = and_then (with_value s given) (λ more. settled more givens)
 
--- Life, `B3/S23`, under a closed edge
+-- Life, `B3/S23`, under a closed edge, and nothing else demanded
 abbrev pub defaults : Settings
-defaults = record { rule = table_of (by_counts 8 12); demands = record { edge = Framed } }
+defaults = record { rule = table_of (by_counts 8 12); demands = edge_alone Framed }
 
 -- the job of a command by its operands, whose number is the first test, and its options
 abbrev pub job_with : Command → List Operand → List Given → Result Job WordsError
@@ -77,10 +90,10 @@ abbrev pub job_of : List (List ℕ) → Result Job WordsError
 job_of [] = Err NoCommand
 job_of (name ∷ words) = job_of_command (command_of name) words
 
--- a rule that is to be printed is isotropic
-abbrev pub IsPrintable : Job → Type 0
-IsPrintable (jobs.Check search_file proof rule demands) = Unit {0}
-IsPrintable (jobs.Judge search_file pattern rule demands) = Unit {0}
-IsPrintable (jobs.Cnf search_file rule demands) = Unit {0}
-IsPrintable (jobs.Lrat formula proof) = Unit {0}
-IsPrintable (jobs.Rule rule) = IsIsotropic rule
+-- what the words keep: a period is within the limits, and a rule that is to be printed is isotropic
+abbrev pub KeepsLimits : Job → Type 0
+KeepsLimits (jobs.Check search_file proof rule demands) = ForSome demands.period IsPeriod
+KeepsLimits (jobs.Judge search_file pattern rule demands) = ForSome demands.period IsPeriod
+KeepsLimits (jobs.Cnf search_file rule demands) = ForSome demands.period IsPeriod
+KeepsLimits (jobs.Lrat formula proof) = Unit {0}
+KeepsLimits (jobs.Rule rule) = IsIsotropic rule

@@ -20,6 +20,10 @@ seen_item (forms.Operand operand) = plain operand.place operand.word.now
 seen_item (forms.Named place name value) = named place name.now (option_copied value)
 seen_item (forms.Odd place) = odd place
 
+-- two parts of a text
+abbrev pub seen_pair : Bor (List ℕ) × Bor (List ℕ) → List ℕ × List ℕ
+seen_pair parts = (parts.0.now, parts.1.now)
+
 -- the items that are left
 abbrev pub items_left : left.Items → List Item
 items_left left = items_of left.place (map string_bytes left.words.now)

@@ -17,6 +17,9 @@ pub enum Command {
 pub enum Setting {
     Rule,
     Edge,
+    Symmetry,
+    Period,
+    Differ,
 }
 
 impl Command {
@@ -54,7 +57,14 @@ impl Command {
         ensures { result.now ≡ options_of self }
     {
         match self {
-            Command::Check | Command::Judge | Command::Cnf => &[Setting::Rule, Setting::Edge],
+            Command::Judge => &[
+                Setting::Rule,
+                Setting::Edge,
+                Setting::Symmetry,
+                Setting::Period,
+                Setting::Differ,
+            ],
+            Command::Check | Command::Cnf => &[Setting::Rule, Setting::Edge],
             Command::Lrat | Command::Rule => &[],
         }
     }
@@ -76,6 +86,12 @@ impl Setting {
             Some(Setting::Rule)
         } else if name == b"edge".as_slice() {
             Some(Setting::Edge)
+        } else if name == b"symmetry".as_slice() {
+            Some(Setting::Symmetry)
+        } else if name == b"period".as_slice() {
+            Some(Setting::Period)
+        } else if name == b"differ".as_slice() {
+            Some(Setting::Differ)
         } else {
             None
         }

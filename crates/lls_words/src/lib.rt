@@ -8,6 +8,7 @@ mod items;
 mod job;
 mod scan;
 mod settings;
+mod values;
 mod words;
 
 pub use error::WordsError;

@@ -1,15 +1,20 @@
 // The values of a command's options.
 ghost use Rattle.std.specs.Prelude.{◌≡◌, map, IfOk};
 ghost use Rattle.lls_hensel.specs.Isotropy.{IsIsotropic};
-ghost use Rattle.lls_words.specs.Job.{rule_at, edge_at, with_value, settled, defaults};
+ghost use Rattle.std.specs.Option.{ForSome};
+ghost use Rattle.lls_problem.specs.Problem.{IsPeriod};
+ghost use Rattle.lls_words.specs.Job.{rule_at, value_or, with_value, settled, defaults};
+ghost use Rattle.lls_words.specs.Values.{period_in};
 ghost use Rattle.lls_words.specs.Seen.{seen_given};
 
 use crate::command::Setting;
 use crate::error::WordsError;
 use crate::scan::Given;
+use crate::values::{edge_in, generations_in, period_in};
 use lls_hensel::read_rule;
-use lls_problem::{Demands, Edge};
+use lls_problem::{Demands, Edge, Period};
 use lls_rule::Rule;
+use lls_symmetry::read_symmetry;
 
 /// The values of all options.
 #[derive(Drop)]
@@ -25,18 +30,28 @@ impl Settings {
     {
         Settings {
             rule: Rule::from_counts(8, 12),
-            demands: Demands { edge: Edge::Framed },
+            demands: Demands::new(Edge::Framed),
         }
     }
 
     /// The settings with the value of one option.
     fn with_value(self, given: &Given) -> Result<Settings, WordsError>
-        ensures { result ≡ with_value self (seen_given given.now) }
+        requires { ForSome self.demands.period IsPeriod }
+        ensures value { result ≡ with_value self (seen_given given.now) }
+        ensures period { IfOk result (λ s. ForSome s.demands.period IsPeriod) }
     {
         let mut settings = self;
+        let fault = WordsError::BadValue(given.place);
         match given.setting {
             Setting::Rule => settings.rule = rule_at(given.place, given.value)?,
-            Setting::Edge => settings.demands.edge = edge_at(given.place, given.value)?,
+            Setting::Edge => settings.demands.edge = edge_in(given.value).ok_or(fault)?,
+            Setting::Symmetry => settings.demands.symmetry = read_symmetry(given.value).ok_or(
+                fault,
+            )?,
+            Setting::Period => settings.demands.period = Some(period_at(given.place, given.value)?),
+            Setting::Differ => {
+                settings.demands.differ = Some(generations_in(given.value).ok_or(fault)?);
+            }
         }
         Ok(settings)
     }
@@ -53,22 +68,21 @@ pub fn rule_at(place: u64, text: &[u8]) -> Result<Rule, WordsError>
     }
 }
 
-/// The edge of a text; the place is its option's.
-fn edge_at(place: u64, text: &[u8]) -> Result<Edge, WordsError>
-    ensures { result ≡ edge_at place text.now }
+/// The period of a text; the place is its option's.
+fn period_at(place: u64, text: &[u8]) -> Result<Period, WordsError>
+    ensures value { result ≡ value_or place (period_in text.now) }
+    ensures within { IfOk result IsPeriod }
 {
-    if text == b"closed".as_slice() {
-        Ok(Edge::Framed)
-    } else if text == b"open".as_slice() {
-        Ok(Edge::Bare)
-    } else {
-        Err(WordsError::BadValue(place))
+    match period_in(text) {
+        Some(period) => Ok(period),
+        None => Err(WordsError::BadValue(place)),
     }
 }
 
 /// The settings of a command's options, in their order.
 pub fn settle(givens: &[Given]) -> Result<Settings, WordsError>
-    ensures { result ≡ settled defaults (map seen_given givens.now) }
+    ensures settings { result ≡ settled defaults (map seen_given givens.now) }
+    ensures period { IfOk result (λ s. ForSome s.demands.period IsPeriod) }
 {
     let mut settings = Settings::default_values();
     for given in givens {

@@ -1,6 +1,7 @@
 // Command lines and the jobs or faults that they are read as.
 use crate::{Job, WordsError, read_job};
-use lls_problem::Edge;
+use lls_problem::{Edge, Period};
+use lls_symmetry::Symmetry;
 use std::alloc::{AllocError, Global};
 use std::test::Fail;
 
@@ -40,6 +41,22 @@ fn faults_are_named_by_their_place(rt: HostRuntime) -> Result<(), Fail> {
         ("check --edge shut f p", "BadValue 2"),
         ("check f p --rule=B9/S --edge shut", "Stray 4 2"),
         ("check f p --edge shut --rule B9/S", "BadValue 4"),
+        ("judge f p --symmetry C3", "BadValue 4"),
+        ("judge f p --symmetry c2", "BadValue 4"),
+        ("judge f p --period 0", "BadValue 4"),
+        ("judge f p --period 64", "BadValue 4"),
+        ("judge f p --period 4,1", "BadValue 4"),
+        ("judge f p --period 4,1,1,1", "BadValue 4"),
+        ("judge f p --period 4,65,0", "BadValue 4"),
+        ("judge f p --period 4,0,-65", "BadValue 4"),
+        ("judge f p --period 4,+1,0", "BadValue 4"),
+        ("judge f p --period 000000000000000000004", "BadValue 4"),
+        ("judge f p --period -4", "MissingValue 4"),
+        ("judge f p --differ 0", "BadValue 4"),
+        ("judge f p --differ 0,64", "BadValue 4"),
+        ("judge f p --differ 0,1,2", "BadValue 4"),
+        ("check f p --symmetry C2", "UnknownOption 4"),
+        ("cnf f --period 1", "UnknownOption 3"),
         ("rule B1k/S", "BadLetter 2 3"),
         ("rule B33/S", "RepeatedDigit 2 3"),
         ("rule B2aa/S", "RepeatedLetter 2 4"),
@@ -82,5 +99,24 @@ fn options_and_operands_stand_in_any_order(rt: HostRuntime) -> Result<(), Fail> 
         assert_eq!(rt; proof.text(), "p", "at {line:?}");
         assert_eq!(rt; demands.edge, want, "at {line:?}");
     }
+    Ok(())
+}
+
+#[test]
+fn demands_of_a_pattern(rt: HostRuntime) -> Result<(), Fail> {
+    let alloc = rt.alloc();
+    let line = "judge f --symmetry D2/ --period 07,-64,064 p --differ=63,0";
+    let words = words_of(alloc, line)?;
+    let Ok(Job::Judge { demands, .. }) = read_job(alloc, &words) else {
+        return Err(Fail::from("a judging"));
+    };
+    let period = Period {
+        length: 7,
+        dx: -64,
+        dy: 64,
+    };
+    assert_eq!(rt; demands.symmetry, Symmetry::D2Up);
+    assert_eq!(rt; demands.period, Some(period));
+    assert_eq!(rt; demands.differ, Some((63, 0)));
     Ok(())
 }

@@ -1,7 +1,9 @@
 // The job of a command line.
 ghost use Rattle.std.specs.Prelude.{◌≡◌, Ok, map, string_bytes, IfOk};
+ghost use Rattle.std.specs.Option.{ForSome};
 ghost use Rattle.lls_base.specs.Results.{and_then, Gives};
-ghost use Rattle.lls_words.specs.Job.{defaults, job_with, job_of, settled, IsPrintable};
+ghost use Rattle.lls_problem.specs.Problem.{IsPeriod};
+ghost use Rattle.lls_words.specs.Job.{defaults, job_with, job_of, settled, KeepsLimits};
 ghost use Rattle.lls_words.specs.Seen.{seen_given, seen_scan};
 
 use crate::command::Command;
@@ -27,8 +29,9 @@ fn posing(
     second: &Operand,
     givens: &[Given],
 ) -> Result<(Name, Name, Settings), WordsError>
-    ensures { Gives WordsError.Memory (λ posed. posed) result
+    ensures posed { Gives WordsError.Memory (λ posed. posed) result
         (and_then (settled defaults (map seen_given givens.now)) (λ settings. Ok (first.now.word.now, second.now.word.now, settings))) }
+    ensures period { IfOk result (λ posed. ForSome posed.2.demands.period IsPeriod) }
 {
     let settings = settle(givens)?;
     Ok((name_of(alloc, first)?, name_of(alloc, second)?, settings))
@@ -38,7 +41,7 @@ fn posing(
 fn job_with(alloc: Global, command: Command, scan: &Scan) -> Result<Job, WordsError>
     ensures job { Gives WordsError.Memory (λ job. job) result
         (job_with command (seen_scan scan.now).operands (seen_scan scan.now).givens) }
-    ensures printable { IfOk result IsPrintable }
+    ensures limits { IfOk result KeepsLimits }
 {
     match (command, scan.operands.as_slice()) {
         (Command::Check, [search, proof]) => {
@@ -85,7 +88,7 @@ fn job_with(alloc: Global, command: Command, scan: &Scan) -> Result<Job, WordsEr
 /// from the left, of the number of operands, of the values from the left.
 pub fn read_job(alloc: Global, words: &[String]) -> Result<Job, WordsError>
     ensures job { Gives WordsError.Memory (λ job. job) result (job_of (map string_bytes words.now)) }
-    ensures printable { IfOk result IsPrintable }
+    ensures limits { IfOk result KeepsLimits }
 {
     let Some((name, behind)) = words.split_first() else {
         return Err(WordsError::NoCommand);

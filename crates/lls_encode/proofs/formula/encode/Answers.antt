@@ -56,10 +56,10 @@ returns-clause-absent c = λ unsatisfiable.
     absent_from c.args.problem.now c.posed-posed.ensures.kept (subst IsUnsatisfiable (returns-clause-formula c) unsatisfiable)
 
 pub returns-clause-sound : goal.returns-clause-sound
-returns-clause-sound c = λ values count satisfied.
+returns-clause-sound c = λ alone values count satisfied.
     let is = returns-clause-formula c in
-    IsSolution-history_of c.args.problem.now c.posed-posed.ensures.kept values (count ∙ ap (λ f. f.vars) is) (sym (ap (λ f. satisfies values f.clauses) is) ∙ satisfied)
+    IsSolution-history_of c.args.problem.now c.posed-posed.ensures.kept alone values (count ∙ ap (λ f. f.vars) is) (sym (ap (λ f. satisfies values f.clauses) is) ∙ satisfied)
 
 pub returns-clause-unsatisfiable : goal.returns-clause-unsatisfiable
-returns-clause-unsatisfiable c = λ absent.
-    subst IsUnsatisfiable (sym (returns-clause-formula c)) (unsatisfiable_from c.args.problem.now c.posed-posed.ensures.kept absent)
+returns-clause-unsatisfiable c = λ alone absent.
+    subst IsUnsatisfiable (sym (returns-clause-formula c)) (unsatisfiable_from c.args.problem.now c.posed-posed.ensures.kept alone absent)

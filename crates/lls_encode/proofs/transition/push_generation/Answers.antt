@@ -20,7 +20,7 @@ loop-line-preserved c =
 pub returns : goal.returns
 returns c =
     let f : ℕ → List Clause = λ k. line_clauses c.args.problem.now c.args.t (pos k -ℤ pos 1) in
-    let edge : c.demands.result.now.edge ≡ c.args.problem.now.demands.edge = ap (λ d. d.edge) c.demands.ensures in
+    let edge : c.demands.result.now.edge ≡ c.args.problem.now.demands.edge = ap (λ d. d.edge) c.demands.ensures.value in
     let height : c.behind-problem.inside.height ≡ c.args.problem.now.posed.height = ap (λ p. p.height) (c.behind-problem.view_is ∙ c.posed.ensures.value) in
     let count : c.loop-line.line ≡ framed_count c.args.problem.now.demands.edge c.args.problem.now.posed.height =
     omega (arith, c.loop-line.auto.line-end, c.loop-line-test.false, c.framed_count-line-end.ensures.value ∙ ap (λ e. framed_count e c.behind-problem.inside.height) edge ∙ ap (framed_count c.args.problem.now.demands.edge) height) in

@@ -20,7 +20,7 @@ loop-column-preserved c =
 pub returns : goal.returns
 returns c =
     let f : ℕ → List Clause = λ k. place_clauses c.args.problem.now c.args.t (pos c.args.line -ℤ pos 1) (pos k -ℤ pos 1) in
-    let edge : c.demands.result.now.edge ≡ c.args.problem.now.demands.edge = ap (λ d. d.edge) c.demands.ensures in
+    let edge : c.demands.result.now.edge ≡ c.args.problem.now.demands.edge = ap (λ d. d.edge) c.demands.ensures.value in
     let width : c.behind-problem.inside.width ≡ c.args.problem.now.posed.width = ap (λ p. p.width) (c.behind-problem.view_is ∙ c.posed.ensures.value) in
     let count : c.loop-column.column ≡ framed_count c.args.problem.now.demands.edge c.args.problem.now.posed.width =
     omega (arith, c.loop-column.auto.column-end, c.loop-column-test.false, c.framed_count-column-end.ensures.value ∙ ap (λ e. framed_count e c.behind-problem.inside.width) edge ∙ ap (framed_count c.args.problem.now.demands.edge) width) in

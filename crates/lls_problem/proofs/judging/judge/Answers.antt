@@ -1,9 +1,12 @@
-use Rattle.std.proofs.Common.{◌≡◌, w32, to_z, of_z, to_z-of_z, refl, rules, FitsSigned}
-use Rattle.lls_problem.specs.declared.judgement.Judgement.TheVariants.{Meets, Cell, Name, Rule}
-use Rattle.lls_problem.specs.Judgement.{size, cell, name, rule, KeepsBefore}
-use Rattle.lls_problem.proofs.OneJudgement.{judged, KeepsBefore-size, KeepsBefore-next, IsSolution-by_demands}
+use Rattle.std.proofs.Common.{◌≡◌, lit<, w32, to_z, of_z, to_z-of_z, refl, sym, subst, rules, FitsSigned}
+use Rattle.lls_problem.specs.declared.judgement.Judgement.TheVariants.{Meets, Cell, Name, Symmetry, Rule, Same}
+use Rattle.lls_problem.specs.Judgement.{size, cell, name, symmetry, period, rule, same, KeepsBefore, judgement_of}
+use Rattle.lls_problem.proofs.FirstOf.{nothing_first}
+use Rattle.lls_problem.proofs.Symmetric.{AreSymmetric-by_cells}
+use Rattle.lls_problem.proofs.Returned.{Returns-by_losses}
+use Rattle.lls_problem.proofs.OneJudgement.{Judged, judged, judgement_of-fits, KeepsBefore-size, KeepsBefore-next, IsSolution-by_demands}
 use Rattle.lls_problem.proofs.judging.judge.Goals as goal
-use Rattle.lls_problem.proofs.judging.judge.Goals.{Else-not-has_its_sizes, In_default, In_default-first_disagreement}
+use Rattle.lls_problem.proofs.judging.judge.Goals.{Else-not-has_its_sizes, In_default, In_default-first_disagreement, In_default-first_unlike, In_default-first_loss, In_default-first_transition}
 
 -- the demands that are kept so far
 sizes_kept : (c : Else-not-has_its_sizes) → KeepsBefore c.args.problem.now c.args.history.now cell
@@ -13,14 +16,27 @@ sizes_kept c =
 cells_kept : (c : In_default) → KeepsBefore c.args.problem.now c.args.history.now cell → KeepsBefore c.args.problem.now c.args.history.now name
 cells_kept c before = KeepsBefore-next c.args.problem.now c.args.history.now cell name refl before c.in_default.ensures
 
-names_kept : (c : In_default-first_disagreement) → KeepsBefore c.args.problem.now c.args.history.now name → KeepsBefore c.args.problem.now c.args.history.now rule
-names_kept c before = KeepsBefore-next c.args.problem.now c.args.history.now name rule refl before c.in_default-first_disagreement.ensures
+names_kept : (c : In_default-first_disagreement) → KeepsBefore c.args.problem.now c.args.history.now name → KeepsBefore c.args.problem.now c.args.history.now symmetry
+names_kept c before = KeepsBefore-next c.args.problem.now c.args.history.now name symmetry refl before c.in_default-first_disagreement.ensures
+
+symmetry_kept : (c : In_default-first_unlike) → KeepsBefore c.args.problem.now c.args.history.now symmetry → KeepsBefore c.args.problem.now c.args.history.now period
+symmetry_kept c before =
+    KeepsBefore-next c.args.problem.now c.args.history.now symmetry period refl before
+    (AreSymmetric-by_cells c.args.problem.now c.args.history.now (before size (lit< tt)) c.demands-demands.ensures.kept (nothing_first _ c.in_default-first_unlike.ensures))
+
+period_kept : (c : In_default-first_loss) → KeepsBefore c.args.problem.now c.args.history.now period → KeepsBefore c.args.problem.now c.args.history.now rule
+period_kept c before =
+    KeepsBefore-next c.args.problem.now c.args.history.now period rule refl before
+    (Returns-by_losses c.args.problem.now c.args.history.now (before size (lit< tt)) (nothing_first _ c.in_default-first_loss.ensures))
+
+rule_kept : (c : In_default-first_transition) → KeepsBefore c.args.problem.now c.args.history.now rule → KeepsBefore c.args.problem.now c.args.history.now same
+rule_kept c before = KeepsBefore-next c.args.problem.now c.args.history.now rule same refl before c.in_default-first_transition.ensures
 
 pub returns-in-Some : goal.returns-in-Some
 returns-in-Some c =
     let place = c.in-Some.place in
     let before = sizes_kept (goal.at.returns-in-Some c).Else-not-has_its_sizes in
-    let it = judged c.args.problem.now c.args.history.now (Cell place.t place.y place.x) c.posed.ensures.kept (record { kept = before; first = c.in-Some.ensures }) in
+    let it = judged c.args.problem.now c.args.history.now (Cell place.t place.y place.x) c.posed.ensures.kept c.demands-demands.ensures.kept (record { kept = before; first = c.in-Some.ensures }) in
     record { judgement = it.judgement; unique = it.unique; meets = it.meets; broken = it.broken }
 
 pub returns-in-Some-first_disagreement : goal.returns-in-Some-first_disagreement
@@ -28,7 +44,24 @@ returns-in-Some-first_disagreement c =
     let place = c.in-Some-first_disagreement.place in
     let at = goal.at.returns-in-Some-first_disagreement c in
     let before = cells_kept at.In_default (sizes_kept at.Else-not-has_its_sizes) in
-    let it = judged c.args.problem.now c.args.history.now (Name place.t place.y place.x) c.posed.ensures.kept (record { kept = before; first = c.in-Some-first_disagreement.ensures }) in
+    let it = judged c.args.problem.now c.args.history.now (Name place.t place.y place.x) c.posed.ensures.kept c.demands-demands.ensures.kept (record { kept = before; first = c.in-Some-first_disagreement.ensures }) in
+    record { judgement = it.judgement; unique = it.unique; meets = it.meets; broken = it.broken }
+
+pub returns-in-Some-first_unlike : goal.returns-in-Some-first_unlike
+returns-in-Some-first_unlike c =
+    let place = c.in-Some-first_unlike.place in
+    let at = goal.at.returns-in-Some-first_unlike c in
+    let before = names_kept at.In_default-first_disagreement (cells_kept at.In_default (sizes_kept at.Else-not-has_its_sizes)) in
+    let it = judged c.args.problem.now c.args.history.now (Symmetry place.t place.y place.x) c.posed.ensures.kept c.demands-demands.ensures.kept (record { kept = before; first = sym c.in-Some-first_unlike.ensures }) in
+    record { judgement = it.judgement; unique = it.unique; meets = it.meets; broken = it.broken }
+
+pub returns-in-Some-first_loss : goal.returns-in-Some-first_loss
+returns-in-Some-first_loss c =
+    let loss = c.in-Some-first_loss.loss in
+    let at = goal.at.returns-in-Some-first_loss c in
+    let before = symmetry_kept at.In_default-first_unlike (names_kept at.In_default-first_disagreement (cells_kept at.In_default (sizes_kept at.Else-not-has_its_sizes))) in
+    let found = judged c.args.problem.now c.args.history.now (judgement_of loss) c.posed.ensures.kept c.demands-demands.ensures.kept (judgement_of-fits c.args.problem.now c.args.history.now loss before c.in-Some-first_loss.ensures) in
+    let it = subst (Judged c.args.problem.now c.args.history.now) (sym c.judgement.ensures) found in
     record { judgement = it.judgement; unique = it.unique; meets = it.meets; broken = it.broken }
 
 pub returns-in-Some-first_transition : goal.returns-in-Some-first_transition
@@ -39,14 +72,21 @@ returns-in-Some-first_transition c =
     let row : to_z w32 (of_z w32 place.y) ≡ place.y = rw to_z-of_z in
     let column : to_z w32 (of_z w32 place.x) ≡ place.x = rw to_z-of_z in
     let at = goal.at.returns-in-Some-first_transition c in
-    let before = names_kept at.In_default-first_disagreement (cells_kept at.In_default (sizes_kept at.Else-not-has_its_sizes)) in
-    let it = judged c.args.problem.now c.args.history.now (Rule place.t place.y place.x) c.posed.ensures.kept (record { kept = before; first = c.in-Some-first_transition.ensures }) in
+    let before = period_kept at.In_default-first_loss (symmetry_kept at.In_default-first_unlike (names_kept at.In_default-first_disagreement (cells_kept at.In_default (sizes_kept at.Else-not-has_its_sizes)))) in
+    let it = judged c.args.problem.now c.args.history.now (Rule place.t place.y place.x) c.posed.ensures.kept c.demands-demands.ensures.kept (record { kept = before; first = c.in-Some-first_transition.ensures }) in
     rw (row, column) (record { judgement = it.judgement; unique = it.unique; meets = it.meets; broken = it.broken })
+
+pub returns-then-not-differs : goal.returns-then-not-differs
+returns-then-not-differs c =
+    let at = goal.at.returns-then-not-differs c in
+    let before = rule_kept at.In_default-first_transition (period_kept at.In_default-first_loss (symmetry_kept at.In_default-first_unlike (names_kept at.In_default-first_disagreement (cells_kept at.In_default (sizes_kept at.Else-not-has_its_sizes))))) in
+    let it = judged c.args.problem.now c.args.history.now Same c.posed.ensures.kept c.demands-demands.ensures.kept (record { kept = before; first = c.if-not-differs.ensures }) in
+    record { judgement = it.judgement; unique = it.unique; meets = it.meets; broken = it.broken }
 
 pub returns : goal.returns
 returns c =
     let at = goal.at.returns c in
-    let before = names_kept at.In_default-first_disagreement (cells_kept at.In_default (sizes_kept at.Else-not-has_its_sizes)) in
-    let it = judged c.args.problem.now c.args.history.now Meets c.posed.ensures.kept
-    (IsSolution-by_demands c.args.problem.now c.args.history.now before c.in_default-first_transition.ensures) in
+    let before = rule_kept at.In_default-first_transition (period_kept at.In_default-first_loss (symmetry_kept at.In_default-first_unlike (names_kept at.In_default-first_disagreement (cells_kept at.In_default (sizes_kept at.Else-not-has_its_sizes))))) in
+    let it = judged c.args.problem.now c.args.history.now Meets c.posed.ensures.kept c.demands-demands.ensures.kept
+    (IsSolution-by_demands c.args.problem.now c.args.history.now before c.if-not-differs.ensures) in
     record { judgement = it.judgement; unique = it.unique; meets = it.meets; broken = it.broken }

@@ -1,0 +1,68 @@
+-- The values of options.
+use Rattle.std.specs.Prelude.{ℕ, ◌+◌, ◌-◌, ℤ, pos, ◌-ℤ◌, ◌==◌, ◌&&◌, nat_le, Bool, List, [], ◌∷◌, length, take, drop, position, codes, Option, None, Some, if◌then◌else◌}
+use Rattle.std.specs.Option.{option_map, option_and_then}
+use Rattle.std.specs.Str.{bytes_eq}
+use Rattle.std.specs.Str.Parse.{digits_value}
+use Rattle.lls_text.specs.Digits.{is_digits}
+use Rattle.lls_grid.specs.declared.history.TheConstants.History.{MOST_GENERATIONS}
+use Rattle.lls_symmetry.specs.declared.moved.TheConstants.{MOST_SHIFT, MOST_PERIOD}
+use Rattle.lls_problem.specs.declared.demands.Edge.{Edge}
+use Rattle.lls_problem.specs.declared.demands.Edge.TheVariants.{Framed, Bare}
+use Rattle.lls_problem.specs.declared.demands.Period.{Period}
+use Rattle.lls_words.specs.declared.values.TheConstants.{MOST_DIGITS}
+use Rattle.lls_words.specs.Items.{is_dash}
+
+abbrev pub edge_in : List ℕ → Option Edge
+edge_in text =
+    if bytes_eq text (codes "closed") then Some Framed else
+    if bytes_eq text (codes "open") then Some Bare else None
+
+abbrev pub is_comma : ℕ → Bool
+is_comma byte = byte == 44
+
+-- what stands before the first comma of a text, and behind it
+abbrev pub cut_at_comma : List ℕ → Option (List ℕ × List ℕ)
+cut_at_comma text = option_map (λ at. (take at text, drop (at + 1) text)) (position is_comma text)
+
+-- digits alone, at least one and not too many
+abbrev pub natural_in : List ℕ → Option ℕ
+natural_in text = if nat_le (length text) MOST_DIGITS && is_digits text then Some (digits_value 10 text) else None
+
+-- a number from `low` to `high`
+abbrev pub from_to : ℕ → ℕ → ℕ → Option ℕ
+from_to low high n = if nat_le low n && nat_le n high then Some n else None
+
+abbrev pub number_in : ℕ → ℕ → List ℕ → Option ℕ
+number_in low high text = option_and_then (from_to low high) (natural_in text)
+
+-- a number of columns or rows, with a dash before it where it goes left or up
+abbrev pub shift_in : List ℕ → Option ℤ
+shift_in [] = None
+shift_in (b ∷ bs) =
+    if is_dash b then option_map (λ n. pos 0 -ℤ pos n) (number_in 0 MOST_SHIFT bs) else option_map (λ n. pos n) (number_in 0 MOST_SHIFT (b ∷ bs))
+
+-- a length, and a shift to the right and one downwards
+abbrev pub period_of : ℕ → ℤ → ℤ → Period
+period_of length dx dy = record { length = length; dx = dx; dy = dy }
+
+abbrev pub shifted : ℕ → List ℕ × List ℕ → Option Period
+shifted length shifts = option_and_then (λ dx. option_map (period_of length dx) (shift_in shifts.1)) (shift_in shifts.0)
+
+-- a text without a comma is a length alone, and the shift is none
+abbrev pub period_cut : List ℕ → Option (List ℕ × List ℕ) → Option Period
+period_cut text None = option_map (λ length. period_of length (pos 0) (pos 0)) (number_in 1 MOST_PERIOD text)
+period_cut text (Some parts) =
+    option_and_then (λ length. option_and_then (shifted length) (cut_at_comma parts.1)) (number_in 1 MOST_PERIOD parts.0)
+
+abbrev pub period_in : List ℕ → Option Period
+period_in text = period_cut text (cut_at_comma text)
+
+-- a generation that some file may have
+abbrev pub generation_in : List ℕ → Option ℕ
+generation_in text = number_in 0 (MOST_GENERATIONS - 1) text
+
+abbrev pub both_generations : List ℕ × List ℕ → Option (ℕ × ℕ)
+both_generations parts = option_and_then (λ first. option_map (λ second. (first, second)) (generation_in parts.1)) (generation_in parts.0)
+
+abbrev pub generations_in : List ℕ → Option (ℕ × ℕ)
+generations_in text = option_and_then both_generations (cut_at_comma text)
