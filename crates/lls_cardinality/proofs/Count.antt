@@ -1,13 +1,12 @@
 -- The clauses of a counter are satisfied exactly where its variables count.
-use Rattle.std.proofs.Common.{◌↔◌, ◌≡◌, ◌<◌, ◌≤◌, ℕ, zero, suc, ◌+◌, ℤ, pos, negsuc, List, [], ◌∷◌, Bool, true, false, cond, ◌||◌, ◌&&◌, leb, length, take, get_or, refl, sym, ap, ◌∙◌, arith, add-one}
+use Rattle.std.proofs.Common.{◌↔◌, ◌≡◌, ◌<◌, ◌≤◌, ℕ, zero, suc, ◌+◌, ℤ, pos, negsuc, List, [], ◌∷◌, Bool, true, false, cond, ◌||◌, ◌&&◌, leb, length, get_or, refl, sym, ap, ◌∙◌, arith, add-one}
 use Rattle.std.proofs.Math.Bool.{beq}
-use Rattle.std.specs.List.{count_by}
 use Rattle.std.proofs.Math.Dec.{leb-zero, leb-suc-zero}
 use Rattle.std.proofs.lemmas.Bool.{and_parts}
 use Rattle.std.proofs.lemmas.Bool.Decides.{nat_tests}
 use Rattle.std.proofs.lemmas.List.Sums.{count_by_more_yes, count_by_more_no}
 use Rattle.lls_lit.specs.Formula.{is_true, is_literal_of, is_within, satisfies}
-use Rattle.lls_cardinality.specs.Counter.{counter_clauses, place_clauses, live_among, Counts}
+use Rattle.lls_cardinality.specs.Counter.{counter_clauses, live_among, Counts}
 use Rattle.lls_cardinality.proofs.Truth.{is_literal, value_of, satisfies-place_clauses}
 use Rattle.lls_cardinality.proofs.Rows.{satisfied_place, satisfies-each_place}
 

@@ -1,10 +1,9 @@
--- A loop over numbers that appends the clauses of each: its start, one more step, and how many clauses there are.
-use Rattle.std.proofs.Common.{◌≡◌, ◌<◌, ◌≤◌, ℕ, zero, suc, ◌+◌, ◌*◌, List, [], ◌∷◌, ◌++◌, take, length, refl, sym, ap, ◌∙◌, arith, append_assoc, length-append, add-one, add-zero}
+-- A loop over numbers that appends the clauses of each: one more step, all steps, and how many clauses there are at most.
+use Rattle.std.proofs.Common.{◌≡◌, ◌<◌, ◌≤◌, ℕ, zero, suc, ◌+◌, ◌*◌, List, ◌++◌, length, refl, sym, ap, ◌∙◌, arith, append_assoc, length-append, add-one, add-zero}
 use Rattle.std.specs.List.{flat_map, range_with_len}
 use Rattle.std.proofs.lemmas.List.{append-nil}
-use Rattle.std.proofs.Math.Seq.{take-append_seam}
 use Rattle.lls_lit.specs.Formula.{Clause, Cnf}
-use Rattle.lls_cardinality.specs.Pushed.{with_clauses, IsBegun, HasRoom}
+use Rattle.lls_cardinality.specs.Pushed.{with_clauses, HasRoom}
 
 flat_map-range_suc : {A : Type 0} (f : ℕ → List A) (a n : ℕ) → flat_map f (range_with_len a (suc n)) ≡ flat_map f (range_with_len a n) ++ f (a + n)
 flat_map-range_suc f a zero = rw (append-nil, add-zero) refl
@@ -15,10 +14,6 @@ flat_map-range_suc f a (suc n) =
 
 flat_map-range_more : {A : Type 0} (f : ℕ → List A) (n : ℕ) → flat_map f (range_with_len 0 (n + 1)) ≡ flat_map f (range_with_len 0 n) ++ f n
 flat_map-range_more f n = rw add-one (flat_map-range_suc f 0 n ∙ ap (λ k. flat_map f (range_with_len 0 n) ++ f k) (omega arith))
-
--- no step yet
-pub with_clauses-none : (formula : Cnf) → formula ≡ with_clauses formula []
-with_clauses-none formula = ap (λ all. record formula { clauses = all }) (sym (append-nil formula.clauses))
 
 -- one step later
 pub pushed_more : (formula now next : Cnf) (f : ℕ → List Clause) (n : ℕ) (clauses : List Clause) → now ≡ with_clauses formula (flat_map f (range_with_len 0 n))
@@ -48,17 +43,3 @@ HasRoom-after formula now f m n all each is more has =
     ap (λ g. length g.clauses) is ∙ length-append formula.clauses (flat_map f (range_with_len 0 n)) in
     let last : m * n + m ≤ m * all = grind arith in
     omega arith
-
--- what a step that fails has begun
-pub begun_after : (formula now next : Cnf) (clauses : List Clause) → now ≡ with_clauses formula clauses → IsBegun now next → IsBegun formula next
-begun_after formula now next clauses before begun = record {
-  more = clauses ++ begun.more;
-  is = begun.is ∙ ap (λ g. with_clauses g begun.more) before ∙ ap (λ all. record formula { clauses = all }) (append_assoc formula.clauses clauses begun.more);
-}
-
--- the clauses that were there
-pub take-begun : (formula now : Cnf) → IsBegun formula now → take (length formula.clauses) now.clauses ≡ formula.clauses
-take-begun formula now begun = ap (λ f. take (length formula.clauses) f.clauses) begun.is ∙ take-append_seam formula.clauses begun.more
-
-pub length-begun : (formula now : Cnf) → IsBegun formula now → length formula.clauses ≤ length now.clauses
-length-begun formula now begun = omega (arith, ap (λ f. length f.clauses) begun.is, length-append formula.clauses begun.more)

@@ -1,5 +1,5 @@
 -- The clauses of one variable say that it is true where `more`, or else where `fewer` and the cell.
-use Rattle.std.proofs.Common.{◌≡◌, ℕ, zero, suc, ◌+◌, ◌*◌, ℤ, pos, negsuc, List, Bool, true, false, not, ◌||◌, ◌&&◌, refl, sym, ◌∙◌, add-one}
+use Rattle.std.proofs.Common.{◌≡◌, ℕ, zero, suc, ℤ, pos, negsuc, List, Bool, true, false, not, ◌||◌, ◌&&◌, refl, sym, add-one}
 use Rattle.std.proofs.Math.Bool.{beq}
 use Rattle.lls_lit.specs.Literal.{negation}
 use Rattle.lls_lit.specs.Formula.{value_at, is_true, satisfies}

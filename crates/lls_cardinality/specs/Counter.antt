@@ -5,26 +5,31 @@ use Rattle.std.specs.List.{count_by, flat_map, range_with_len}
 use Rattle.lls_lit.specs.Literal.{negation}
 use Rattle.lls_lit.specs.Formula.{Clause, Cnf, is_true, satisfies}
 
--- The variable that says that at least j + 1 of the first k + 1 cells are live. The counter's variables follow `base` others.
+-- The variable that says that at least j + 1 of the first k + 1 cells are live. `base` variables come before the counter's.
 abbrev pub at_least : ℕ → ℕ → ℕ → ℕ → ℤ
 at_least base top k j = pos (base + k * top + j + 1)
 
--- At least j + 1 of the cells up to one are live (`this`) where as many of those before it are (`more`), or else the cell
--- is and one fewer of those before it (`fewer`). Four clauses say so in both directions, in the order of `inner_clauses`.
--- Before the first cell `more` is false; `fewer` is true for j = 0, and before the first cell false for any other j. There
--- a literal that is false is dropped, and a clause with one that is true is left out.
-abbrev pub corner_clauses : ℤ → ℤ → List Clause
-corner_clauses cell this = (negation cell ∷ this ∷ []) ∷ (negation this ∷ cell ∷ []) ∷ []
+-- Of the cells up to one at least j + 1 are live (`this`) exactly where of those before it at least j + 1 are (`more`), or
+-- at least j are (`fewer`) and so is the cell. Four clauses say that.
+abbrev pub inner_clauses : ℤ → ℤ → ℤ → ℤ → List Clause
+inner_clauses cell this more fewer =
+    (negation more ∷ this ∷ [])
+    ∷ (negation cell ∷ negation fewer ∷ this ∷ [])
+    ∷ (negation this ∷ more ∷ cell ∷ [])
+    ∷ (negation this ∷ more ∷ fewer ∷ []) ∷ []
 
+-- For j = 0 `fewer` is true. A clause with a literal that is true is left out, and a literal that is false is dropped.
+abbrev pub first_count_clauses : ℤ → ℤ → ℤ → List Clause
+first_count_clauses cell this more =
+    (negation more ∷ this ∷ []) ∷ (negation cell ∷ this ∷ []) ∷ (negation this ∷ more ∷ cell ∷ []) ∷ []
+
+-- before the first cell `more` is false, and for any other j so is `fewer`
 abbrev pub first_cell_clauses : ℤ → ℤ → List Clause
 first_cell_clauses cell this = (negation this ∷ cell ∷ []) ∷ (negation this ∷ []) ∷ []
 
-abbrev pub first_count_clauses : ℤ → ℤ → ℤ → List Clause
-first_count_clauses cell this more = (negation more ∷ this ∷ []) ∷ (negation cell ∷ this ∷ []) ∷ (negation this ∷ more ∷ cell ∷ []) ∷ []
-
-abbrev pub inner_clauses : ℤ → ℤ → ℤ → ℤ → List Clause
-inner_clauses cell this more fewer =
-    (negation more ∷ this ∷ []) ∷ (negation cell ∷ negation fewer ∷ this ∷ []) ∷ (negation this ∷ more ∷ cell ∷ []) ∷ (negation this ∷ more ∷ fewer ∷ []) ∷ []
+-- both, for the first cell and j = 0
+abbrev pub corner_clauses : ℤ → ℤ → List Clause
+corner_clauses cell this = (negation cell ∷ this ∷ []) ∷ (negation this ∷ cell ∷ []) ∷ []
 
 -- the clauses of the variable for the kth cell and the count j + 1
 abbrev pub place_clauses : ℕ → ℕ → ℤ → ℕ → ℕ → List Clause
@@ -53,7 +58,7 @@ with_counter formula top cells = record {
 abbrev pub live_among : List Bool → List ℤ → ℕ → ℕ
 live_among values cells n = count_by (is_true values) (take n cells)
 
--- each of the counter's variables is true exactly where as many cells are live
+-- each of the counter's variables is true exactly where at least j + 1 of the first k + 1 cells are live
 abbrev pub Counts : List Bool → ℕ → ℕ → List ℤ → Type 0
 Counts values base top cells =
     (k j : ℕ) → k < length cells → j < top → is_true values (at_least base top k j) ≡ nat_le (j + 1) (live_among values cells (k + 1))

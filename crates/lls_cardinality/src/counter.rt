@@ -1,5 +1,5 @@
 // A counter of live cells.
-ghost use Rattle.std.specs.Prelude.{◌≡◌, ◌<◌, ◌≤◌, ◌+◌, ◌*◌, ◌↔◌, Bool, List, true, length, OnOk, OnErr, IfOk, slice_index_or, pos};
+ghost use Rattle.std.specs.Prelude.{◌≡◌, ◌<◌, ◌≤◌, ◌+◌, ◌*◌, ◌↔◌, Bool, List, true, length, OnOk, OnErr, IfOk};
 ghost use Rattle.std.specs.List.{flat_map, range_with_len};
 ghost use Rattle.lls_lit.specs.Formula.{is_literal_of, is_within, satisfies};
 ghost use Rattle.lls_cardinality.specs.Counter.{at_least, place_clauses, counter_clauses, with_counter, Counts, HasCounts};
@@ -38,7 +38,8 @@ fn push_row(formula: &mut Formula, counter: CounterVars, cell: Lit, k: u32) -> R
     requires row { counter.base + (k + 1) * counter.top ≤ formula.old.vars }
     requires vars { formula.old.vars ≤ Var.MOST }
     requires room { HasRoom formula.old (MOST_CLAUSES_EACH * counter.top) }
-    ensures ok { OnOk result (formula.new ≡ with_clauses formula.old (flat_map (place_clauses counter.base counter.top cell k) (range_with_len 0 counter.top))) }
+    ensures ok { OnOk result (formula.new ≡ with_clauses formula.old
+        (flat_map (place_clauses counter.base counter.top cell k) (range_with_len 0 counter.top))) }
     ensures err { OnErr result (IsBegun formula.old formula.new) }
 {
     for j in 0..counter.top {
@@ -54,11 +55,12 @@ fn push_rows(formula: &mut Formula, counter: CounterVars, cells: &[Lit]) -> Resu
     requires rows { counter.base + length cells.now * counter.top ≤ formula.old.vars }
     requires vars { formula.old.vars ≤ Var.MOST }
     requires room { HasRoom formula.old (MOST_CLAUSES_EACH * counter.top * length cells.now) }
-    ensures ok { OnOk result (formula.new ≡ with_clauses formula.old (counter_clauses counter.base counter.top cells.now)) }
+    ensures ok { OnOk result
+        (formula.new ≡ with_clauses formula.old (counter_clauses counter.base counter.top cells.now)) }
     ensures err { OnErr result (IsBegun formula.old formula.new) }
 {
-    for k in 0..cells.len() {
-        push_row(formula, counter, cells[k], k as u32)?;
+    for (k, cell) in cells.iter().enumerate() {
+        push_row(formula, counter, *cell, k as u32)?;
     }
     Ok(())
 }
@@ -72,17 +74,20 @@ pub fn push_counter(formula: &mut Formula, cells: &[Lit], top: u32) -> Result<Co
     requires within { is_within formula.old.vars cells.now ≡ true }
     requires most { length cells.now * top ≤ CounterVars.MOST }
     requires vars { formula.old.vars + length cells.now * top ≤ Var.MOST }
-    requires room { length formula.old.clauses + MOST_CLAUSES_EACH * (length cells.now * top) ≤ Formula.MOST_CLAUSES }
+    requires room { length formula.old.clauses + MOST_CLAUSES_EACH * (length cells.now * top)
+        ≤ Formula.MOST_CLAUSES }
     ensures pushed { OnOk result (formula.new ≡ with_counter formula.old top cells.now) }
-    ensures counter { IfOk result (λ counter. counter ≡ record { base = formula.old.vars; cells = length cells.now; top = top }) }
+    ensures counter { IfOk result (λ counter. counter
+        ≡ record { base = formula.old.vars; cells = length cells.now; top = top }) }
     ensures err { OnErr result (formula.new ≡ formula.old) }
 
-    // An assignment satisfies these clauses exactly where each variable is true where as many cells are live, and else false.
+    // An assignment satisfies these clauses exactly where each of the variables says rightly whether so many are live.
     ensures counts { (values : List Bool) → (satisfies values (counter_clauses formula.old.vars top cells.now) ≡ true)
         ↔ Counts values formula.old.vars top cells.now }
 
     // Any values of the old variables have values of the new ones behind them that satisfy these clauses.
-    ensures extends { (values : List Bool) → length values ≡ formula.old.vars → HasCounts values formula.old.vars top cells.now }
+    ensures extends { (values : List Bool) → length values ≡ formula.old.vars
+        → HasCounts values formula.old.vars top cells.now }
 {
     let clauses = formula.len();
     let base = formula.vars();

@@ -12,7 +12,7 @@ use lls_lit::{Lit, Var};
 /// The greatest number of clauses of one variable.
 pub const MOST_CLAUSES_EACH: usize = 4;
 
-/// That the first cell is live, so that one is.
+/// Pushes that at least one cell up to the first is live exactly where the first is.
 fn push_corner(formula: &mut Formula, cell: Lit, this: Lit) -> Result<(), Memory>
     requires within { is_within formula.old.vars (cell ∷ this ∷ []) ≡ true }
     requires room { HasRoom formula.old MOST_CLAUSES_EACH }
@@ -23,7 +23,7 @@ fn push_corner(formula: &mut Formula, cell: Lit, this: Lit) -> Result<(), Memory
     formula.push(&[this.negated(), cell])
 }
 
-/// That the first cell alone makes more than one live cell, which is false.
+/// Pushes that no more than one cell up to the first is live.
 fn push_first_cell(formula: &mut Formula, cell: Lit, this: Lit) -> Result<(), Memory>
     requires within { is_within formula.old.vars (cell ∷ this ∷ []) ≡ true }
     requires room { HasRoom formula.old MOST_CLAUSES_EACH }
@@ -34,7 +34,7 @@ fn push_first_cell(formula: &mut Formula, cell: Lit, this: Lit) -> Result<(), Me
     formula.push(&[this.negated()])
 }
 
-/// That one cell is live: one before it, or the cell.
+/// Pushes that at least one cell is live exactly where one before the last is (`more`), or the last.
 fn push_first_count(formula: &mut Formula, cell: Lit, this: Lit, more: Lit) -> Result<(), Memory>
     requires within { is_within formula.old.vars (cell ∷ this ∷ more ∷ []) ≡ true }
     requires room { HasRoom formula.old MOST_CLAUSES_EACH }
@@ -46,7 +46,8 @@ fn push_first_count(formula: &mut Formula, cell: Lit, this: Lit, more: Lit) -> R
     formula.push(&[this.negated(), more, cell])
 }
 
-/// That so many cells are live: as many before it, or one fewer before it and the cell.
+/// Pushes that so many cells are live exactly where as many before the last are (`more`), or the last and one fewer
+/// before it (`fewer`).
 fn push_inner(
     formula: &mut Formula,
     cell: Lit,
@@ -65,7 +66,7 @@ fn push_inner(
     formula.push(&[this.negated(), more, fewer])
 }
 
-/// Pushes the clauses of the variable of the kth cell and the count j + 1.
+/// Pushes the clauses of the variable for the kth cell and the count j + 1.
 pub fn push_place(
     formula: &mut Formula,
     counter: CounterVars,
