@@ -1,0 +1,6 @@
+pub mod Entries
+pub mod Tabled
+pub mod Values
+pub mod Parts
+pub mod Found
+pub mod Cut

@@ -1,0 +1,7 @@
+pub mod Trail
+pub mod Changes
+pub mod Tables
+pub mod Clauses
+pub mod Closed
+pub mod Sound
+pub mod Uip
