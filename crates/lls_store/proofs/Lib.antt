@@ -4,3 +4,5 @@ pub mod Values
 pub mod Parts
 pub mod Found
 pub mod Cut
+pub mod Sounds
+pub mod WorkedTrail

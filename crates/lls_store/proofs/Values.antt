@@ -1,13 +1,15 @@
 -- Values of literals.
-use Rattle.std.proofs.Common.{◌≡◌, ◌≢◌, zero, suc, ◌≤◌, Bool, true, false, not, ◌||◌, List, [], ◌∷◌, Some, None, refl, sym, ap, ◌∙◌, inl, inr, arith}
+use Rattle.std.proofs.Common.{◌≡◌, ◌≢◌, ℕ, zero, suc, ◌≤◌, Bool, true, false, not, ◌||◌, List, [], ◌∷◌, Some, None, refl, sym, ap, ◌∙◌, inl, inr, arith}
 use mathlib.Core.Bool.{beq}
 use Rattle.std.specs.Prelude.{ℤ, pos, negsuc, ◌⊎◌, Option, is_none, option_map, ◌↔◌}
 use Rattle.std.specs.Ordering.{int_eq}
 use Rattle.std.proofs.lemmas.Bool.{and_parts}
 use Rattle.std.proofs.lemmas.Bool.Decides.{eqb_tells, Decides-int_eq}
 use Rattle.lls_lit.specs.Literal.{variable_of, negation}
-use Rattle.lls_store.specs.Trail.{Entry, entry_of, has, IsUnset, has_variables_once}
+use Rattle.lls_lit.specs.Formula.{is_literal_of, is_within}
+use Rattle.lls_store.specs.Trail.{Entry, entry_of, literals_of, IsConsistent, has, IsUnset, has_variables_once}
 use Rattle.lls_store.specs.Tables.{is_positive}
+use Rattle.lls_store.proofs.Tabled.{variable_bounds}
 use Rattle.lls_store.proofs.Entries.{entry_of-cons_same, entry_of-cons_other, variable-entry_of}
 
 pub variable_of-negation : (l : ℤ) → variable_of (negation l) ≡ variable_of l
@@ -149,3 +151,31 @@ unset_answer es l not_true not_false = (
   λ _. record { not_true = false_is_true (has es l) not_true; not_false = false_is_true (has es (negation l)) not_false },
   λ _. refl,
 )
+
+self_negated : (l : ℤ) → l ≡ negation l → variable_of l ≡ 0
+self_negated (pos zero) same = refl
+self_negated (pos (suc n)) same = absurd cc
+self_negated (negsuc n) same = absurd cc
+
+literal_had : (vars : ℕ) (es : List Entry) (l : ℤ) → is_within vars (literals_of es) ≡ true → has es l ≡ true → is_literal_of vars l ≡ true
+literal_had vars [] l within is = absurd cc
+literal_had vars (e ∷ es) l within is =
+    let parts = and_parts (is_literal_of vars e.lit) (is_within vars (literals_of es)) within in
+    by_first (int_eq e.lit l) refl is (literal_had vars es l parts.1) where
+      by_first : (b : Bool) → int_eq e.lit l ≡ b → (b || has es l) ≡ true → (has es l ≡ true → is_literal_of vars l ≡ true) → is_literal_of vars l ≡ true
+      by_first true same either later = ap (is_literal_of vars) (sym ((Decides-int_eq e.lit l).0 same)) ∙ (and_parts (is_literal_of vars e.lit) (is_within vars (literals_of es)) within).0
+      by_first false same either later = later either
+
+both_found : (o : Option Entry) (l m : ℤ) → has_found o l ≡ true → has_found o m ≡ true → l ≡ m
+both_found None l m first second = absurd cc
+both_found (Some e) l m first second = sym ((Decides-int_eq e.lit l).0 first) ∙ (Decides-int_eq e.lit m).0 second
+
+-- where no variable stands twice, no literal is both true and false
+pub consistent : (vars : ℕ) (es : List Entry) → is_within vars (literals_of es) ≡ true → has_variables_once es ≡ true → IsConsistent es
+consistent vars es within once =
+    λ l is_true is_false.
+    let found = sym (has-entry_of es l once) ∙ is_true in
+    let found' = sym (has-entry_of es (negation l) once ∙ ap (λ v. has_found (entry_of es v) (negation l)) (variable_of-negation l)) ∙ is_false in
+    let none : variable_of l ≡ 0 = self_negated l (both_found (entry_of es (variable_of l)) l (negation l) found found') in
+    let some = variable_bounds vars (variable_of l) (literal_had vars es l within is_true) in
+    absurd (omega (arith, none, some.0))

@@ -5,3 +5,4 @@ pub mod Clauses
 pub mod Closed
 pub mod Sound
 pub mod Uip
+pub mod Worked

@@ -60,7 +60,11 @@ abbrev pub levels_after : ℕ → List Entry → List ℕ
 levels_after before [] = []
 levels_after before (e ∷ es) = let level = if is_decision e then before + 1 else before in level ∷ levels_after level es
 
--- no variable stands twice, so no literal beside its negation
+-- no literal is both true and false
+abbrev pub IsConsistent : List Entry → Type 0
+IsConsistent entries = (l : ℤ) → Has entries l → ¬ HasNegated entries l
+
+-- no variable stands twice
 abbrev pub has_variables_once : List Entry → Bool
 has_variables_once [] = true
 has_variables_once (e ∷ es) = is_none (entry_of es (variable_of e.lit)) && has_variables_once es

@@ -6,5 +6,9 @@
 
 mod tables;
 mod trail;
+#[cfg(test)]
+mod trail_tests;
+#[cfg(test)]
+mod worked_tests;
 
 pub use trail::Trail;

@@ -1,7 +1,7 @@
 // A trail.
 ghost use Rattle.std.specs.Prelude.{◌≡◌, ◌<◌, ◌≤◌, ◌-◌, ◌↔◌, true, false, length, take, slice_get, option_map, is_none, IfOk, IsSome};
 ghost use Rattle.lls_lit.specs.Literal.{variable_of};
-ghost use Rattle.lls_store.specs.Trail.{Has, HasNegated, IsUnset, IsTrail, decisions, level_of, literals_of, reason_of};
+ghost use Rattle.lls_store.specs.Trail.{Has, HasNegated, IsConsistent, IsUnset, IsTrail, decisions, level_of, literals_of, reason_of};
 ghost use Rattle.lls_store.specs.Changes.{cut_to, decided, empty_trail, forced, with_reason};
 
 use crate::tables::{is_positive, place_of};
@@ -60,6 +60,7 @@ impl Trail {
     pub fn len(&self) -> usize
         ensures len { result ≡ length self.now.entries }
         ensures kept { IsTrail self.now }
+        ensures consistent { IsConsistent self.now.entries }
     {
         self.lits.len()
     }
