@@ -4,5 +4,6 @@ pub mod Values
 pub mod Parts
 pub mod Found
 pub mod Cut
-pub mod Sounds
+pub mod Reasons
+pub mod Points
 pub mod WorkedTrail

@@ -16,7 +16,7 @@ use Rattle.lls_store.specs.Sound.{IsForced, IsSound}
 use Rattle.lls_store.specs.Uip.{HasOneCurrent, HasTwoCurrent, IsLast, resolved_on, LeadsTo, IsUip}
 use Rattle.lls_store.specs.Uip.LeadsTo.{reached, resolved}
 use Rattle.lls_store.specs.Worked.{lits, first_clause, second_clause, third_clause, worked_clauses, worked_trail}
-use Rattle.lls_store.proofs.Sounds.{IsSound-from_each}
+use Rattle.lls_store.proofs.Reasons.{IsSound-from_each}
 
 not_so : (b : Bool) → b ≡ false → b ≡ true → ⊥
 not_so b is_false is_true = cc
