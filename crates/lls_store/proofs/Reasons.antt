@@ -10,7 +10,8 @@ abbrev pub AreForced : List LiveClause → List Entry → List Entry → Type 0
 AreForced live before [] = Unit {0}
 AreForced live before (e ∷ es) = ((reason : ℕ) → e.reason ≡ Some reason → IsForced live before e.lit reason) × AreForced live (before ++ e ∷ []) es
 
-heads : (x y : Entry) (xs ys : List Entry) → x ∷ xs ≡ y ∷ ys → (x ≡ y) × (xs ≡ ys)
+-- equal lists have equal heads and equal tails
+pub heads : (x y : Entry) (xs ys : List Entry) → x ∷ xs ≡ y ∷ ys → (x ≡ y) × (xs ≡ ys)
 heads x y xs ys h = (cc, cc)
 
 forced_behind : (live : List LiveClause) (before es : List Entry) → AreForced live before es → (between after : List Entry) (e : Entry) (reason : ℕ) → es ≡ between ++ e ∷ after → e.reason ≡ Some reason → IsForced live (before ++ between) e.lit reason

@@ -16,6 +16,7 @@ use Rattle.lls_store.specs.Sound.{IsForced, IsSound}
 use Rattle.lls_store.specs.Uip.{HasOneCurrent, HasTwoCurrent, IsLast, resolved_on, LeadsTo, IsUip}
 use Rattle.lls_store.specs.Uip.LeadsTo.{reached, resolved}
 use Rattle.lls_store.specs.Worked.{lits, first_clause, second_clause, third_clause, worked_clauses, worked_trail}
+use Rattle.lls_store.proofs.Points.{has_one_point}
 use Rattle.lls_store.proofs.Reasons.{IsSound-from_each}
 
 not_so : (b : Bool) → b ≡ false → b ≡ true → ⊥
@@ -195,3 +196,10 @@ uip = record {
   all_false = each_of_two (λ l. HasNegated worked_trail.entries l) (negsuc 2) (negsuc 1) refl refl;
   leads = resolved third_clause.lits point (negsuc 2) second_clause two_left_over three_last (subst (λ (s : Literals). LeadsTo worked_clauses worked_trail s point) (sym resolvent) (reached point one_left));
 }
+
+-- -1 -4, the decisions' negations, is another set
+pub not_decisions : ¬ IsUip worked_clauses worked_trail third_clause.lits (lits (negsuc 0 ∷ negsuc 3 ∷ []))
+not_decisions other =
+    let same : point ≡ lits (negsuc 0 ∷ negsuc 3 ∷ []) = has_one_point worked_clauses worked_trail third_clause.lits point (lits (negsuc 0 ∷ negsuc 3 ∷ [])) uip other in
+    let P : Literals → Type 0 = λ s. IsIn s (negsuc 1) in
+    not_so (list_any (int_eq (negsuc 1)) (negsuc 0 ∷ negsuc 3 ∷ [])) refl (among (negsuc 0 ∷ negsuc 3 ∷ []) (negsuc 1) (subst P same (is_in (negsuc 1 ∷ negsuc 3 ∷ []) (negsuc 1) refl)))

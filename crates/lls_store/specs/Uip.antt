@@ -51,3 +51,7 @@ pub record IsUip (live : List LiveClause) (trail : TrailState) (lits uip : Liter
   pub above_zero : 0 < trail.current
   pub all_false : (l : ℤ) → IsIn lits l → HasNegated trail.entries l
   pub leads : LeadsTo live trail lits uip
+
+-- no literals lead to two such sets
+abbrev pub HasOnePoint : Type 0
+HasOnePoint = (live : List LiveClause) (trail : TrailState) (lits first second : Literals) → IsUip live trail lits first → IsUip live trail lits second → first ≡ second

@@ -1,3 +1,4 @@
+use Rattle.lls_store.proofs.Points.{has_one_point}
 use Rattle.lls_store.proofs.WorkedTrail as worked
 use Rattle.lls_store.proofs.worked_tests.worked_facts.Goals as goal
 
@@ -18,3 +19,9 @@ returns-clause-not_sound c = worked.not_sound
 
 pub returns-clause-uip : goal.returns-clause-uip
 returns-clause-uip c = worked.uip
+
+pub returns-clause-not_decisions : goal.returns-clause-not_decisions
+returns-clause-not_decisions c = worked.not_decisions
+
+pub returns-clause-one_point : goal.returns-clause-one_point
+returns-clause-one_point c = has_one_point
