@@ -1,0 +1,9 @@
+pub mod Entries
+pub mod Tabled
+pub mod Values
+pub mod Parts
+pub mod Found
+pub mod Cut
+pub mod Reasons
+pub mod Points
+pub mod WorkedTrail

@@ -1,0 +1,38 @@
+use Rattle.std.proofs.Common.{◌≡◌, ◌+◌, ◌≤◌, None, Some, ap, ◌∙◌, arith}
+use Rattle.std.specs.Prelude.{vec_capacity}
+use Rattle.std.proofs.lemmas.List.{length-map}
+use Rattle.lls_lit.specs.Literal.{variable_of}
+use Rattle.lls_store.specs.Trail.{TrailState, entry_of}
+use Rattle.lls_store.specs.Tables.{entry_in, trail_in}
+use Rattle.lls_store.proofs.Parts.{room_left, AreTables-push, trail_in-push}
+use Rattle.lls_store.proofs.Found.{entry_of-free}
+use Rattle.lls_store.proofs.trail.Trail.force.Goals as goal
+
+pub push_reserved-requires : goal.push_reserved-requires
+push_reserved-requires c =
+    let m = c.self.inside in
+    let at : c.place_of-place.result + 1 ≡ variable_of c.args.lit = c.place_of-place.ensures ∙ c.var.ensures.var in
+    let most : variable_of c.args.lit ≤ m.vars = rw (ap (λ (t : TrailState). t.vars) c.self.view_is) c.requires.within in
+    let t = trail_in m.vars m.current m.levels.items m.reasons.items m.lits.items in
+    let none : entry_of t.entries (c.place_of-place.result + 1) ≡ None = ap (entry_of t.entries) at ∙ entry_of-free t c.args.self.now c.args.lit c.self.view_is c.self.invariant.is_trail c.requires.unset in
+    omega (arith, room_left t (vec_capacity m.lits) c.place_of-place.result m.values.items m.levels.items m.reasons.items c.self.invariant (omega (arith, at, most)) none, c.self.invariant.room_for_all, length-map m.lits.items (entry_in m.levels.items m.reasons.items))
+
+pub invariant_of-self : goal.invariant_of-self
+invariant_of-self c =
+    let m = c.self.inside in
+    let at : c.place_of-place.result + 1 ≡ variable_of c.args.lit = c.place_of-place.ensures ∙ c.var.ensures.var in
+    let most : variable_of c.args.lit ≤ m.vars = rw (ap (λ (t : TrailState). t.vars) c.self.view_is) c.requires.within in
+    let t = trail_in m.vars m.current m.levels.items m.reasons.items m.lits.items in
+    let none = entry_of-free t c.args.self.now c.args.lit c.self.view_is c.self.invariant.is_trail c.requires.unset in
+    rw (c.push_reserved.ensures.items, c.push_reserved.ensures.capacity, c.is_positive.ensures)
+    (AreTables-push m.vars m.current m.current (vec_capacity m.lits) c.place_of-place.result m.values.items m.levels.items m.reasons.items m.lits.items c.args.lit (Some c.args.reason) c.self.invariant at most none (omega arith))
+
+pub returns : goal.returns
+returns c =
+    let m = c.self.inside in
+    let at : c.place_of-place.result + 1 ≡ variable_of c.args.lit = c.place_of-place.ensures ∙ c.var.ensures.var in
+    let most : variable_of c.args.lit ≤ m.vars = rw (ap (λ (t : TrailState). t.vars) c.self.view_is) c.requires.within in
+    let t = trail_in m.vars m.current m.levels.items m.reasons.items m.lits.items in
+    let none = entry_of-free t c.args.self.now c.args.lit c.self.view_is c.self.invariant.is_trail c.requires.unset in
+    rw (c.push_reserved.ensures.items, ← c.self.view_is)
+    (trail_in-push m.vars m.current m.current (vec_capacity m.lits) c.place_of-place.result m.values.items m.levels.items m.reasons.items m.lits.items c.args.lit (Some c.args.reason) c.self.invariant at most none)

@@ -1,0 +1,14 @@
+//! The solver's trail: which literals are true, since when, and by which clauses.
+//!
+//! What it means of a trail and of live clauses that unit propagation has nothing left to do, that reasons are sound, and which
+//! clause is that of the first unique implication point, stands in specs/.
+#![tactic(auto)]
+
+mod tables;
+mod trail;
+#[cfg(test)]
+mod trail_tests;
+#[cfg(test)]
+mod worked_tests;
+
+pub use trail::Trail;
