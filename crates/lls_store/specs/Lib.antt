@@ -5,4 +5,5 @@ pub mod Clauses
 pub mod Closed
 pub mod Sound
 pub mod Uip
+pub mod Store
 pub mod Worked

@@ -4,6 +4,7 @@
 //! clause is that of the first unique implication point, stands in specs/.
 #![tactic(auto)]
 
+mod store;
 mod tables;
 mod trail;
 #[cfg(test)]
@@ -11,4 +12,5 @@ mod trail_tests;
 #[cfg(test)]
 mod worked_tests;
 
+pub use store::{MOST_CLAUSES, MOST_ID, Store};
 pub use trail::Trail;
