@@ -22,7 +22,7 @@ use Rattle.lls_grid.proofs.InOrder.{length-cells_of}
 use Rattle.lls_transition.specs.Clause.{with_clauses}
 use Rattle.lls_encode.specs.Room.{HasRoom}
 use Rattle.lls_encode.proofs.Steps.{flat_map-map, length-flat_map_most}
-use Rattle.lls_encode.proofs.Bounds.{length-fixed_clauses}
+use Rattle.lls_encode.proofs.Bounds.{length-fixed_clauses, length-generation_clauses}
 use Rattle.lls_encode.proofs.Firsts.{length-name_clauses}
 use Rattle.lls_encode.proofs.Framed.{IsFramedLine, framed_place, framed_both}
 use Rattle.lls_encode.proofs.Values.{is_true-cell}
@@ -174,6 +174,21 @@ absent_from p kept unsatisfiable history solution =
     let none = unsatisfiable (cells_of history) (length-cells p kept history solution) in
     let all = satisfies-formula_of p history solution in
     cc
+
+-- all clauses together are few
+pub few_clauses : (p : PosedProblem) → IsPosed p.posed → length (formula_of p).clauses < 200000000
+unfolding formula_of
+few_clauses p kept =
+    omega (
+      arith,
+      kept.most,
+      kept.generations.1,
+      length-append (fixed_part p ++ name_part p) (transition_part p),
+      length-append (fixed_part p) (name_part p),
+      length-flat_map_most (λ k. fixed_clauses k (cell_number p.posed.cells k).kind) 1 (λ k. length-fixed_clauses k _) 0 (length p.posed.cells),
+      length-flat_map_most (name_clauses p.posed.cells) 2 (length-name_clauses p.posed.cells) 0 (length p.posed.cells),
+      length-flat_map_most (generation_clauses p) 2230272 (λ t. length-generation_clauses p t kept.width.1 kept.height.1) 0 (p.posed.generations - 1),
+    )
 
 -- what the three pushes make of a new formula
 pub made : (p : PosedProblem) (empty fixed names all : Cnf) → empty ≡ record { vars = length p.posed.cells; clauses = [] }

@@ -1,5 +1,5 @@
 // The formula of a problem.
-ghost use Rattle.std.specs.Prelude.{◌≡◌, Bool, true, List, length, IfOk};
+ghost use Rattle.std.specs.Prelude.{◌≡◌, ◌<◌, Bool, true, List, length, IfOk};
 ghost use Rattle.lls_grid.specs.History.{History};
 ghost use Rattle.lls_lit.specs.Formula.{satisfies, IsUnsatisfiable};
 ghost use Rattle.lls_problem.specs.Solution.{IsSolution, IsAbsent};
@@ -13,11 +13,15 @@ use lls_cnf::Formula;
 use lls_problem::Problem;
 use std::alloc::Global;
 
+/// Every formula of a problem has fewer clauses.
+pub const CLAUSES_BELOW: usize = 200_000_000;
+
 /// The formula of a problem, with one variable a cell in the order generation, row, column.
 /// The clauses come in this order: fixed cells, names, transitions. What is demanded of symmetry, of a period or of
 /// differing generations has no clauses yet.
 pub fn encode(alloc: Global, problem: &Problem) -> Result<Formula, Memory>
     ensures formula { IfOk result (λ formula. formula ≡ formula_of problem.now) }
+    ensures few { IfOk result (λ formula. length formula.clauses < CLAUSES_BELOW) }
 
     // Every solution has an assignment that satisfies it and begins with the solution's cells.
     ensures complete { IfOk result (λ formula. (history : History) → IsSolution problem.now history

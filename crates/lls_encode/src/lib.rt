@@ -10,4 +10,4 @@ mod tests;
 mod transition;
 
 pub use decoding::decode;
-pub use formula::encode;
+pub use formula::{CLAUSES_BELOW, encode};

@@ -28,8 +28,9 @@ pub enum Progress {
 
 /// A checker of the steps of a proof that a formula has no satisfying assignment.
 ///
-/// It borrows the formula, whose clauses have the ids from 1. A step takes time by its literals and hints and by the
-/// literals of the hints' clauses, and not by the number of live clauses.
+/// It borrows the formula, whose clauses have the ids from 1. An addition takes time by its literals and hints and by the
+/// literals of the hints' clauses, and not by the number of live clauses. So does a deletion on average: now and then the
+/// store of added clauses is made anew.
 #[derive(Drop)]
 pub struct Checker<'f> {
     alloc: Global,

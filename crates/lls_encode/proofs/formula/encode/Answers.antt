@@ -1,5 +1,5 @@
 -- The three parts in their order make the formula. The cells of a solution satisfy it, and what satisfies it is a solution.
-use Rattle.std.proofs.Common.{◌≡◌, ◌*◌, ◌∙◌, ap, sym, length, [], subst, ℕ, List}
+use Rattle.std.proofs.Common.{◌≡◌, ◌<◌, ◌*◌, ◌∙◌, ap, sym, length, [], subst, ℕ, List}
 use Rattle.lls_lit.specs.Formula.{Clause, Cnf, satisfies, IsUnsatisfiable}
 use Rattle.std.specs.List.{flat_map, range_with_len}
 use Rattle.lls_search_file.specs.declared.cell.Cell.{Cell}
@@ -8,7 +8,7 @@ use Rattle.lls_encode.specs.Formula.{fixed_clauses, name_clauses, fixed_part, na
 use Rattle.lls_transition.specs.Clause.{with_clauses}
 use Rattle.lls_encode.specs.Room.{HasRoom}
 use Rattle.lls_encode.specs.History.{HasAssignment}
-use Rattle.lls_encode.proofs.Complete.{HasAssignment-cells, absent_from, made, room_left, room_for_names}
+use Rattle.lls_encode.proofs.Complete.{HasAssignment-cells, absent_from, few_clauses, made, room_left, room_for_names}
 use Rattle.lls_encode.proofs.Sound.{IsSolution-history_of, unsatisfiable_from}
 use Rattle.lls_encode.proofs.formula.encode.Goals as goal
 
@@ -46,6 +46,10 @@ returns-clause-formula c =
     let fixed : c.push_fixed.new.formula ≡ with_clauses c.new-formula.result (fixed_part p) = c.in_ok-push_fixed.ensures ∙ ap (λ xs. with_clauses c.new-formula.result (fixed_of xs)) cells in
     let names : c.push_names.new.formula ≡ with_clauses c.push_fixed.new.formula (name_part p) = c.in_ok-push_names.ensures ∙ ap (λ xs. with_clauses c.push_fixed.new.formula (names_of xs)) cells in
     made p c.new-formula.result c.push_fixed.new.formula c.push_names.new.formula c.push_transitions.new.formula empty fixed names c.in_ok-push_transitions.ensures
+
+pub returns-clause-few : goal.returns-clause-few
+returns-clause-few c =
+    subst (λ (f : Cnf). length f.clauses < 200000000) (sym (returns-clause-formula c)) (few_clauses c.args.problem.now c.posed-posed.ensures.kept)
 
 pub returns-clause-complete : goal.returns-clause-complete
 returns-clause-complete c = λ history solution.
