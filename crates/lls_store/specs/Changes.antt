@@ -1,5 +1,5 @@
 -- What changes a trail.
-use Rattle.std.specs.Prelude.{ℕ, ◌+◌, ℤ, List, [], ◌∷◌, ◌++◌, map, take_while, nat_le, Some, None, if◌then◌else◌, ◌==◌}
+use Rattle.std.specs.Prelude.{ℕ, ◌+◌, ℤ, List, [], ◌∷◌, ◌++◌, map, take_while, nat_le, Option, Some, None, if◌then◌else◌, ◌==◌}
 use Rattle.lls_lit.specs.Literal.{variable_of}
 use Rattle.lls_store.specs.Trail.{Entry, TrailState}
 
@@ -7,16 +7,20 @@ use Rattle.lls_store.specs.Trail.{Entry, TrailState}
 abbrev pub empty_trail : ℕ → TrailState
 empty_trail vars = record { vars = vars; current = 0; entries = [] }
 
+-- the literal is true at a level, which becomes the current one
+abbrev pub taken : TrailState → ℤ → ℕ → Option ℕ → TrailState
+taken trail l level reason = record trail {
+  current = level;
+  entries = trail.entries ++ record { lit = l; level = level; reason = reason } ∷ [];
+}
+
 -- the literal is taken as true, which begins a level
 abbrev pub decided : TrailState → ℤ → TrailState
-decided trail l = record trail {
-  current = trail.current + 1;
-  entries = trail.entries ++ record { lit = l; level = trail.current + 1; reason = None } ∷ [];
-}
+decided trail l = taken trail l (trail.current + 1) None
 
 -- a clause makes the literal true
 abbrev pub forced : TrailState → ℤ → ℕ → TrailState
-forced trail l reason = record trail { entries = trail.entries ++ record { lit = l; level = trail.current; reason = Some reason } ∷ [] }
+forced trail l reason = taken trail l trail.current (Some reason)
 
 -- the entries up to the first above the level
 abbrev pub entries_up_to : ℕ → List Entry → List Entry

@@ -1,8 +1,8 @@
 // A trail.
-ghost use Rattle.std.specs.Prelude.{◌≡◌, ◌<◌, ◌≤◌, ◌-◌, ◌↔◌, true, false, length, take, slice_get, option_map, is_none, IfOk, IsSome};
+ghost use Rattle.std.specs.Prelude.{◌≡◌, ◌<◌, ◌≤◌, ◌+◌, ◌-◌, if◌then◌else◌, ◌↔◌, true, false, length, take, slice_get, option_map, is_none, IfOk, IsSome};
 ghost use Rattle.lls_lit.specs.Literal.{variable_of};
 ghost use Rattle.lls_store.specs.Trail.{Has, HasNegated, IsConsistent, IsUnset, IsTrail, decisions, level_of, literals_of, reason_of};
-ghost use Rattle.lls_store.specs.Changes.{cut_to, decided, empty_trail, forced, with_reason};
+ghost use Rattle.lls_store.specs.Changes.{taken, cut_to, decided, empty_trail, forced, with_reason};
 
 use crate::tables::{is_positive, place_of};
 use lls_base::Memory;
@@ -124,12 +124,8 @@ impl Trail {
         requires unset { IsUnset self.old.entries lit }
         ensures { self.new ≡ decided self.old lit }
     {
-        let place = place_of(lit.var());
-        self.current += 1;
-        self.lits.push_reserved(lit);
-        self.values[place] = Some(is_positive(lit));
-        self.levels[place] = self.current;
-        self.reasons[place] = None;
+        let level = self.current + 1;
+        self.put(lit, level, None);
     }
 
     /// Makes a literal that has no value true at the current level, forced by the clause of that number.
@@ -138,11 +134,8 @@ impl Trail {
         requires unset { IsUnset self.old.entries lit }
         ensures { self.new ≡ forced self.old lit reason }
     {
-        let place = place_of(lit.var());
-        self.lits.push_reserved(lit);
-        self.values[place] = Some(is_positive(lit));
-        self.levels[place] = self.current;
-        self.reasons[place] = Some(reason);
+        let level = self.current;
+        self.put(lit, level, Some(reason));
     }
 
     /// Takes back every literal above a level, which becomes the current one.
@@ -162,6 +155,21 @@ impl Trail {
         ensures { self.new ≡ with_reason self.old var reason }
     {
         self.reasons[place_of(var)] = Some(reason);
+    }
+
+    // Makes a literal that has no value true: at the next level where it has no reason, else at the current one.
+    fn put(&mut self, lit: Lit, level: u32, reason: Option<u32>)
+        requires within { variable_of lit ≤ self.old.vars }
+        requires unset { IsUnset self.old.entries lit }
+        requires level { level ≡ self.old.current + (if is_none reason then 1 else 0) }
+        ensures { self.new ≡ taken self.old lit level reason }
+    {
+        let place = place_of(lit.var());
+        self.current = level;
+        self.lits.push_reserved(lit);
+        self.values[place] = Some(is_positive(lit));
+        self.levels[place] = level;
+        self.reasons[place] = reason;
     }
 
     // Takes back the last literal.

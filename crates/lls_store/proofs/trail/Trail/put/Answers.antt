@@ -1,4 +1,4 @@
-use Rattle.std.proofs.Common.{◌≡◌, ◌+◌, ◌≤◌, None, ap, refl, ◌∙◌, arith}
+use Rattle.std.proofs.Common.{◌≡◌, ◌+◌, ◌≤◌, None, is_none, cond, ap, sym, ◌∙◌, arith}
 use Rattle.std.specs.Prelude.{vec_capacity}
 use Rattle.std.proofs.lemmas.List.{length-map}
 use Rattle.lls_lit.specs.Literal.{variable_of}
@@ -6,7 +6,7 @@ use Rattle.lls_store.specs.Trail.{TrailState, entry_of}
 use Rattle.lls_store.specs.Tables.{entry_in, trail_in}
 use Rattle.lls_store.proofs.Parts.{room_left, AreTables-push, trail_in-push}
 use Rattle.lls_store.proofs.Found.{entry_of-free}
-use Rattle.lls_store.proofs.trail.Trail.decide.Goals as goal
+use Rattle.lls_store.proofs.trail.Trail.put.Goals as goal
 
 pub push_reserved-requires : goal.push_reserved-requires
 push_reserved-requires c =
@@ -25,7 +25,7 @@ invariant_of-self c =
     let t = trail_in m.vars m.current m.levels.items m.reasons.items m.lits.items in
     let none = entry_of-free t c.args.self.now c.args.lit c.self.view_is c.self.invariant.is_trail c.requires.unset in
     rw (c.push_reserved.ensures.items, c.push_reserved.ensures.capacity, c.is_positive.ensures)
-    (AreTables-push m.vars m.current (m.current + 1) (vec_capacity m.lits) c.place_of-place.result m.values.items m.levels.items m.reasons.items m.lits.items c.args.lit None c.self.invariant at most none refl)
+    (AreTables-push m.vars m.current c.args.level (vec_capacity m.lits) c.place_of-place.result m.values.items m.levels.items m.reasons.items m.lits.items c.args.lit c.args.reason c.self.invariant at most none (c.requires.level ∙ ap (λ (t : TrailState). t.current + cond (is_none c.args.reason) 1 0) (sym c.self.view_is)))
 
 pub returns : goal.returns
 returns c =
@@ -35,4 +35,4 @@ returns c =
     let t = trail_in m.vars m.current m.levels.items m.reasons.items m.lits.items in
     let none = entry_of-free t c.args.self.now c.args.lit c.self.view_is c.self.invariant.is_trail c.requires.unset in
     rw (c.push_reserved.ensures.items, ← c.self.view_is)
-    (trail_in-push m.vars m.current (m.current + 1) (vec_capacity m.lits) c.place_of-place.result m.values.items m.levels.items m.reasons.items m.lits.items c.args.lit None c.self.invariant at most none)
+    (trail_in-push m.vars m.current c.args.level (vec_capacity m.lits) c.place_of-place.result m.values.items m.levels.items m.reasons.items m.lits.items c.args.lit c.args.reason c.self.invariant at most none)
