@@ -7,7 +7,7 @@ ghost use Rattle.lls_prooflog.specs.Number.{digit_zero, is_zeros, number_in, cap
 
 use crate::{LineFault, Step};
 use lls_lit::{Lit, Var};
-use lls_text::{Word, digits_number, is_digits};
+use lls_text::{Word, digits_number};
 
 /// A number as it is written: digits, with or without a `-`.
 #[derive(Clone, Copy, Debug)]
@@ -83,10 +83,7 @@ fn number_in(text: &[u8]) -> Option<Number>
         [b'-', digits @ ..] => (true, digits),
         _ => (false, text),
     };
-    if !is_digits(digits) {
-        return None;
-    }
-    let size = digits_number(digits);
+    let size = digits_number(digits)?;
     Some(Number { is_negative, size })
 }
 

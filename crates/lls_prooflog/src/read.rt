@@ -29,7 +29,7 @@ pub fn read_line(alloc: Global, line: &[u8]) -> Result<Option<Step>, LineError>
     let Some(first) = words.next() else {
         return Ok(None);
     };
-    if is_deletion(line) {
+    if is_deletion(&words) {
         words.next();
         read_deletion(alloc, &first, words)
     } else {
@@ -37,13 +37,11 @@ pub fn read_line(alloc: Global, line: &[u8]) -> Result<Option<Step>, LineError>
     }
 }
 
-// Whether the second word is `d`.
-fn is_deletion(line: &[u8]) -> bool
-    ensures { result ≡ begins_d (drop 1 (words_of line.now)) }
+// Whether the next word is `d`.
+fn is_deletion(words: &Words) -> bool
+    ensures { result ≡ begins_d words.now }
 {
-    let mut words = Words::new(line);
-    words.next();
-    match words.next() {
+    match words.peek() {
         Some(second) => second.text == b"d".as_slice(),
         None => false,
     }

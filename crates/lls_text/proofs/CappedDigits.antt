@@ -20,7 +20,7 @@ digit_at digits i lt all =
       | false ↦ λ none. sym (list_all_at is_ascii_digit digits i 0 lt none) ∙ all
     ] refl
 
-digit_range : (b : ℕ) → is_ascii_digit b ≡ true → IsInRange 48 57 b
+pub digit_range : (b : ℕ) → is_ascii_digit b ≡ true → IsInRange 48 57 b
 digit_range b e = grind (arith, nat_tests)
 
 pub capped_digits : (digits : List ℕ) (i size : ℕ) → i < length digits → list_all is_ascii_digit digits ≡ true → size ≡ min (digits_value 10 (take i digits)) (2 ^ 64 - 1)

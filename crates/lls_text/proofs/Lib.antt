@@ -4,3 +4,4 @@ pub mod Printed
 pub mod NumberBytes
 pub mod LineCounts
 pub mod CappedDigits
+mod ShortDigits

@@ -5,7 +5,7 @@ mod digits;
 mod lines;
 mod words;
 
-pub use digits::{digits_number, is_digits};
+pub use digits::digits_number;
 pub use lines::{Lines, begins_with, is_blank_line};
 pub use words::{Word, Words, is_blank};
 

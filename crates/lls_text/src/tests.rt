@@ -65,9 +65,12 @@ fn lines_are_told_by_their_first_byte(rt: HostRuntime) -> Result<(), Fail> {
 
 #[test]
 fn digits_are_numbers(rt: HostRuntime) {
-    let rows: [(&[u8], Option<u64>); 7] = [
+    let rows: [(&[u8], Option<u64>); 10] = [
         (b"0", Some(0)),
         (b"007", Some(7)),
+        (b"9999999999999999999", Some(9_999_999_999_999_999_999)),
+        (b"00000000000000000012", Some(12)),
+        (b"1844674407370955161x", None),
         (b"18446744073709551615", Some(18_446_744_073_709_551_615)),
         (b"18446744073709551617", Some(18_446_744_073_709_551_615)),
         (b"", None),
@@ -75,11 +78,6 @@ fn digits_are_numbers(rt: HostRuntime) {
         (b"1 ", None),
     ];
     for (text, want) in rows {
-        let found = if is_digits(text) {
-            Some(digits_number(text))
-        } else {
-            None
-        };
-        assert_eq!(rt; found, want);
+        assert_eq!(rt; digits_number(text), want);
     }
 }

@@ -32,7 +32,9 @@ impl<'a> Model for Words<'a> {
 }
 
 impl<'a> Words<'a> {
+    ghost use Rattle.std.specs.Prelude.{option_map, slice_get};
     ghost use Rattle.lls_text.specs.Words.{words_of};
+    ghost use Rattle.lls_text.specs.Seen.{seen_word};
 
     /// The words of a line.
     pub fn new(line: &'a [u8]) -> Words<'a>
@@ -42,6 +44,17 @@ impl<'a> Words<'a> {
             column: 1,
             rest: line,
         }
+    }
+
+    /// The next word, which stays.
+    pub fn peek(&self) -> Option<Word<'a>>
+        ensures { option_map seen_word result ≡ slice_get self.now 0 }
+    {
+        let mut ahead = Words {
+            column: self.column,
+            rest: self.rest,
+        };
+        ahead.next()
     }
 }
 

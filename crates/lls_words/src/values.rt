@@ -9,7 +9,7 @@ ghost use Rattle.lls_words.specs.Seen.{seen_pair};
 use lls_grid::History;
 use lls_problem::{Edge, Period};
 use lls_symmetry::{MOST_PERIOD, MOST_SHIFT};
-use lls_text::{digits_number, is_digits};
+use lls_text::digits_number;
 
 /// The greatest number of digits of a number.
 const MOST_DIGITS: usize = 20;
@@ -96,10 +96,10 @@ fn number_in(text: &[u8], low: u32, high: u32) -> Option<u32>
     ensures number { result ≡ number_in low high text.now }
     ensures within { IfSome result (λ n. (low ≤ n) × (n ≤ high)) }
 {
-    if text.len() > MOST_DIGITS || !is_digits(text) {
+    if text.len() > MOST_DIGITS {
         return None;
     }
-    let number = digits_number(text);
+    let number = digits_number(text)?;
     if u64::from(low) <= number && number <= u64::from(high) {
         Some(number as u32)
     } else {

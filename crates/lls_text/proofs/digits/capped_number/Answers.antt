@@ -1,5 +1,5 @@
 use Rattle.lls_text.proofs.CappedDigits.{capped_digits}
-use Rattle.lls_text.proofs.digits.digits_number.Goals as goal
+use Rattle.lls_text.proofs.digits.capped_number.Goals as goal
 
 pub loop-byte-preserved : goal.loop-byte-preserved
 loop-byte-preserved c =
