@@ -8,3 +8,4 @@ pub mod PrintedSteps
 pub mod FreshClauses
 pub mod WorkedLogs
 pub mod StepLines
+pub mod Logged

@@ -9,3 +9,5 @@ pub mod Line
 pub mod StepText
 pub mod Fresh
 pub mod Spent
+pub mod Log
+pub mod Heads
