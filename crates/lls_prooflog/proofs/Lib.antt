@@ -9,3 +9,4 @@ pub mod FreshClauses
 pub mod WorkedLogs
 pub mod StepLines
 pub mod Logged
+pub mod PrintedLogs

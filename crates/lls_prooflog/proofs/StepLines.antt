@@ -36,7 +36,7 @@ module _ {X : Type 0} (text_of : X → List ℕ) (test : X → Bool) (each : (x 
   list_printed xs all =
       rw (list_all-append is_printed (flat_map (λ x. text_of x ++ codes " ") xs) (codes "0"), items_printed xs all) refl
 
-step_printed : (step : Step) → AreLiterals step → IsInRange step → list_all is_printed (step_line step) ≡ true
+pub step_printed : (step : Step) → AreLiterals step → IsInRange step → list_all is_printed (step_line step) ≡ true
 step_printed (Add id lits hints) within range =
     let parts = and_parts (is_id id) (list_all is_hint hints) range in
     let front = decimal id ++ codes " " in

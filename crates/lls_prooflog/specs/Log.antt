@@ -1,5 +1,5 @@
 -- A log as its callers see it, and its text.
-use Rattle.std.specs.Prelude.{◌≡◌, ◌≤◌, ℕ, List, map, length, Result, Ok, Option, Some}
+use Rattle.std.specs.Prelude.{◌≡◌, ◌≤◌, ℕ, List, map, Result, Ok, Option, Some}
 use Rattle.std.specs.List.{flat_map}
 use Rattle.lls_text.specs.Lines.{lines_of}
 use Rattle.lls_prooflog.specs.declared.step.Step.{Step}

@@ -21,7 +21,7 @@ pub use line_error::LineError;
 pub use line_fault::LineFault;
 pub use lits::Lits;
 pub use log::{Addition, Log};
-pub use print::print_step;
+pub use print::{print_log, print_step};
 pub use read::read_line;
 pub use step::Step;
 pub use step_fault::{Culprit, StepFault};

@@ -59,9 +59,9 @@ impl Model for Log {
     } };
 
     ghost invariant = { λ l. IsLaid l.heads.items l.lits.items l.hints.items
-      × ((length l.heads.items + l.spare_steps ≤ vec_capacity l.heads)
-      × ((length l.lits.items + l.spare_lits ≤ vec_capacity l.lits)
-      × (length l.hints.items + l.spare_hints ≤ vec_capacity l.hints))) };
+        × ((length l.heads.items + l.spare_steps ≤ vec_capacity l.heads)
+        × ((length l.lits.items + l.spare_lits ≤ vec_capacity l.lits)
+        × (length l.hints.items + l.spare_hints ≤ vec_capacity l.hints))) };
 }
 
 impl Log {

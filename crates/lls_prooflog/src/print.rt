@@ -1,13 +1,14 @@
-// The line that writes a step.
-ghost use Rattle.std.specs.Prelude.{◌≡◌, ◌++◌, ◌∷◌, [], true, IfOk, OnOk, Ok, Some};
+// The lines that write steps.
+ghost use Rattle.std.specs.Prelude.{◌≡◌, ◌≤◌, ◌++◌, ◌∷◌, [], true, IfOk, OnOk, Ok, Some};
 ghost use Rattle.lls_text.specs.Lines.{lines_of};
 ghost use Rattle.lls_lit.specs.Formula.{is_within};
 ghost use Rattle.lls_prooflog.specs.declared.step.Step.TheVariants.{Add, Del};
 ghost use Rattle.lls_prooflog.specs.Range.{IsInRange};
 ghost use Rattle.lls_prooflog.specs.Line.{step_of_line};
 ghost use Rattle.lls_prooflog.specs.StepText.{signed_list_text, id_list_text, step_line, step_text};
+ghost use Rattle.lls_prooflog.specs.Log.{log_text, ReadsAs};
 
-use crate::Step;
+use crate::{Addition, Log, Step};
 use itoa::Buffer;
 use lls_base::Memory;
 use lls_lit::{Lit, Var};
@@ -21,33 +22,81 @@ pub fn print_step(alloc: Global, step: &Step) -> Result<Vec<u8>, Memory>
     ensures one_line { OnOk result (lines_of (step_text step.now) ≡ step_line step.now ∷ []) }
     ensures read_again { OnOk result (step_of_line (step_line step.now) ≡ Ok (Some step.now)) }
 {
-    let mut text = match step {
-        Step::Add { id, lits, hints } => print_addition(alloc, *id, lits.items(), hints.items())?,
-        Step::Del { ids } => print_deletion(alloc, ids.items())?,
-    };
-    text.extend_from_slice(b"\n")?;
+    let mut text = Vec::new(alloc);
+    match step {
+        Step::Add { id, lits, hints } => {
+            push_addition(&mut text, *id, lits.items(), hints.items())?;
+        }
+        Step::Del { ids } => push_deletion(&mut text, ids.items())?,
+    }
     Ok(text)
 }
 
-fn print_addition(alloc: Global, id: u64, lits: &[Lit], hints: &[i64]) -> Result<Vec<u8>, Memory>
-    ensures text { IfOk result (λ text. text.items ≡ step_line (Add id lits.now hints.now)) }
+/// The lines that write a log's steps. It takes memory for the text alone, in one piece.
+pub fn print_log(alloc: Global, log: &Log) -> Result<Vec<u8>, Memory>
+    ensures text { IfOk result (λ text. text.items ≡ log_text log.now.steps) }
+    ensures read_again { IfOk result (λ text. ReadsAs text.items log.now.steps) }
+{
+    let mut text = Vec::with_capacity(alloc, text_len(log))?;
+    for k in 0..log.len() {
+        let addition = log.addition(k);
+        push_addition(&mut text, addition.id, addition.lits, addition.hints)?;
+    }
+    Ok(text)
+}
+
+// The length of a log's text. No contract needs it: where it is wrong, the text is made in more than one piece.
+fn text_len(log: &Log) -> usize {
+    let mut len: usize = 0;
+    for k in 0..log.len() {
+        len = len.saturating_add(line_len(log.addition(k)));
+    }
+    len
+}
+
+// The length of an addition's line. Each number has a blank or an LF behind it, and two of them are the 0 of a list.
+fn line_len(addition: Addition) -> usize {
+    let mut len = word_len(addition.id, false) + 2 * word_len(0, false);
+    for lit in addition.lits {
+        len = len.saturating_add(word_len(u64::from(lit.var().number()), lit.number() < 0));
+    }
+    for hint in addition.hints {
+        len = len.saturating_add(word_len(hint.unsigned_abs(), *hint < 0));
+    }
+    len
+}
+
+fn word_len(size: u64, is_negative: bool) -> usize
+    ensures { result ≤ 22 }
+{
+    let digits = match size.checked_ilog10() {
+        Some(power) => power as usize + 1,
+        None => 1,
+    };
+    digits + usize::from(is_negative) + 1
+}
+
+fn push_addition(text: &mut Vec<u8>, id: u64, lits: &[Lit], hints: &[i64]) -> Result<(), Memory>
+    ensures text { OnOk result (text.new.items ≡ text.old.items ++ step_text (Add id lits.now hints.now)) }
     ensures within { OnOk result (is_within Var.MOST lits.now ≡ true) }
 {
     let mut digits = Buffer::new();
-    let mut text = Vec::from_slice(alloc, digits.format(id).as_bytes())?;
+    text.extend_from_slice(digits.format(id).as_bytes())?;
     text.extend_from_slice(b" ")?;
-    push_lits(&mut text, lits)?;
+    push_lits(text, lits)?;
     text.extend_from_slice(b" ")?;
-    push_hints(&mut text, hints)?;
-    Ok(text)
+    push_hints(text, hints)?;
+    text.extend_from_slice(b"\n")?;
+    Ok(())
 }
 
-fn print_deletion(alloc: Global, ids: &[u64]) -> Result<Vec<u8>, Memory>
-    ensures { IfOk result (λ text. text.items ≡ step_line (Del ids.now)) }
+fn push_deletion(text: &mut Vec<u8>, ids: &[u64]) -> Result<(), Memory>
+    ensures { OnOk result (text.new.items ≡ text.old.items ++ step_text (Del ids.now)) }
 {
-    let mut text = Vec::from_slice(alloc, b"0 d ")?;
-    push_ids(&mut text, ids)?;
-    Ok(text)
+    text.extend_from_slice(b"0 d ")?;
+    push_ids(text, ids)?;
+    text.extend_from_slice(b"\n")?;
+    Ok(())
 }
 
 fn push_lits(text: &mut Vec<u8>, lits: &[Lit]) -> Result<(), Memory>

@@ -1,4 +1,4 @@
-use Rattle.std.proofs.Common.{◌≡◌, ℕ, ◌<◌, List, length, get_or, ap, ◌∙◌, Some}
+use Rattle.std.proofs.Common.{ℕ, ◌<◌, List, length, get_or}
 use Rattle.std.specs.Prelude.{ℤ}
 use Rattle.std.proofs.lemmas.Option.{slice_get-get_or}
 use Rattle.lls_prooflog.specs.declared.log.Head.{Head}

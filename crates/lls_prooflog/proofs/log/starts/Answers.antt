@@ -1,4 +1,4 @@
-use Rattle.std.proofs.Common.{◌≡◌, ℕ, suc, ◌-◌, ◌<◌, length, sym, ap, ◌∙◌, arith}
+use Rattle.std.proofs.Common.{◌≡◌, ℕ, suc, ◌-◌, sym, ap, ◌∙◌, arith}
 use Rattle.lls_prooflog.specs.declared.log.Head.{Head}
 use Rattle.lls_prooflog.specs.Heads.{lits_start, hints_start}
 use Rattle.lls_prooflog.proofs.Logged.{lits_start-suc, hints_start-suc}

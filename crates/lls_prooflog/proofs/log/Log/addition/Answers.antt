@@ -1,4 +1,4 @@
-use Rattle.std.proofs.Common.{◌≡◌, List, length, ap, arith}
+use Rattle.std.proofs.Common.{List, length, ap, arith}
 use Rattle.lls_prooflog.specs.declared.log.Head.{Head}
 use Rattle.lls_prooflog.specs.Range.{IsInRange}
 use Rattle.lls_prooflog.specs.Log.{Logged, step_of_addition}

@@ -1,4 +1,4 @@
-use Rattle.std.proofs.Common.{◌≡◌, arith}
+use Rattle.std.proofs.Common.{arith}
 use Rattle.lls_prooflog.proofs.Logged.{additions-steps_in}
 use Rattle.lls_prooflog.proofs.log.Log.additions.Goals as goal
 

@@ -17,8 +17,7 @@ invariant_of-self c =
       lits_fit = rw (ap (λ (t : Logged). t.spare_lits) c.self.view_is) c.requires.spare.lits_fit;
       hints_fit = rw (ap (λ (t : Logged). t.spare_hints) c.self.view_is) c.requires.spare.hints_fit;
     } in
-    let head : Head = record { id = c.args.id; lits_end = c.len.result; hints_end = c.len-2.result } in
-    (
+    let head : Head = record { id = c.args.id; lits_end = c.len.result; hints_end = c.len-2.result } in (
       rw (c.push_reserved.ensures.items, c.fill.ensures.items, c.fill-2.ensures.items, lits, hints) laid,
       (
         omega (arith, ap (λ (xs : List Head). length xs) c.push_reserved.ensures.items, length-append m.heads.items (head ∷ []), c.push_reserved.ensures.capacity, c.self.invariant.1.0, spare.steps_fit),

@@ -1,0 +1,44 @@
+-- The lines of a printed log are read again.
+use Rattle.std.proofs.Common.{◌≡◌, ℕ, zero, suc, ◌+◌, List, [], ◌∷◌, ◌++◌, All, take, Some, refl, sym, ap, ◌∙◌, arith, append_assoc, subst}
+use Rattle.std.specs.Prelude.{slice_get, codes}
+use Rattle.std.proofs.lemmas.Option.{same_Some}
+use Rattle.std.proofs.lemmas.List.{flat_map_more}
+use Rattle.std.proofs.lemmas.List.Elements.{All-append, All-from_recursion, recursion_from_All}
+use Rattle.lls_text.specs.Lines.{lines_of}
+use Rattle.lls_text.proofs.Printed.{lines_of-printed}
+use Rattle.lls_prooflog.specs.declared.step.Step.{Step}
+use Rattle.lls_prooflog.specs.Range.{IsInRange}
+use Rattle.lls_prooflog.specs.StepText.{step_line, step_text}
+use Rattle.lls_prooflog.specs.Log.{log_text, ReadsAs}
+use Rattle.lls_prooflog.proofs.PrintedSteps.{AreLiterals, step_of_line-step_line}
+use Rattle.lls_prooflog.proofs.StepLines.{step_printed}
+
+-- a step whose line is read as the step
+pub record IsReadable (step : Step) : Type 0 where
+  pub literals : AreLiterals step
+  pub in_range : IsInRange step
+
+-- the line of a step stands before the lines of what is behind it
+first_line : (step : Step) (rest : List ℕ) → IsReadable step → lines_of (step_text step ++ rest) ≡ step_line step ∷ lines_of rest
+first_line step rest h =
+    ap lines_of (append_assoc (step_line step) (codes "\n") rest) ∙ lines_of-printed (step_line step) rest (step_printed step h.literals h.in_range)
+
+pub read_lines-log_text : (steps : List Step) → All IsReadable steps → ReadsAs (log_text steps) steps
+read_lines-log_text [] all = refl
+read_lines-log_text (step ∷ steps) all =
+    let parts = recursion_from_All IsReadable (step ∷ steps) all in
+    rw (first_line step (log_text steps) parts.0, step_of_line-step_line step parts.0.literals parts.0.in_range, read_lines-log_text steps (All-from_recursion IsReadable steps parts.1)) refl
+
+-- the first steps, and the one behind them
+pub take-next : {X : Type 0} (xs : List X) (k : ℕ) (x : X) → slice_get xs k ≡ Some x → take (k + 1) xs ≡ take k xs ++ x ∷ []
+take-next [] k x e = absurd cc
+take-next (y ∷ ys) zero x e = ap (λ (z : _). z ∷ []) (same_Some y x e)
+take-next (y ∷ ys) (suc k) x e =
+    let next : suc k + 1 ≡ suc (k + 1) = omega arith in
+    rw next (ap (λ (zs : List _). y ∷ zs) (take-next ys k x e))
+
+pub readable_next : (steps : List Step) (k : ℕ) (step : Step) → slice_get steps k ≡ Some step → IsReadable step → All IsReadable (take k steps) → All IsReadable (take (k + 1) steps)
+readable_next steps k step e h all = subst (All IsReadable) (sym (take-next steps k step e)) (All-append IsReadable (take k steps) (step ∷ []) all (All-from_recursion IsReadable (step ∷ []) (h, tt)))
+
+pub text_next : (steps : List Step) (k : ℕ) (step : Step) → slice_get steps k ≡ Some step → log_text (take k steps) ++ step_text step ≡ log_text (take (k + 1) steps)
+text_next steps k step e = flat_map_more step_text [] (take k steps) step ∙ ap log_text (sym (take-next steps k step e))
