@@ -15,6 +15,10 @@ pub record StoreState : Type 0 where
   pub live : List LiveClause
   pub tail : List ℤ
 
+-- no clause
+abbrev pub empty_store : ℕ → StoreState
+empty_store vars = record { vars = vars; count = 0; live = []; tail = [] }
+
 -- an id that no live clause has
 pub record IsNewId (live : List LiveClause) (id : ℕ) : Type 0 where
   pub least : 1 ≤ id

@@ -4,6 +4,9 @@
 //! clause is that of the first unique implication point, stands in specs/.
 #![tactic(auto)]
 
+mod flat;
+mod scan_store;
+mod standing;
 mod store;
 mod tables;
 mod trail;
@@ -12,5 +15,6 @@ mod trail_tests;
 #[cfg(test)]
 mod worked_tests;
 
+pub use scan_store::ScanStore;
 pub use store::{MOST_CLAUSES, MOST_ID, Store};
 pub use trail::Trail;
