@@ -8,6 +8,8 @@ mod flat;
 mod scan_store;
 mod standing;
 mod store;
+#[cfg(test)]
+mod store_tests;
 mod tables;
 mod trail;
 #[cfg(test)]
