@@ -7,3 +7,12 @@ pub mod Cut
 pub mod Reasons
 pub mod Points
 pub mod WorkedTrail
+pub mod Buffer
+pub mod Numbered
+pub mod Sets
+pub mod SoundChanges
+pub mod Live
+pub mod Tails
+pub mod Scanned
+pub mod Standings
+pub mod Passes

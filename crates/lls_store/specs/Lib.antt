@@ -6,4 +6,7 @@ pub mod Closed
 pub mod Sound
 pub mod Uip
 pub mod Store
+pub mod Standing
+pub mod Flat
+pub mod Scan
 pub mod Worked

@@ -1,8 +1,9 @@
--- A worked trail over worked clauses.
-use Rattle.std.specs.Prelude.{ℤ, pos, negsuc, List, [], ◌∷◌, Some, None}
+-- A worked trail over worked clauses, and what tests keep of a store.
+use Rattle.std.specs.Prelude.{◌≡◌, ◌≤◌, ℤ, pos, negsuc, List, [], ◌∷◌, All, Some, None}
 use Rattle.std.specs.FinSet as set
 use Rattle.lls_store.specs.Trail.{TrailState}
 use Rattle.lls_store.specs.Clauses.{Literals, LiveClause}
+use Rattle.lls_store.specs.Store.{StoreState}
 
 abbrev pub lits : List ℤ → Literals
 lits ls = set.from_list ls
@@ -33,3 +34,8 @@ worked_trail = record {
       ∷ record { lit = pos 3; level = 2; reason = Some 1 }
       ∷ [];
 }
+
+-- nothing is being built, and the ids are those up to the number of clauses that came
+pub record IsAtRest (store : StoreState) : Type 0 where
+  pub no_tail : store.tail ≡ []
+  pub ids : All (λ clause. clause.id ≤ store.count) store.live

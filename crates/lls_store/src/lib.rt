@@ -4,7 +4,12 @@
 //! clause is that of the first unique implication point, stands in specs/.
 #![tactic(auto)]
 
+mod flat;
+mod scan_store;
+mod standing;
 mod store;
+#[cfg(test)]
+mod store_tests;
 mod tables;
 mod trail;
 #[cfg(test)]
@@ -12,5 +17,6 @@ mod trail_tests;
 #[cfg(test)]
 mod worked_tests;
 
+pub use scan_store::ScanStore;
 pub use store::{MOST_CLAUSES, MOST_ID, Store};
 pub use trail::Trail;

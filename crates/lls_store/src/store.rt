@@ -1,8 +1,7 @@
 // A store of clauses, which keeps a trail closed under unit propagation.
 ghost use Rattle.std.specs.Prelude.{◌≡◌, ◌<◌, ◌≤◌, ℤ, [], ◌∷◌, ◌++◌, Bool, true, take, is_some, IfOk, IfSome, IfNone, IsTrue, OnErr, OnOk};
 ghost use Rattle.std.specs.FinSet as set;
-ghost use Rattle.lls_lit.specs.Literal.{variable_of};
-ghost use Rattle.lls_lit.specs.Formula.{is_within};
+ghost use Rattle.lls_lit.specs.Formula.{is_literal_of, is_within};
 ghost use Rattle.lls_store.specs.Trail.{TrailState};
 ghost use Rattle.lls_store.specs.Changes.{cut_to, decided};
 ghost use Rattle.lls_store.specs.Clauses.{clause_numbered};
@@ -116,7 +115,7 @@ pub trait Store {
     /// Puts a literal at the end of the tail.
     fn push_learnt(&mut self, lit: Lit)
         requires room { IsTrue (room self.old) }
-        requires within { variable_of lit ≤ (state self.old).vars }
+        requires within { is_literal_of (state self.old).vars lit ≡ true }
         requires new { IsNewVariable (state self.old).tail lit }
         ensures state { state self.new ≡ record (state self.old) { tail = (state self.old).tail ++ lit ∷ [] } }
         ensures room { IsTrue (room self.new) }

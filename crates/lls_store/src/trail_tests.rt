@@ -7,8 +7,8 @@ use std::alloc::Global;
 use std::process::Abort;
 use std::test::Fail;
 
-// The greatest variable of the worked trail.
-const VARS: u32 = 5;
+// The greatest variable of the worked trails.
+pub(crate) const VARS: u32 = 5;
 
 #[derive(Clone, Copy, Debug, PartialEq, Eq)]
 enum Change {
@@ -19,7 +19,7 @@ enum Change {
 }
 
 // A literal, its level and its reason.
-type Shown = (i32, Option<u32>, Option<u32>);
+pub(crate) type Shown = (i32, Option<u32>, Option<u32>);
 
 struct Row {
     change: Change,
@@ -142,7 +142,7 @@ fn changed(trail: &mut Trail, change: Change) -> Result<(), Fail>
 }
 
 // The entries, as the trail tells them.
-fn shown(alloc: Global, trail: &Trail) -> Result<Vec<Shown>, Fail>
+pub(crate) fn shown(alloc: Global, trail: &Trail) -> Result<Vec<Shown>, Fail>
     requires { trail.now.vars ≡ VARS }
 {
     let mut entries = Vec::new(alloc);

@@ -1,0 +1,158 @@
+// A store that reads all its clauses, again and again, until no literal is forced: the plain body of the trait `Store`.
+ghost use Rattle.std.specs.Prelude.{◌≡◌, ◌≤◌, false, IfNone, IfSome, length};
+ghost use Rattle.lls_store.specs.Trail.{TrailState};
+ghost use Rattle.lls_store.specs.Changes.{empty_trail};
+ghost use Rattle.lls_store.specs.Closed.{IsClosed};
+ghost use Rattle.lls_store.specs.Sound.{IsSound};
+ghost use Rattle.lls_store.specs.Store.{AreLive, GoesOn, IsConflict, empty_store};
+ghost use Rattle.lls_store.specs.Scan.{numbered, AreScannable};
+
+use crate::flat::FlatClauses;
+use crate::standing::{Standing, standing_under};
+use crate::{MOST_CLAUSES, Store, Trail};
+use lls_base::Memory;
+use lls_lit::Lit;
+use std::alloc::Global;
+use std::marker::Model;
+
+/// A store that finds what is forced by reading all clauses.
+#[derive(Debug, Drop)]
+pub struct ScanStore {
+    vars: u32,
+    clauses: FlatClauses,
+}
+
+impl Model for ScanStore {
+    ghost use Rattle.lls_store.specs.Scan.{ScanState, IsScan};
+
+    ghost Value = { ScanState };
+
+    ghost view = { λ s. record { vars = s.vars; flat = s.clauses } };
+
+    ghost invariant = { λ s. IsScan (record { vars = s.vars; flat = s.clauses }) };
+}
+
+impl ScanStore {
+    /// A store without a clause, for the variables up to `vars`. Takes no memory.
+    pub fn new(alloc: Global, vars: u32) -> ScanStore
+        ensures state { ⟦<ScanStore as Store>⟧.state result ≡ empty_store vars }
+        ensures room { ⟦<ScanStore as Store>⟧.room result ≡ false }
+        ensures tracks { ⟦<ScanStore as Store>⟧.tracks result (empty_trail vars) }
+    {
+        ScanStore {
+            vars,
+            clauses: FlatClauses::new(alloc),
+        }
+    }
+}
+
+impl Store for ScanStore {
+    ghost use Rattle.std.specs.Prelude.{◌≡◌};
+    ghost use Rattle.lls_store.specs.Scan.{room_of, store_of};
+
+    ghost state = { store_of };
+
+    ghost room = { room_of };
+
+    ghost tracks = { λ s t. t.vars ≡ s.vars };
+
+    ghost settled = { λ s t. t.vars ≡ s.vars };
+
+    ghost settled_tracks = { λ s t h. h };
+
+    ghost tracks_vars = { λ s t h. h };
+
+    ghost decided_tracked = { λ s t l h. h };
+
+    fn add(&mut self, trail: &Trail, id: u64, lits: &[Lit]) -> Result<u32, Memory> {
+        let number = self.count();
+        self.clauses.reserve_heads(2)?;
+        self.clauses.extend(lits, self.vars as usize)?;
+        self.clauses.seal(id);
+        Ok(number)
+    }
+
+    fn count(&self) -> u32 {
+        self.clauses.len() as u32
+    }
+
+    fn live(&self, c: u32) -> bool {
+        (c as usize) < self.clauses.len()
+    }
+
+    fn id(&self, c: u32) -> u64 {
+        self.clauses.id(c as usize)
+    }
+
+    fn lits(&self, c: u32) -> &[Lit] {
+        self.clauses.lits(c as usize)
+    }
+
+    fn reserve_learnt(&mut self) -> Result<(), Memory> {
+        self.clauses.reserve_heads(1)?;
+        self.clauses.extend(&[], self.vars as usize)
+    }
+
+    fn propagate(&mut self, trail: &mut Trail) -> Option<u32> {
+        propagate(&self.clauses, trail)
+    }
+
+    fn back_to(&mut self, trail: &mut Trail, level: u32) {
+        trail.cut(level);
+    }
+
+    fn begin_learnt(&mut self) {
+        self.clauses.cut(0);
+    }
+
+    fn push_learnt(&mut self, lit: Lit) {
+        self.clauses.push(lit);
+    }
+
+    fn cut_learnt(&mut self, keep: u32) {
+        self.clauses.cut(keep as usize);
+    }
+
+    fn seal_learnt(&mut self, trail: &Trail, id: u64) -> u32 {
+        let number = self.count();
+        self.clauses.seal(id);
+        number
+    }
+}
+
+// Reads the clauses until none is false and none forces a literal.
+fn propagate(clauses: &FlatClauses, trail: &mut Trail) -> Option<u32>
+    requires scannable { AreScannable trail.old.vars clauses.now.clauses }
+    requires sound { IsSound (numbered 0 clauses.now.clauses) trail.old }
+    ensures conflict { IfSome result (IsConflict (numbered 0 clauses.now.clauses) trail.new) }
+    ensures closed { IfNone result (IsClosed (numbered 0 clauses.now.clauses) trail.new) }
+    ensures grown { GoesOn trail.old trail.new }
+    ensures sound { IsSound (numbered 0 clauses.now.clauses) trail.new }
+{
+    loop {
+        let before = trail.len();
+        let conflict = pass(clauses, trail);
+        if conflict.is_some() || trail.len() == before {
+            return conflict;
+        }
+    }
+}
+
+// Reads each clause once, and forces the literals that are left in some, up to a clause that is false.
+fn pass(clauses: &FlatClauses, trail: &mut Trail) -> Option<u32>
+    requires scannable { AreScannable trail.old.vars clauses.now.clauses }
+    requires sound { IsSound (numbered 0 clauses.now.clauses) trail.old }
+    ensures conflict { IfSome result (IsConflict (numbered 0 clauses.now.clauses) trail.new) }
+    ensures closed { IfNone result (length trail.new.entries ≡ length trail.old.entries → IsClosed (numbered 0 clauses.now.clauses) trail.new) }
+    ensures grown { GoesOn trail.old trail.new }
+    ensures sound { IsSound (numbered 0 clauses.now.clauses) trail.new }
+{
+    for c in 0..clauses.len() {
+        match standing_under(trail, clauses.lits(c)) {
+            Standing::Settled => {}
+            Standing::Forces(lit) => trail.force(lit, c as u32),
+            Standing::Falsified => return Some(c as u32),
+        }
+    }
+    None
+}
