@@ -1,0 +1,30 @@
+-- What changes an order.
+use Rattle.std.specs.Prelude.{ℕ, ◌+◌, ◌-◌, ◌/◌, min, max, true, false, map, replicate, slice_set, nat_le, if◌then◌else◌}
+use Rattle.lls_order.specs.declared.order.TheConstants.{MOST_ACTIVITY}
+use Rattle.lls_order.specs.Order.{OrderState, activity_of}
+
+-- all variables are in, without activity
+abbrev pub new_order : ℕ → OrderState
+new_order vars = record { vars = vars; activities = replicate vars 0; inside = replicate vars true; amount = 1 }
+
+abbrev pub put_in : OrderState → ℕ → OrderState
+put_in order v = record order { inside = slice_set order.inside (v - 1) true }
+
+abbrev pub taken_out : OrderState → ℕ → OrderState
+taken_out order v = record order { inside = slice_set order.inside (v - 1) false }
+
+-- the amount is added to a variable's activity
+abbrev pub raised : OrderState → ℕ → OrderState
+raised order v = record order { activities = slice_set order.activities (v - 1) (activity_of order v + order.amount) }
+
+-- all activities and the amount are halved, rounding down; the amount stays at least 1
+abbrev pub halved : OrderState → OrderState
+halved order = record order { activities = map (λ a. a / 2) order.activities; amount = max 1 (order.amount / 2) }
+
+-- the amount is added, after a halving where the sum would be too great
+abbrev pub bumped : OrderState → ℕ → OrderState
+bumped order v = if nat_le (activity_of order v + order.amount) MOST_ACTIVITY then raised order v else raised (halved order) v
+
+-- the amount grows by about a twentieth, up to the greatest activity
+abbrev pub grown : OrderState → OrderState
+grown order = record order { amount = min (order.amount + order.amount / 20 + 1) MOST_ACTIVITY }
