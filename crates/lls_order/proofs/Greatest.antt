@@ -4,6 +4,7 @@ use Rattle.std.specs.Prelude.{Option, SomeIff, IfSome, nat_lt}
 use Rattle.std.proofs.lemmas.Bool.{cases_lt, false≢true}
 use Rattle.std.proofs.lemmas.Bool.Decides.{nat_tests}
 use Rattle.std.proofs.lemmas.List.{length-map, get_or_past}
+use Rattle.lls_lit.specs.declared.var.TheConstants.Var.{MOST}
 use Rattle.lls_order.specs.Order.{ComesBefore, IsEmpty, IsGreatest, is_in}
 use Rattle.lls_order.specs.Heap.{AreParts, IsHeap, inside_of, order_in, parent_of, rank_of, ranks}
 use Rattle.lls_order.proofs.Inside.{get_or-inside_of, is_below, not_below}
@@ -27,7 +28,7 @@ pub top : (f : ℕ → ℕ) (count k : ℕ) → IsHeap f count → k < count →
 top f count k h within = top_within f count h k k (omega arith) within
 
 -- what one number for activity and variable says of both
-by_rank : (x y u g : ℕ) → u < 16777216 → g < 16777216 → u ≢ g → x * 16777216 + (16777216 - u) ≤ y * 16777216 + (16777216 - g) → (x < y) ⊎ ((x ≡ y) × (g + 1 < u + 1))
+by_rank : (x y u g : ℕ) → u < MOST → g < MOST → u ≢ g → x * MOST + (MOST - u) ≤ y * MOST + (MOST - g) → (x < y) ⊎ ((x ≡ y) × (g + 1 < u + 1))
 by_rank x y u g u_fits g_fits apart le = elim (cases_lt x y) [
   | inl less ↦ inl less
   | inr ge ↦ inr (omega arith, omega arith)

@@ -4,6 +4,6 @@ pub mod Sifts
 pub mod Rising
 pub mod Sinking
 pub mod Building
-pub mod LubyLemmas
+pub mod LubyNumbers
 pub mod Parts
 pub mod Greatest

@@ -5,6 +5,8 @@ use Rattle.std.proofs.lemmas.List.{length-map, length-set, length-replicate, get
 use Rattle.std.proofs.lemmas.Grind.{get_or-set_at}
 use Rattle.std.proofs.lemmas.Bool.{cases_lt}
 use Rattle.std.proofs.lemmas.Bool.Decides.{eqb_tells}
+use Rattle.lls_lit.specs.declared.var.TheConstants.Var.{MOST}
+use Rattle.lls_order.specs.declared.order.TheConstants.{MOST_ACTIVITY}
 use Rattle.lls_order.specs.Heap.{AreTables, AreParts, IsHeap, IsHeapButAt, inside_of, parent_of, rank_of, ranks}
 use Rattle.lls_order.proofs.Inside.{inside_of-is, get_or-inside_of, is_below}
 use Rattle.lls_order.proofs.Sifts.{parent_of-lt}
@@ -24,7 +26,7 @@ AreParts-halved vars count amount halved activities heap places half new after h
   is_heap = is_heap;
   least = omega (arith, less);
   most = omega (arith, less, h.most);
-  activities_fit = λ v. omega (arith, ap (λ xs. get_or xs v 0) is, half_fits activities 1152921504606846976 h.activities_fit v);
+  activities_fit = λ v. omega (arith, ap (λ xs. get_or xs v 0) is, half_fits activities MOST_ACTIVITY h.activities_fit v);
 }
 
 -- each number at its own place
@@ -46,7 +48,7 @@ module _ (vars count amount v : ℕ) (activities heap places : List ℕ) (h : Ar
 
   same_rank : (w : ℕ) → w ≢ v → rank_of risen w ≡ rank_of activities w
   unfolding risen
-  same_rank w other = ap (λ a. a * 16777216 + (16777216 - w)) (get_or-set_other activities v w (get_or activities v 0 + amount) 0 other)
+  same_rank w other = ap (λ a. a * MOST + (MOST - w)) (get_or-set_other activities v w (get_or activities v 0 + amount) 0 other)
 
   more_rank : rank_of activities v ≤ rank_of risen v
   unfolding risen
@@ -104,7 +106,7 @@ module _ (vars count amount v : ℕ) (activities heap places : List ℕ) (h : Ar
     | inr t ↦ omega (arith, get_or-set_other activities v w (get_or activities v 0 + amount) 0 t.1, fits w)
   ]
 
-  pub AreParts-risen : (new after : List ℕ) → get_or activities v 0 + amount ≤ 1152921504606846976 → AreTables (set activities v (get_or activities v 0 + amount)) new after
+  pub AreParts-risen : (new after : List ℕ) → get_or activities v 0 + amount ≤ MOST_ACTIVITY → AreTables (set activities v (get_or activities v 0 + amount)) new after
       → IsHeap (ranks (set activities v (get_or activities v 0 + amount)) new) count → AreParts vars (set activities v (get_or activities v 0 + amount)) count new after amount
   unfolding risen
   AreParts-risen new after sum tables is_heap = record {
@@ -114,7 +116,7 @@ module _ (vars count amount v : ℕ) (activities heap places : List ℕ) (h : Ar
     is_heap = is_heap;
     least = h.least;
     most = h.most;
-    activities_fit = λ w. risen_fits 1152921504606846976 w sum h.activities_fit;
+    activities_fit = λ w. risen_fits MOST_ACTIVITY w sum h.activities_fit;
   }
 
   pub AreTables-risen : AreTables (set activities v (get_or activities v 0 + amount)) heap places

@@ -47,6 +47,11 @@ pub record AreInverse (heap places : List ℕ) : Type 0 where
   pub place_back : (k : ℕ) → k < length heap → slice_index places (slice_index heap k) ≡ k
   pub number_back : (v : ℕ) → v < length heap → slice_index heap (slice_index places v) ≡ v
 
+-- each number in the heap has an activity
+pub record AreNumbers (activities heap : List ℕ) : Type 0 where
+  pub few : length activities ≤ MOST
+  pub fits : (k : ℕ) → k < length heap → slice_index heap k < length activities
+
 -- the tables have each variable
 pub record AreTables (activities heap places : List ℕ) : Type 0 where
   pub few : length activities ≤ MOST

@@ -1,6 +1,6 @@
 //! A binary heap in two tables: the number at each place, and the place of each number.
 ghost use Rattle.std.specs.Prelude.{◌≡◌, ℕ, ◌+◌, ◌<◌, ◌≤◌, length, nat_lt, slice_index, slice_set, true, false, swap, IfNone, IfOk, IfSome};
-ghost use Rattle.lls_order.specs.Heap.{AreInverse, AreTables, IsGreaterChild, IsHeap, IsHeapButAt, IsHeapButBelow, SameInside, inside_of, parent_of, rank_of, ranks};
+ghost use Rattle.lls_order.specs.Heap.{AreInverse, AreNumbers, AreTables, IsGreaterChild, IsHeap, IsHeapButAt, IsHeapButBelow, SameInside, inside_of, parent_of, rank_of, ranks};
 
 use lls_base::Memory;
 use lls_lit::Var;
@@ -45,9 +45,9 @@ fn exchange(heap: &mut [u32], places: &mut [u32], first: usize, second: usize)
 }
 
 // The parent of a place, where the place outranks it.
-fn lesser_parent(activities: &[u64], heap: &[u32], places: &[u32], at: usize) -> Option<usize>
+fn lesser_parent(activities: &[u64], heap: &[u32], at: usize) -> Option<usize>
     requires within { at < length heap.now }
-    requires tables { AreTables activities.now heap.now places.now }
+    requires numbers { AreNumbers activities.now heap.now }
     ensures above_zero { IfSome result (λ parent. 0 < at) }
     ensures parent { IfSome result (λ parent. parent ≡ parent_of at) }
     ensures lesser { IfSome result (λ parent. ranks activities.now heap.now parent < ranks activities.now heap.now at) }
@@ -65,15 +65,9 @@ fn lesser_parent(activities: &[u64], heap: &[u32], places: &[u32], at: usize) ->
 }
 
 // The child of a place that outranks it and the other child.
-fn greater_child(
-    activities: &[u64],
-    heap: &[u32],
-    places: &[u32],
-    at: usize,
-    count: usize,
-) -> Option<usize>
+fn greater_child(activities: &[u64], heap: &[u32], at: usize, count: usize) -> Option<usize>
     requires within { count ≤ length heap.now }
-    requires tables { AreTables activities.now heap.now places.now }
+    requires numbers { AreNumbers activities.now heap.now }
     ensures some { IfSome result (IsGreaterChild (ranks activities.now heap.now) count at) }
     ensures none { IfNone result ((k : ℕ) → 0 < k → k < count → parent_of k ≡ at → ranks activities.now heap.now k ≤ ranks activities.now heap.now at) }
 {
@@ -103,7 +97,7 @@ pub(crate) fn sift_up(activities: &[u64], heap: &mut [u32], places: &mut [u32], 
     ensures heap { (count : ℕ) → IsHeapButAt (ranks activities.now heap.old) count from → IsHeap (ranks activities.now heap.new) count }
 {
     let mut at = from;
-    while let Some(parent) = lesser_parent(activities, heap, places, at) {
+    while let Some(parent) = lesser_parent(activities, heap, at) {
         exchange(heap, places, at, parent);
         at = parent;
     }
@@ -118,7 +112,7 @@ fn sift_down(activities: &[u64], heap: &mut [u32], places: &mut [u32], count: us
     ensures heap { IsHeapButBelow (ranks activities.now heap.old) count 0 → IsHeap (ranks activities.now heap.new) count }
 {
     let mut at = 0;
-    while let Some(child) = greater_child(activities, heap, places, at, count) {
+    while let Some(child) = greater_child(activities, heap, at, count) {
         exchange(heap, places, at, child);
         at = child;
     }

@@ -10,7 +10,7 @@ use std::alloc::Global;
 use std::marker::Model;
 
 /// The greatest activity of a variable.
-pub const MOST_ACTIVITY: u64 = 1_152_921_504_606_846_976;
+pub const MOST_ACTIVITY: u64 = 1 << 60;
 
 /// Variables with activities, of which those that are in come out by activity: the solver's order of decisions.
 ///
@@ -112,12 +112,10 @@ impl Order {
         ensures amount { 1 ≤ self.old.amount }
     {
         let activity = self.activities[var.number() as usize - 1];
-        if activity + self.amount <= MOST_ACTIVITY {
-            self.raise(var);
-        } else {
+        if activity + self.amount > MOST_ACTIVITY {
             self.halve();
-            self.raise(var);
         }
+        self.raise(var);
     }
 
     /// Makes the amount greater by about a twentieth: what is bumped from now on counts more.

@@ -1,6 +1,6 @@
 use Rattle.std.proofs.Common.{◌≡◌, ◌+◌, ◌-◌, ◌*◌, ◌^◌, ◌%◌, ◌∙◌, sym, subst, ℕ, arith}
 use Rattle.lls_order.specs.Luby.{IsLuby, half, again}
-use Rattle.lls_order.proofs.LubyLemmas.{at_half, between, shifted}
+use Rattle.lls_order.proofs.LubyNumbers.{at_half, between, shifted}
 use Rattle.lls_order.proofs.luby_numbers.+luby.Goals as goal
 
 pub returns-then-n-power-clause-is_luby : goal.returns-then-n-power-clause-is_luby

@@ -1,5 +1,6 @@
 use Rattle.std.proofs.Common.{◌≡◌, ◌+◌, ◌-◌, ◌<◌, ◌≤◌, ℕ, List, get_or, set, subst, sym, ◌∙◌, ap, arith}
 use Rattle.std.proofs.lemmas.List.{with_items_is, get_or_read}
+use Rattle.lls_order.specs.declared.order.TheConstants.{MOST_ACTIVITY}
 use Rattle.lls_order.specs.Order.{OrderState}
 use Rattle.lls_order.specs.Heap.{AreTables, IsHeap, IsHeapButAt, ranks}
 use Rattle.lls_order.proofs.Parts.{AreParts-risen, risen_inside}
@@ -17,7 +18,7 @@ invariant_of-self c =
     let was : c.index_mut.result.now ≡ activity = get_or_read m.activities.items v c.index_mut.result.now (omega (arith, v_in, c.self.invariant.activity_each)) c.index_mut.ensures.value 0 in
     let is : set m.activities.items v (c.index_mut.result.now + m.amount) ≡ set m.activities.items v (activity + m.amount) = ap (λ a. set m.activities.items v (a + m.amount)) was in
     let stands : c.index.result.now ≡ get_or m.places.items v 0 = get_or_read m.places.items v c.index.result.now (omega (arith, v_in, c.self.invariant.activity_each, c.self.invariant.tables.number_each, c.self.invariant.tables.inverse.place_each)) c.index.ensures 0 in
-    let sum : activity + m.amount ≤ 1152921504606846976 =
+    let sum : activity + m.amount ≤ MOST_ACTIVITY =
     omega (arith, rw (← c.self.view_is) at c.requires.fits, ap (λ n. get_or m.activities.items (n - 1) 0) c.number.ensures.number) in
     let P : List ℕ → Type 0 = λ xs. AreTables xs new after in
     let Q : List ℕ → Type 0 = λ xs. IsHeap (ranks xs new) m.count in
