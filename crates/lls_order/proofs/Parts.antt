@@ -1,6 +1,7 @@
 -- What holds of the parts of an order, kept as it changes.
-use Rattle.std.proofs.Common.{◌≡◌, ◌≢◌, ℕ, ◌+◌, ◌-◌, ◌*◌, ◌/◌, ◌<◌, ◌≤◌, true, false, List, length, map, get_or, set, replicate, refl, sym, ap, ◌∙◌, inl, inr, arith}
+use Rattle.std.proofs.Common.{◌≡◌, ◌≢◌, ℕ, ◌+◌, ◌-◌, ◌*◌, ◌/◌, ◌^◌, ◌<◌, ◌≤◌, true, false, List, length, map, get_or, set, replicate, refl, sym, ap, ◌∙◌, inl, inr, arith}
 use Rattle.std.specs.Prelude.{max}
+use Rattle.std.proofs.Math.Nat.{div-le_self}
 use Rattle.std.proofs.lemmas.List.{length-map, length-set, length-replicate, get_or-map, get_or_past, get_or-replicate, get_or-set_other, set-get_or}
 use Rattle.std.proofs.lemmas.Grind.{get_or-set_at}
 use Rattle.std.proofs.lemmas.Bool.{cases_lt}
@@ -11,22 +12,24 @@ use Rattle.lls_order.specs.Heap.{AreTables, AreParts, IsHeap, IsHeapButAt, insid
 use Rattle.lls_order.proofs.Inside.{inside_of-is, get_or-inside_of, is_below}
 use Rattle.lls_order.proofs.Sifts.{parent_of-lt}
 
-half_fits : (activities : List ℕ) (most : ℕ) → ((v : ℕ) → get_or activities v 0 ≤ most) → (v : ℕ) → get_or (map (λ a. a / 2) activities) v 0 ≤ most
-half_fits activities most fits v = elim (cases_lt v (length activities)) [
-  | inl within ↦ omega (arith, get_or-map (λ (a : ℕ). a / 2) activities v 0 0 within, fits v)
-  | inr past ↦ omega (arith, get_or_past (map (λ (a : ℕ). a / 2) activities) v 0 (omega (arith, past, length-map activities (λ (a : ℕ). a / 2))))
-]
+scaled_fits : (activities : List ℕ) (power most : ℕ) → ((v : ℕ) → get_or activities v 0 ≤ most) → (v : ℕ) → get_or (map (λ a. a / 2 ^ power) activities) v 0 ≤ most
+scaled_fits activities power most fits v =
+    let scale = λ (a : ℕ). a / 2 ^ power in
+    elim (cases_lt v (length activities)) [
+      | inl within ↦ omega (arith, get_or-map scale activities v 0 0 within, div-le_self (get_or activities v 0) (2 ^ power), fits v)
+      | inr past ↦ omega (arith, get_or_past (map scale activities) v 0 (omega (arith, past, length-map activities scale)))
+    ]
 
-pub AreParts-halved : (vars count amount halved : ℕ) (activities heap places half new after : List ℕ) → AreParts vars activities count heap places amount
-    → half ≡ map (λ a. a / 2) activities → halved ≡ max (amount / 2) 1 → AreTables half new after → IsHeap (ranks half new) count → AreParts vars half count new after halved
-AreParts-halved vars count amount halved activities heap places half new after h is less tables is_heap = record {
+pub AreParts-scaled : (vars count amount less power : ℕ) (activities heap places scaled new after : List ℕ) → AreParts vars activities count heap places amount
+    → scaled ≡ map (λ a. a / 2 ^ power) activities → less ≡ max (amount / 2 ^ power) 1 → AreTables scaled new after → IsHeap (ranks scaled new) count → AreParts vars scaled count new after less
+AreParts-scaled vars count amount less power activities heap places scaled new after h is lessened tables is_heap = record {
   tables = tables;
-  activity_each = ap length is ∙ length-map activities (λ (a : ℕ). a / 2) ∙ h.activity_each;
+  activity_each = ap length is ∙ length-map activities (λ (a : ℕ). a / 2 ^ power) ∙ h.activity_each;
   within = h.within;
   is_heap = is_heap;
-  least = omega (arith, less);
-  most = omega (arith, less, h.most);
-  activities_fit = λ v. omega (arith, ap (λ xs. get_or xs v 0) is, half_fits activities MOST_ACTIVITY h.activities_fit v);
+  least = omega (arith, lessened);
+  most = omega (arith, lessened, div-le_self amount (2 ^ power), h.most);
+  activities_fit = λ v. omega (arith, ap (λ xs. get_or xs v 0) is, scaled_fits activities power MOST_ACTIVITY h.activities_fit v);
 }
 
 -- each number at its own place

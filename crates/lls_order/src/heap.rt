@@ -6,13 +6,13 @@ use lls_base::Memory;
 use lls_lit::Var;
 use std::alloc::Global;
 
-// The numbers below a number, each at its own place.
-pub(crate) fn numbers_below(alloc: Global, most: u32) -> Result<Vec<u32>, Memory>
-    ensures len { IfOk result (λ numbers. length numbers.items ≡ most) }
-    ensures own_place { IfOk result (λ numbers. (k : ℕ) → k < most → slice_index numbers.items k ≡ k) }
+// The numbers below one, each at its own place.
+pub(crate) fn numbers_below(alloc: Global, end: u32) -> Result<Vec<u32>, Memory>
+    ensures len { IfOk result (λ numbers. length numbers.items ≡ end) }
+    ensures own_place { IfOk result (λ numbers. (k : ℕ) → k < end → slice_index numbers.items k ≡ k) }
 {
-    let mut numbers = Vec::with_capacity(alloc, most as usize)?;
-    for number in 0..most {
+    let mut numbers = Vec::with_capacity(alloc, end as usize)?;
+    for number in 0..end {
         numbers.push(number)?;
     }
     Ok(numbers)
@@ -71,6 +71,7 @@ fn greater_child(activities: &[u64], heap: &[u32], at: usize, count: usize) -> O
     ensures some { IfSome result (IsGreaterChild (ranks activities.now heap.now) count at) }
     ensures none { IfNone result ((k : ℕ) → 0 < k → k < count → parent_of k ≡ at → ranks activities.now heap.now k ≤ ranks activities.now heap.now at) }
 {
+    // The places from here on have no child.
     if at >= count / 2 {
         return None;
     }

@@ -8,4 +8,4 @@ mod order;
 mod tests;
 
 pub use luby_numbers::luby;
-pub use order::{MOST_ACTIVITY, Order};
+pub use order::{MOST_ACTIVITY, Order, SCALE, SCALED_ABOVE};

@@ -1,7 +1,7 @@
 //! An order of decisions.
-ghost use Rattle.std.specs.Prelude.{◌≡◌, ◌≤◌, ◌↔◌, ◌+◌, ◌/◌, map, IfNone, IfOk, IfSome};
+ghost use Rattle.std.specs.Prelude.{◌≡◌, ◌<◌, ◌≤◌, ◌↔◌, ◌+◌, ◌/◌, ◌^◌, map, IfNone, IfOk, IfSome};
 ghost use Rattle.lls_order.specs.Order.{activity_of, IsEmpty, IsGreatest};
-ghost use Rattle.lls_order.specs.Changes.{bumped, grown, halved, new_order, put_in, raised, taken_out};
+ghost use Rattle.lls_order.specs.Changes.{bumped, grown, new_order, put_in, raised, scaled_down, taken_out};
 
 use crate::heap::{insert_from, make_heap, numbers_below, remove_first, sift_up};
 use lls_base::Memory;
@@ -9,19 +9,28 @@ use lls_lit::Var;
 use std::alloc::Global;
 use std::marker::Model;
 
-/// The greatest activity of a variable.
+/// The greatest activity of a variable, 2^60.
 pub const MOST_ACTIVITY: u64 = 1 << 60;
+
+/// Where the amount is above 2^54, it doesn't grow before all is scaled down.
+pub const SCALED_ABOVE: u64 = 1 << 54;
+
+/// All is divided by 2^16 then: about once in 230 conflicts.
+pub const SCALE: u32 = 16;
 
 /// Variables with activities, of which those that are in come out by activity: the solver's order of decisions.
 ///
 /// A variable's activity rises by an amount of the order's own. Where the amount grows after each conflict, late conflicts
-/// weigh more (Moskewicz and others, *Chaff*, 2001; in this form Eén and Sörensson, *An Extensible SAT-solver*, 2003).
+/// weigh more (Moskewicz and others, *Chaff*, 2001; in this form Eén, Sörensson, *An Extensible SAT-solver*, 2003).
 #[derive(Debug, Drop)]
 pub struct Order {
     vars: u32,
     activities: Vec<u64>,
+    // How many variables are in.
     count: usize,
+    // All variables, each as its number less one: a heap of those that are in, and then the others.
     heap: Vec<u32>,
+    // Where each variable stands in the heap.
     places: Vec<u32>,
     amount: u64,
 }
@@ -113,24 +122,30 @@ impl Order {
     {
         let activity = self.activities[var.number() as usize - 1];
         if activity + self.amount > MOST_ACTIVITY {
-            self.halve();
+            self.scale_down(1);
         }
         self.raise(var);
     }
 
-    /// Makes the amount greater by about a twentieth: what is bumped from now on counts more.
+    /// Makes the amount greater by about a twentieth: what is bumped from now on counts more. Where the amount is great, all
+    /// activities and the amount are scaled down first.
     pub fn grow(&mut self)
         ensures { self.new ≡ grown self.old }
     {
-        self.amount = MOST_ACTIVITY.min(self.amount + self.amount / 20 + 1);
+        if self.amount > SCALED_ABOVE {
+            self.scale_down(SCALE);
+        }
+        self.amount += self.amount / 20 + 1;
     }
 
-    // Halves all activities and the amount. Activities that differed may be equal then, so the heap is made anew.
-    fn halve(&mut self)
-        ensures { self.new ≡ halved self.old }
+    // Divides all activities and the amount by a power of two. Activities that differed may be equal then, so the heap is made
+    // anew.
+    fn scale_down(&mut self, power: u32)
+        requires { power < 64 }
+        ensures { self.new ≡ scaled_down self.old power }
     {
-        halve_all(&mut self.activities);
-        self.amount = (self.amount / 2).max(1);
+        shift_all(&mut self.activities, power);
+        self.amount = (self.amount >> power).max(1);
         make_heap(
             &self.activities,
             &mut self.heap,
@@ -154,10 +169,11 @@ impl Order {
     }
 }
 
-fn halve_all(activities: &mut [u64])
-    ensures { activities.new ≡ map (λ a. a / 2) activities.old }
+fn shift_all(activities: &mut [u64], power: u32)
+    requires { power < 64 }
+    ensures { activities.new ≡ map (λ a. a / 2 ^ power) activities.old }
 {
     for activity in activities.iter_mut() {
-        *activity /= 2;
+        *activity >>= power;
     }
 }

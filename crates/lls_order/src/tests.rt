@@ -55,15 +55,20 @@ fn variable(order: &Order, n: u32) -> Result<Var, Fail>
     }
 }
 
+fn bump(order: &mut Order, n: u32, times: u32) -> Result<(), Fail> {
+    for _ in 0..times {
+        let var = variable(order, n)?;
+        order.bump(var);
+    }
+    Ok(())
+}
+
 #[test]
 fn variables_come_out_as_worked(rt: HostRuntime) -> Result<(), Fail> {
     let mut order = Order::new(rt.alloc(), 4)?;
     for call in &CALLS {
         match *call {
-            Call::Bump(n) => {
-                let var = variable(&order, n)?;
-                order.bump(var);
-            }
+            Call::Bump(n) => bump(&mut order, n, 1)?,
             Call::Grow => order.grow(),
             Call::PutBack(n) => {
                 let var = variable(&order, n)?;
@@ -83,10 +88,7 @@ fn variables_come_out_as_worked(rt: HostRuntime) -> Result<(), Fail> {
 fn a_hundred_variables_come_out_by_activity(rt: HostRuntime) -> Result<(), Fail> {
     let mut order = Order::new(rt.alloc(), 100)?;
     for n in 1..101 {
-        for _ in 0..37 * n % 101 {
-            let var = variable(&order, n)?;
-            order.bump(var);
-        }
+        bump(&mut order, n, 37 * n % 101)?;
     }
     for r in (1..101_u32).rev() {
         assert_eq!(rt; order.pop_greatest().map(Var::number), Some(71 * r % 101));
@@ -95,24 +97,52 @@ fn a_hundred_variables_come_out_by_activity(rt: HostRuntime) -> Result<(), Fail>
     Ok(())
 }
 
-// 1 has the activity 2, and 2 has 3. The halving makes both 1, so that 1 comes out before 2.
+struct Scaling {
+    grows: u32,
+    bumps: u32,
+    popped: [u32; 3],
+}
+
+// The activity of 1 is 2, and that of 2 is 3. Then the amount grows, and 3 is bumped. After 700 times the amount is between
+// 2^52 and 2^53, so that 100 bumps stay below 2^60 and 300 pass it. After 1000 times it has passed 2^54 once.
+const SCALINGS: [Scaling; 4] = [
+    Scaling {
+        grows: 700,
+        bumps: 0,
+        popped: [2, 1, 3],
+    },
+    Scaling {
+        grows: 700,
+        bumps: 100,
+        popped: [3, 2, 1],
+    },
+    // 1 and 2 have the same activity then.
+    Scaling {
+        grows: 700,
+        bumps: 300,
+        popped: [3, 1, 2],
+    },
+    Scaling {
+        grows: 1000,
+        bumps: 0,
+        popped: [1, 2, 3],
+    },
+];
+
 #[test]
-fn a_halving_makes_equal(rt: HostRuntime) -> Result<(), Fail> {
-    let mut order = Order::new(rt.alloc(), 3)?;
-    for n in [1, 1, 2, 2, 2] {
-        let var = variable(&order, n)?;
-        order.bump(var);
-    }
-    // 800 times a twentieth more is more than 2^60.
-    for _ in 0..1000 {
-        order.grow();
-    }
-    for n in [3, 3] {
-        let var = variable(&order, n)?;
-        order.bump(var);
-    }
-    for expected in [Some(3), Some(1), Some(2), None] {
-        assert_eq!(rt; order.pop_greatest().map(Var::number), expected);
+fn scaling_makes_equal(rt: HostRuntime) -> Result<(), Fail> {
+    for row in &SCALINGS {
+        let mut order = Order::new(rt.alloc(), 3)?;
+        bump(&mut order, 1, 2)?;
+        bump(&mut order, 2, 3)?;
+        for _ in 0..row.grows {
+            order.grow();
+        }
+        bump(&mut order, 3, row.bumps)?;
+        for n in row.popped {
+            assert_eq!(rt; order.pop_greatest().map(Var::number), Some(n));
+        }
+        assert!(rt; order.pop_greatest().is_none());
     }
     Ok(())
 }
