@@ -1,0 +1,9 @@
+pub mod Tables
+pub mod Inside
+pub mod Sifts
+pub mod Rising
+pub mod Sinking
+pub mod Building
+pub mod LubyNumbers
+pub mod Parts
+pub mod Greatest

@@ -1,0 +1,4 @@
+pub mod Luby
+pub mod Order
+pub mod Changes
+pub mod Heap
