@@ -7,3 +7,4 @@ pub mod Walked
 pub mod Within
 pub mod Checks
 pub mod Verdicts
+pub mod Logs

@@ -56,6 +56,14 @@ take_line state None line = after_reading state (step_of_line line)
 abbrev pub line_taken : State → List ℕ → State
 line_taken state line = take_line state state.end line
 
+-- the state after one more step; once there is an end no step is looked at
+abbrev pub take_step : State → Option Verdict → Step → State
+take_step state (Some verdict) step = state
+take_step state None step = after_step state step (fault_of state.live step)
+
+abbrev pub step_taken : State → Step → State
+step_taken state step = take_step state state.end step
+
 -- without an end the lines end before the empty clause was added
 abbrev pub closing : Option Verdict → Verdict
 closing None = NoEmpty
@@ -64,6 +72,10 @@ closing (Some verdict) = verdict
 -- what a proof's text amounts to: its lines taken in turn
 abbrev pub verdict : Cnf → List ℕ → Verdict
 verdict formula text = closing ((fold line_taken (start formula) (lines_of text)).end)
+
+-- what the steps of a log amount to, each of them a line
+abbrev pub log_verdict : Cnf → List Step → Verdict
+log_verdict formula steps = closing ((fold step_taken (start formula) steps).end)
 
 -- Ok where the proof is accepted, else why it isn't
 abbrev pub answer_of : Verdict → Result (Unit {0}) CheckError

@@ -34,12 +34,12 @@ pub fn check_bytes<'f>(
     let mut count = 0;
     while let Some(line) = lines.next() {
         match take_line(alloc, &mut checker, count, line) {
-            Ok(Progress::Done) => return finished(checker),
+            Ok(Progress::Done) => return checker.conclude(),
             Ok(Progress::Going) => count += 1,
             Err(error) => return Err(error),
         }
     }
-    finished(checker)
+    checker.conclude()
 }
 
 // Takes one more line behind so many.
@@ -67,16 +67,5 @@ fn take_line(
         Ok(progress) => Ok(progress),
         Err(Refusal::Fault(fault)) => Err(CheckError::Step(number, fault)),
         Err(Refusal::Memory) => Err(CheckError::Memory),
-    }
-}
-
-// What a checker proves at the end of the lines.
-fn finished<'f>(checker: Checker<'f>) -> Result<Checked<'f>, CheckError>
-    ensures exact { result ≡ (if checker.entry.done then Ok checker.entry.formula else Err CheckError.NoEmpty) }
-    ensures sound { OnOk result (IsUnsatisfiable checker.entry.formula) }
-{
-    match checker.finish() {
-        Some(checked) => Ok(checked),
-        None => Err(CheckError::NoEmpty),
     }
 }

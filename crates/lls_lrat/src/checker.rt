@@ -1,5 +1,5 @@
 // The checker of proof steps.
-ghost use Rattle.std.specs.Prelude.{◌≡◌, ◌≤◌, true, false, Some, None, IfOk, OnOk, OnErr, if◌then◌else◌};
+ghost use Rattle.std.specs.Prelude.{◌≡◌, ◌≤◌, true, false, Some, None, Ok, Err, IfOk, OnOk, OnErr, if◌then◌else◌};
 ghost use Rattle.lls_lit.specs.Formula.{is_within, IsUnsatisfiable};
 ghost use Rattle.lls_prooflog.specs.Range.{IsInRange};
 ghost use Rattle.lls_prooflog.specs.Steps.{numbered};
@@ -7,6 +7,7 @@ ghost use Rattle.lls_prooflog.specs.Wrapped.{GivesWrapped};
 ghost use Rattle.lls_prooflog.specs.declared.step.Step.TheVariants.{Add};
 
 use crate::checked::Checked;
+use crate::error::CheckError;
 use crate::live::LiveClauses;
 use crate::refusal::Refusal;
 use crate::walk::follow_hints;
@@ -103,8 +104,19 @@ impl<'f> Checker<'f> {
         }
     }
 
+    // What the steps prove, or that they don't add the empty clause.
+    pub(crate) fn conclude(self) -> Result<Checked<'f>, CheckError>
+        ensures exact { result ≡ (if self.entry.done then Ok self.entry.formula else Err CheckError.NoEmpty) }
+        ensures sound { OnOk result (IsUnsatisfiable self.entry.formula) }
+    {
+        match self.finish() {
+            Some(checked) => Ok(checked),
+            None => Err(CheckError::NoEmpty),
+        }
+    }
+
     // The step that adds a clause, where the empty clause wasn't added yet.
-    fn add(&mut self, id: u64, lits: &[Lit], hints: &[i64]) -> Result<Progress, Refusal>
+    pub(crate) fn add(&mut self, id: u64, lits: &[Lit], hints: &[i64]) -> Result<Progress, Refusal>
         requires { self.old.done ≡ false }
         ensures stepped { GivesWrapped Refusal.Fault (λ _. self.new) result
             (stepped self.old (Add id lits.now hints.now)) }

@@ -8,6 +8,7 @@ mod checker;
 mod error;
 mod given;
 mod live;
+mod log;
 mod places;
 mod refusal;
 mod walk;
@@ -16,6 +17,7 @@ pub use bytes::check_bytes;
 pub use checked::Checked;
 pub use checker::{Checker, Progress};
 pub use error::CheckError;
+pub use log::check;
 pub use refusal::Refusal;
 
 #[cfg(test)]
