@@ -1,11 +1,10 @@
 -- What a log amounts to: as its text does, and accepted exactly where its steps are.
-use Rattle.std.proofs.Common.{◌≡◌, ℕ, ◌+◌, Bool, true, false, cond, List, [], ◌∷◌, map, Option, Some, None, is_none, refl, sym, ap, ◌∙◌}
+use Rattle.std.proofs.Common.{◌≡◌, ℕ, ◌+◌, true, false, cond, List, [], ◌∷◌, map, Option, Some, None, is_none, refl, ap, ◌∙◌}
 use Rattle.std.specs.Prelude.{Ok, Result, fold, ◌||◌}
 use Rattle.lls_text.specs.Lines.{lines_of}
 use Rattle.lls_lit.specs.Formula.{Cnf}
 use Rattle.lls_prooflog.specs.declared.step.Step.{Step}
 use Rattle.lls_prooflog.specs.declared.line_fault.LineFault.{LineFault}
-use Rattle.lls_prooflog.specs.declared.step_fault.StepFault.{StepFault}
 use Rattle.lls_prooflog.specs.Line.{step_of_line}
 use Rattle.lls_prooflog.specs.Log.{ReadsAs}
 use Rattle.lls_prooflog.specs.Steps.{Live, numbered, fault_of, after, is_empty_addition, are_accepted}

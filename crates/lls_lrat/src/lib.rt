@@ -21,4 +21,6 @@ pub use log::check;
 pub use refusal::Refusal;
 
 #[cfg(test)]
+mod log_tests;
+#[cfg(test)]
 mod tests;

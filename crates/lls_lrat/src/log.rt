@@ -40,11 +40,7 @@ pub fn check<'f>(alloc: Global, formula: &'f Formula, log: &Log) -> Result<Check
 }
 
 // Takes one more step behind so many.
-fn take_step(
-    checker: &mut Checker,
-    count: u64,
-    addition: Addition,
-) -> Result<Progress, CheckError>
+fn take_step(checker: &mut Checker, count: u64, addition: Addition) -> Result<Progress, CheckError>
     requires going { checker.old.done ≡ false }
     requires room { count + 1 < 2 ^ 64 }
     ensures taken { Gives CheckError.Memory (λ _. at_line checker.new (count + 1)) result

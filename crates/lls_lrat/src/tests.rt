@@ -16,7 +16,7 @@ fn are_within(lits: &[Lit], vars: u32) -> bool
     lits.iter().all(|lit| lit.is_of(vars))
 }
 
-fn literals(alloc: Global, numbers: &[i32]) -> Result<Vec<Lit>, Fail> {
+pub(crate) fn literals(alloc: Global, numbers: &[i32]) -> Result<Vec<Lit>, Fail> {
     let mut lits = Vec::new(alloc);
     for number in numbers {
         lits.push(Lit::from_number(*number).ok_or("a literal")?)?;
@@ -24,7 +24,7 @@ fn literals(alloc: Global, numbers: &[i32]) -> Result<Vec<Lit>, Fail> {
     Ok(lits)
 }
 
-fn formula(rt: &impl Abort, alloc: Global) -> Result<Formula, Fail> {
+pub(crate) fn formula(rt: &impl Abort, alloc: Global) -> Result<Formula, Fail> {
     let mut formula = Formula::new(alloc, 2);
     for clause in [[1].as_slice(), &[2], &[1, -2], &[-1, -2]] {
         let lits = literals(alloc, clause)?;
