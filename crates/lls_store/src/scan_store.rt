@@ -66,6 +66,7 @@ impl Store for ScanStore {
 
     fn add(&mut self, trail: &Trail, id: u64, lits: &[Lit]) -> Result<u32, Memory> {
         let number = self.count();
+        // One is for this clause, the other stays for a learnt one.
         self.clauses.reserve_heads(2)?;
         self.clauses.extend(lits, self.vars as usize)?;
         self.clauses.seal(id);
