@@ -1,15 +1,14 @@
 // A store that reads all its clauses, again and again, until no literal is forced: the plain body of the trait `Store`.
-ghost use Rattle.std.specs.Prelude.{◌≡◌, ◌≤◌, false, IfNone, IfSome, length};
-ghost use Rattle.lls_store.specs.Trail.{TrailState};
+ghost use Rattle.std.specs.Prelude.{◌≡◌, false, IfNone, IfSome, length};
 ghost use Rattle.lls_store.specs.Changes.{empty_trail};
 ghost use Rattle.lls_store.specs.Closed.{IsClosed};
 ghost use Rattle.lls_store.specs.Sound.{IsSound};
-ghost use Rattle.lls_store.specs.Store.{AreLive, GoesOn, IsConflict, empty_store};
+ghost use Rattle.lls_store.specs.Store.{GoesOn, IsConflict, empty_store};
 ghost use Rattle.lls_store.specs.Scan.{numbered, AreScannable};
 
 use crate::flat::FlatClauses;
 use crate::standing::{Standing, standing_under};
-use crate::{MOST_CLAUSES, Store, Trail};
+use crate::{Store, Trail};
 use lls_base::Memory;
 use lls_lit::Lit;
 use std::alloc::Global;
