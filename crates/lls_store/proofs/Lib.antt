@@ -16,3 +16,4 @@ pub mod Tails
 pub mod Scanned
 pub mod Standings
 pub mod Passes
+pub mod ReasonFound

@@ -1,15 +1,14 @@
 // A store that reads all its clauses, again and again, until no literal is forced: the plain body of the trait `Store`.
-ghost use Rattle.std.specs.Prelude.{◌≡◌, ◌≤◌, false, IfNone, IfSome, length};
-ghost use Rattle.lls_store.specs.Trail.{TrailState};
+ghost use Rattle.std.specs.Prelude.{◌≡◌, false, IfNone, IfSome, length};
 ghost use Rattle.lls_store.specs.Changes.{empty_trail};
 ghost use Rattle.lls_store.specs.Closed.{IsClosed};
 ghost use Rattle.lls_store.specs.Sound.{IsSound};
-ghost use Rattle.lls_store.specs.Store.{AreLive, GoesOn, IsConflict, empty_store};
+ghost use Rattle.lls_store.specs.Store.{GoesOn, IsConflict, empty_store};
 ghost use Rattle.lls_store.specs.Scan.{numbered, AreScannable};
 
 use crate::flat::FlatClauses;
 use crate::standing::{Standing, standing_under};
-use crate::{MOST_CLAUSES, Store, Trail};
+use crate::{Store, Trail};
 use lls_base::Memory;
 use lls_lit::Lit;
 use std::alloc::Global;
@@ -66,6 +65,7 @@ impl Store for ScanStore {
 
     fn add(&mut self, trail: &Trail, id: u64, lits: &[Lit]) -> Result<u32, Memory> {
         let number = self.count();
+        // One is for this clause, the other stays for a learnt one.
         self.clauses.reserve_heads(2)?;
         self.clauses.extend(lits, self.vars as usize)?;
         self.clauses.seal(id);

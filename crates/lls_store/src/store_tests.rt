@@ -1,6 +1,7 @@
 // A store and its trail worked by hand, step by step.
-ghost use Rattle.std.specs.Prelude.{◌≡◌, [], ◌∷◌, true, IfOk, IsTrue};
+ghost use Rattle.std.specs.Prelude.{◌≡◌, [], ◌∷◌, true, IfOk, IsSome, IsTrue};
 ghost use Rattle.lls_lit.specs.Formula.{is_literal_of, is_within};
+ghost use Rattle.lls_store.specs.Clauses.{clause_numbered};
 ghost use Rattle.lls_store.specs.Sound.{IsSound};
 ghost use Rattle.lls_store.specs.Store.{IsLearnt};
 ghost use Rattle.lls_store.specs.Worked.{IsAtRest};
@@ -249,6 +250,41 @@ fn learnt<S: Store>(
     Ok(store.seal_learnt(trail, u64::from(count) + 1))
 }
 
+// Whether each literal of a live clause is false.
+fn is_false<S: Store>(store: &S, trail: &Trail, c: u32) -> bool
+    requires tracked { S.tracks store.now trail.now }
+    requires live { IsSome (clause_numbered (S.state store.now).live c) }
+{
+    if c < store.count() {
+        for lit in store.lits(c) {
+            if trail.value(*lit) != Some(false) {
+                return false;
+            }
+        }
+    }
+    true
+}
+
+// Propagates, and sees that a clause that is answered is false.
+fn propagated<S: Store>(store: &mut S, trail: &mut Trail) -> Result<Option<u32>, Fail>
+    requires vars { trail.old.vars ≡ VARS }
+    requires tracked { S.tracks store.old trail.old }
+    requires sound { IsSound (S.state store.old).live trail.old }
+    requires at_rest { IsAtRest (S.state store.old) }
+    ensures vars { trail.new.vars ≡ VARS }
+    ensures tracked { S.tracks store.new trail.new }
+    ensures sound { IsSound (S.state store.new).live trail.new }
+    ensures at_rest { IsAtRest (S.state store.new) }
+{
+    let answer = store.propagate(trail);
+    if let Some(c) = answer {
+        if !is_false(store, trail, c) {
+            return Err(Fail::from("a false clause"));
+        }
+    }
+    Ok(answer)
+}
+
 // Propagates, which must answer None, and decides.
 fn decided<S: Store>(store: &mut S, trail: &mut Trail, lit: Lit) -> Result<(), Fail>
     requires vars { trail.old.vars ≡ VARS }
@@ -306,7 +342,7 @@ fn stepped<S: Store>(
 {
     match step {
         Step::Add(numbers) => Ok(Some(added(alloc, store, trail, numbers)?)),
-        Step::Propagate => Ok(store.propagate(trail)),
+        Step::Propagate => propagated(store, trail),
         Step::Decide(number) => {
             let lit = literal(number)?;
             decided(store, trail, lit)?;
