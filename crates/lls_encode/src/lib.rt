@@ -3,8 +3,12 @@
 
 mod cells;
 mod decoding;
+mod difference;
+mod equal;
 mod formula;
+mod period;
 mod place;
+mod symmetry;
 #[cfg(test)]
 mod tests;
 mod transition;

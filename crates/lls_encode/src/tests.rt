@@ -1,8 +1,11 @@
 // Formulas of search files, as DIMACS writes clauses, worked out by hand and by an independent script.
+ghost use Rattle.std.specs.Option.{ForSome};
+ghost use Rattle.lls_problem.specs.Problem.{IsPeriod};
+
 use crate::{decode, encode};
 use lls_cnf::{Assignment, Formula};
 use lls_grid::print_history;
-use lls_problem::{Demands, Edge, make_problem};
+use lls_problem::{Demands, Edge, Period, make_problem};
 use lls_rule::Rule;
 use lls_search_file::read_posed;
 use std::alloc::{AllocError, Global};
@@ -20,9 +23,11 @@ fn clauses(alloc: Global, formula: &Formula) -> Result<String, AllocError> {
     Ok(text)
 }
 
-// The formula of a search file under a rule and an edge.
-fn encoded(alloc: Global, file: &[u8], rule: Rule, edge: Edge) -> Result<Formula, Fail> {
-    let problem = make_problem(read_posed(alloc, file)?, rule, Demands::new(edge))?;
+// The formula of a search file under a rule and demands.
+fn encoded(alloc: Global, file: &[u8], rule: Rule, demands: Demands) -> Result<Formula, Fail>
+    requires { ForSome demands.period IsPeriod }
+{
+    let problem = make_problem(read_posed(alloc, file)?, rule, demands)?;
     Ok(encode(alloc, &problem)?)
 }
 
@@ -95,11 +100,45 @@ fn formulas_of_search_files(rt: HostRuntime) -> Result<(), Fail> {
         (b"* *\n* *", life, Edge::Framed, 4, ""),
     ];
     for (file, rule, edge, vars, text) in rows {
-        let formula = encoded(alloc, file, rule, edge)?;
+        let formula = encoded(alloc, file, rule, Demands::new(edge))?;
         let found = clauses(alloc, &formula)?;
         assert_eq!(rt; formula.vars(), vars);
         assert_eq!(rt; found.as_str(), text);
     }
+    Ok(())
+}
+
+#[test]
+fn formulas_of_demands(rt: HostRuntime) -> Result<(), Fail> {
+    let alloc = rt.alloc();
+    let life = Rule::from_counts(0b0_0000_1000, 0b0_0000_1100);
+    let blinking = Rule::from_counts(0b0_0000_0001, 0);
+    let differing = Demands {
+        differ: Some((0, 1)),
+        ..Demands::new(Edge::Framed)
+    };
+    let formula = encoded(alloc, b"*\n\n*", life, differing)?;
+    let found = clauses(alloc, &formula)?;
+    assert_eq!(rt; formula.vars(), 3);
+    assert_eq!(rt;
+        found.as_str(),
+        "1 -2 0\n-1 -2 0\n-3 1 2 0\n-3 -1 -2 0\n3 0\n"
+    );
+    let returning = Demands {
+        period: Some(Period {
+            length: 1,
+            dx: 0,
+            dy: 0,
+        }),
+        ..Demands::new(Edge::Framed)
+    };
+    let formula = encoded(alloc, b"*\n\n*", blinking, returning)?;
+    let found = clauses(alloc, &formula)?;
+    assert_eq!(rt; formula.vars(), 2);
+    assert_eq!(rt;
+        found.as_str(),
+        "0\n-1 2 0\n1 -2 0\n-1 0\n-1 0\n-1 0\n-1 0\n1 2 0\n-1 -2 0\n-1 0\n-1 0\n-1 0\n-1 0\n"
+    );
     Ok(())
 }
 
