@@ -1,4 +1,4 @@
-//! The formula of a problem: an assignment that satisfies it is a solution's cells in their order.
+//! The formula of a problem: an assignment that satisfies it begins with a solution's cells in their order.
 #![tactic(auto)]
 
 mod cells;
