@@ -1,18 +1,16 @@
 #!/usr/bin/env python3
 """Prints the formula of a search file as DIMACS CNF, for any SAT solver.
 
-    formula.py SEARCH BIRTHS SURVIVALS closed|open
+    formula.py SEARCH BIRTHS SURVIVALS closed|open [--symmetry NAME] [--period N] [--shift DX,DY] [--differ A,B]
 
 BIRTHS and SURVIVALS are digits, or `-` for none. The clauses are made by refute.py beside this file, which shares nothing
 with the crates.
 """
-import sys
-
-from refute import formula_of
+from refute import formula_of_words
 
 
 def main():
-    formula = formula_of(*sys.argv[1:])
+    formula = formula_of_words(__doc__)
     print(f"p cnf {formula.count} {len(formula.clauses)}")
     for clause in formula.clauses:
         print(*clause, 0)

@@ -1,7 +1,7 @@
 #!/usr/bin/env python3
 """Makes the formula of a small search file and an LRAT proof of its absence, by plain splitting.
 
-    refute.py SEARCH BIRTHS SURVIVALS closed|open
+    refute.py SEARCH BIRTHS SURVIVALS closed|open [--symmetry NAME] [--period N] [--shift DX,DY] [--differ A,B]
 
 BIRTHS and SURVIVALS are digits, or `-` for none. The proof goes to the standard output, the sizes of the formula to the
 standard error. Where generations exist that fit the file, there is no proof and the exit status is 1.
@@ -9,6 +9,7 @@ standard error. Where generations exist that fit the file, there is no proof and
 It is written from docs/definitions.md alone and shares nothing with the crates, so that what both agree on is worth
 something. It is slow: for files of up to about twenty free cells.
 """
+import argparse
 import re
 import sys
 
@@ -28,10 +29,39 @@ def read_search_file(text):
     return generations
 
 
+# Where each motion takes a cell of a grid of h rows and w columns.
+MOTIONS = {
+    "half": lambda h, w, y, x: (h - 1 - y, w - 1 - x),
+    "quarter": lambda h, w, y, x: (x, h - 1 - y),
+    "rows": lambda h, w, y, x: (h - 1 - y, x),
+    "columns": lambda h, w, y, x: (y, w - 1 - x),
+    "down": lambda h, w, y, x: (x, y),
+    "up": lambda h, w, y, x: (w - 1 - x, h - 1 - y),
+}
+
+GENERATORS = {
+    "C1": [],
+    "C2": ["half"],
+    "C4": ["quarter"],
+    "D2-": ["rows"],
+    "D2|": ["columns"],
+    "D2\\": ["down"],
+    "D2/": ["up"],
+    "D4+": ["rows", "columns"],
+    "D4x": ["down", "up"],
+    "D8": ["quarter", "columns"],
+}
+
+
+def opposite(place):
+    """The negation of a literal or of a constant."""
+    return not place if isinstance(place, bool) else -place
+
+
 class Formula:
     """The clauses of a search file, in the order of docs/definitions.md."""
 
-    def __init__(self, generations, successor, closed):
+    def __init__(self, generations, successor, closed, symmetry="C1", period=None, shift=(0, 0), differ=None):
         self.generations = generations
         self.height, self.width = len(generations[0]), len(generations[0][0])
         self.count = len(generations) * self.height * self.width
@@ -42,7 +72,12 @@ class Formula:
         self.clauses = []
         self.push_fixed()
         self.push_names()
+        self.push_symmetry(symmetry)
+        if period is not None:
+            self.push_period(period, *shift)
         self.push_transitions()
+        if differ is not None:
+            self.push_difference(*differ)
 
     def variable(self, t, y, x):
         return 1 + x + self.width * (y + self.height * t)
@@ -67,6 +102,45 @@ class Formula:
             first = firsts.setdefault(word.lstrip("-"), literal)
             if first != literal:
                 self.clauses += [[-first, literal], [first, -literal]]
+
+    def push_clause(self, places):
+        """Constants that are false are dropped, and one that is true leaves the clause out."""
+        if not any(place is True for place in places):
+            self.clauses.append([place for place in places if place is not False])
+
+    def push_same(self, a, b):
+        self.push_clause([opposite(a), b])
+        self.push_clause([a, opposite(b)])
+
+    def grid(self):
+        return [(y, x) for y in range(self.height) for x in range(self.width)]
+
+    def push_symmetry(self, symmetry):
+        for generator in GENERATORS[symmetry]:
+            for t in range(len(self.generations)):
+                for y, x in self.grid():
+                    to = MOTIONS[generator](self.height, self.width, y, x)
+                    if to != (y, x):
+                        self.push_same(self.place(t, y, x), self.place(t, *to))
+
+    def push_period(self, period, dx, dy):
+        for t in range(len(self.generations) - period):
+            later = t + period
+            if self.background[t] != self.background[later]:
+                self.clauses.append([])
+            for y, x in self.grid():
+                self.push_same(self.place(t, y, x), self.place(later, y + dy, x + dx))
+            for y, x in self.grid():
+                if (y - dy, x - dx) not in self.grid():
+                    self.push_same(self.place(t, y - dy, x - dx), self.place(later, y, x))
+
+    def push_difference(self, first, second):
+        base = self.count
+        self.count += self.height * self.width
+        for d, (y, x) in enumerate(self.grid(), base + 1):
+            a, b = self.variable(first, y, x), self.variable(second, y, x)
+            self.clauses += [[-d, a, b], [-d, -a, -b]]
+        self.clauses.append(list(range(base + 1, self.count + 1)))
 
     def place(self, t, y, x):
         """A variable, or the constant of a place outside the grid."""
@@ -149,19 +223,35 @@ class Refutation:
         return True
 
 
-def formula_of(path, births, survivals, edge):
-    """Returns the formula of the search file at a path."""
+def pair(text):
+    first, second = map(int, text.split(","))
+    return first, second
+
+
+def formula_of_words(description):
+    """Returns the formula of the search file and the demands that the program's words name."""
+    parser = argparse.ArgumentParser(description=description, formatter_class=argparse.RawDescriptionHelpFormatter)
+    parser.add_argument("search")
+    parser.add_argument("births")
+    parser.add_argument("survivals")
+    parser.add_argument("edge", choices=("closed", "open"))
+    parser.add_argument("--symmetry", choices=GENERATORS, default="C1")
+    parser.add_argument("--period", type=int)
+    parser.add_argument("--shift", type=pair, default=(0, 0))
+    parser.add_argument("--differ", type=pair)
+    words = parser.parse_args()
 
     def successor(nine):
         neighbours = sum(nine) - nine[4]
-        return str(neighbours) in (survivals if nine[4] else births)
+        return str(neighbours) in (words.survivals if nine[4] else words.births)
 
-    with open(path, encoding="ascii") as file:
-        return Formula(read_search_file(file.read()), successor, edge == "closed")
+    with open(words.search, encoding="ascii") as file:
+        generations = read_search_file(file.read())
+    return Formula(generations, successor, words.edge == "closed", words.symmetry, words.period, words.shift, words.differ)
 
 
 def main():
-    formula = formula_of(*sys.argv[1:])
+    formula = formula_of_words(__doc__)
     print(f"{formula.count} variables, {len(formula.clauses)} clauses", file=sys.stderr)
     refutation = Refutation(formula)
     if not refutation.refute():

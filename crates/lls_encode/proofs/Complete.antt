@@ -1,31 +1,29 @@
--- The cells of every solution satisfy the formula.
-use Rattle.std.proofs.Common.{◌≡◌, ◌<◌, ◌≤◌, ℕ, suc, ◌+◌, ◌-◌, ◌*◌, ℤ, pos, ◌-ℤ◌, Bool, true, false, not, ◌&&◌, ◌||◌, cond, List, [], ◌∷◌, ◌++◌, length, refl, sym, ap, ◌∙◌, subst, arith, Option, None, Some, get_or, ◌==◌, add-one, length-append}
+-- Every solution has an assignment that satisfies the formula.
+use Rattle.std.proofs.Common.{◌≡◌, ◌<◌, ℕ, suc, ◌+◌, ◌-◌, ℤ, pos, ◌-ℤ◌, Bool, true, false, not, ◌&&◌, ◌||◌, cond, List, [], ◌∷◌, ◌++◌, length, refl, sym, ap, ◌∙◌, subst, arith, Option, None, Some, get_or, ◌==◌, add-one, length-append}
 use Rattle.std.specs.Option.{option_map_or}
 use Rattle.std.specs.List.{flat_map, position_from}
 use Rattle.std.proofs.lemmas.Bool.{and_from, eqb-true}
-use Rattle.std.proofs.lemmas.List.Folds.{list_all-append}
-use Rattle.lls_lit.specs.Formula.{Clause, is_true, satisfies_clause, satisfies, IsUnsatisfiable, Cnf}
-use Rattle.lls_grid.specs.History.{History, cells_of}
+use Rattle.lls_lit.specs.Formula.{Clause, is_true, satisfies, IsUnsatisfiable}
+use Rattle.lls_grid.specs.History.{History, HasSizes, cells_of}
 use Rattle.lls_search_file.specs.declared.cell.Cell.{Cell}
 use Rattle.lls_search_file.specs.declared.cell.Kind.{Kind}
 use Rattle.lls_search_file.specs.declared.cell.Kind.TheVariants.{Dead, Live, Free, Named, Negated}
 use Rattle.lls_search_file.specs.Posed.{name_of, IsPosed}
 use Rattle.lls_problem.specs.declared.demands.Edge.{Edge}
-use Rattle.lls_problem.specs.Problem.{PosedProblem}
-use Rattle.lls_problem.specs.Solution.{cell_number, HasItsBit, AreTied, MeetsCells, IsFramed, is_marked, IsSolution, IsAbsent}
+use Rattle.lls_problem.specs.Problem.{PosedProblem, AreFitting}
+use Rattle.lls_problem.specs.Solution.{cell_number, HasItsBit, AreTied, MeetsCells, IsFramed, is_marked, Obeys, IsSolution, IsAbsent}
 use Rattle.lls_transition.specs.Transition.{transition_clauses}
 use Rattle.lls_encode.specs.Place.{inputs_at}
 use Rattle.lls_encode.specs.History.{HasAssignment}
-use Rattle.std.proofs.lemmas.List.{take_all}
-use Rattle.lls_encode.specs.Formula.{fixed_clauses, same, name_literal, has_name, tied_to, name_clauses, first_framed, framed_count, framed, place_clauses, line_clauses, generation_clauses, fixed_part, name_part, transition_part, formula_of}
-use Rattle.lls_grid.proofs.InOrder.{length-cells_of}
-use Rattle.lls_transition.specs.Clause.{with_clauses}
-use Rattle.lls_encode.specs.Room.{HasRoom}
-use Rattle.lls_encode.proofs.Steps.{flat_map-map, length-flat_map_most}
-use Rattle.lls_encode.proofs.Bounds.{length-fixed_clauses, length-generation_clauses}
-use Rattle.lls_encode.proofs.Firsts.{length-name_clauses}
+use Rattle.std.proofs.Math.Seq.{take-append_seam}
+use Rattle.lls_encode.specs.Formula.{fixed_clauses, same, name_literal, has_name, tied_to, name_clauses, first_framed, framed_count, framed, place_clauses, line_clauses, generation_clauses, fixed_part, name_part, symmetry_part, period_part, front_part, transition_part, difference_part, formula_of}
+use Rattle.lls_encode.proofs.Steps.{flat_map-map}
 use Rattle.lls_encode.proofs.Framed.{IsFramedLine, framed_place, framed_both}
-use Rattle.lls_encode.proofs.Values.{is_true-cell}
+use Rattle.lls_encode.proofs.Parts.{satisfies-append}
+use Rattle.lls_encode.proofs.Values.{HasCells, is_true-cell}
+use Rattle.lls_encode.proofs.Mirrored.{satisfies-symmetry_part}
+use Rattle.lls_encode.proofs.Returned.{satisfies-period_part}
+use Rattle.lls_encode.proofs.Differing.{values_of, marks_where, length-marks_where, count_of, HasCells-behind, satisfies-difference_part}
 use Rattle.lls_encode.proofs.Satisfied.{satisfies-range, is_true-negation, is_literal, or_left}
 use Rattle.lls_encode.proofs.Obeyed.{satisfies-transition_clauses}
 
@@ -97,6 +95,15 @@ first_has (cell ∷ cells) n a first e =
       | false ↦ λ no is. let later = first_has cells n (a + 1) first is in (suc later.0, omega (arith, later.1), omega (arith, later.2), later.3)
     ] refl e
 
+-- what cells say of values they say of others that are equal there
+pub MeetsCells-same : (cells : List Cell) (v w : List Bool) → ((k : ℕ) → k < length cells → get_or v k false ≡ get_or w k false) → MeetsCells cells v → MeetsCells cells w
+MeetsCells-same cells v w same meets = record {
+  fixed = λ k k_in. subst (HasItsBit (cell_number cells k).kind) (same k k_in) (meets.fixed k k_in);
+  tied = λ j k j_in k_in.
+      subst (λ b. AreTied (cell_number cells j).kind (cell_number cells k).kind (get_or w j false) b) (same k k_in)
+      (subst (λ a. AreTied (cell_number cells j).kind (cell_number cells k).kind a (get_or v k false)) (same j j_in) (meets.tied j k j_in k_in));
+}
+
 satisfies-tied_to : (values : List Bool) (cells : List Cell) → MeetsCells cells values → (k n : ℕ) → k < length cells → name_of (cell_number cells k).kind ≡ Some n
     → (o : Option ℕ) → position_from (has_name n) 0 cells ≡ o → satisfies values (tied_to cells k o) ≡ true
 satisfies-tied_to values cells meets k n k_in named None e = refl
@@ -114,10 +121,10 @@ satisfies-name_clauses : (values : List Bool) (cells : List Cell) → MeetsCells
 satisfies-name_clauses values cells meets k k_in None named = refl
 satisfies-name_clauses values cells meets k k_in (Some n) named = satisfies-tied_to values cells meets k n k_in named (position_from (has_name n) 0 cells) refl
 
-satisfies-place_clauses : (p : PosedProblem) (h : History) → IsSolution p h → (t : ℕ) (y x : ℤ) → t + 1 < p.posed.generations
-    → IsFramed p.demands.edge p.posed.height p.posed.width y x → (b : Bool) → is_marked p.posed (t + 1) y x ≡ b → satisfies (cells_of h) (cond b [] (transition_clauses p.rule (inputs_at p t y x))) ≡ true
-satisfies-place_clauses p h s t y x next_in in_frame true mark = refl
-satisfies-place_clauses p h s t y x next_in in_frame false mark = satisfies-transition_clauses p h s.sizes t y x next_in (s.rule t y x next_in in_frame mark)
+satisfies-place_clauses : (p : PosedProblem) (h : History) (values : List Bool) → HasCells p values h → Obeys p h → (t : ℕ) (y x : ℤ) → t + 1 < p.posed.generations
+    → IsFramed p.demands.edge p.posed.height p.posed.width y x → (b : Bool) → is_marked p.posed (t + 1) y x ≡ b → satisfies values (cond b [] (transition_clauses p.rule (inputs_at p t y x))) ≡ true
+satisfies-place_clauses p h values has obeys t y x next_in in_frame true mark = refl
+satisfies-place_clauses p h values has obeys t y x next_in in_frame false mark = satisfies-transition_clauses p h values has t y x next_in (obeys t y x next_in in_frame mark)
 
 satisfies-framed : (values : List Bool) (f : ℤ → List Clause) (edge : Edge) (size : ℕ) → ((x : ℤ) → IsFramedLine edge size x → satisfies values (f x) ≡ true)
     → satisfies values (flat_map f (framed edge size)) ≡ true
@@ -125,94 +132,61 @@ satisfies-framed values f edge size each =
     ap (satisfies values) (flat_map-map f (λ (k : ℕ). pos k -ℤ pos 1) _)
     ∙ satisfies-range values (λ k. f (pos k -ℤ pos 1)) (first_framed edge) (framed_count edge size) (λ k low high. each (pos k -ℤ pos 1) (framed_place edge size k low high))
 
-satisfies-generation_clauses : (p : PosedProblem) (h : History) → IsSolution p h → (t : ℕ) → t + 1 < p.posed.generations → satisfies (cells_of h) (generation_clauses p t) ≡ true
-satisfies-generation_clauses p h s t next_in =
-    satisfies-framed (cells_of h) (line_clauses p t) p.demands.edge p.posed.height
-    (λ y line. satisfies-framed (cells_of h) (place_clauses p t y) p.demands.edge p.posed.width
-    (λ x column. satisfies-place_clauses p h s t y x next_in (framed_both p.demands.edge p.posed.height p.posed.width y x line column) (is_marked p.posed (t + 1) y x) refl))
+satisfies-generation_clauses : (p : PosedProblem) (h : History) (values : List Bool) → HasCells p values h → Obeys p h → (t : ℕ) → t + 1 < p.posed.generations → satisfies values (generation_clauses p t) ≡ true
+satisfies-generation_clauses p h values has obeys t next_in =
+    satisfies-framed values (line_clauses p t) p.demands.edge p.posed.height
+    (λ y line. satisfies-framed values (place_clauses p t y) p.demands.edge p.posed.width
+    (λ x column. satisfies-place_clauses p h values has obeys t y x next_in (framed_both p.demands.edge p.posed.height p.posed.width y x line column) (is_marked p.posed (t + 1) y x) refl))
+
+-- what stands before the transitions
+satisfies-front_part : (p : PosedProblem) (h : History) (values : List Bool) → HasCells p values h → AreFitting p.posed p.demands → IsSolution p h → satisfies values (front_part p) ≡ true
+satisfies-front_part p h values has fitting s =
+    let meets = MeetsCells-same p.posed.cells (cells_of h) values (λ k k_in. sym (has.cells k k_in)) s.cells in
+    let fixed : satisfies values (fixed_part p) ≡ true =
+    satisfies-range values (λ k. fixed_clauses k (cell_number p.posed.cells k).kind) 0 (length p.posed.cells) (λ k low high. satisfies-fixed_clauses values k _ (meets.fixed k (omega arith))) in
+    let names : satisfies values (name_part p) ≡ true =
+    satisfies-range values (λ k. name_clauses p.posed.cells k) 0 (length p.posed.cells) (λ k low high. satisfies-name_clauses values p.posed.cells meets k (omega arith) _ refl) in
+    satisfies-append values (fixed_part p ++ name_part p ++ symmetry_part p) (period_part p)
+    ∙ and_from _ _ (satisfies-append values (fixed_part p ++ name_part p) (symmetry_part p)
+    ∙ and_from _ _ (satisfies-append values (fixed_part p) (name_part p) ∙ and_from _ _ fixed names) (satisfies-symmetry_part p h values has fitting s.symmetric))
+    (satisfies-period_part p h values has fitting s.moved)
+
+satisfies-transition_part : (p : PosedProblem) (h : History) (values : List Bool) → HasCells p values h → Obeys p h → satisfies values (transition_part p) ≡ true
+satisfies-transition_part p h values has obeys =
+    satisfies-range values (generation_clauses p) 0 (p.posed.generations - 1) (λ t low high. satisfies-generation_clauses p h values has obeys t (omega arith))
 
 -- the theorem
-pub satisfies-formula_of : (p : PosedProblem) (h : History) → IsSolution p h → satisfies (cells_of h) (formula_of p).clauses ≡ true
+satisfies-formula_of : (p : PosedProblem) (h : History) → IsPosed p.posed → AreFitting p.posed p.demands → IsSolution p h → satisfies (values_of p h) (formula_of p).clauses ≡ true
 unfolding formula_of
-satisfies-formula_of p h s =
-    let values : List Bool = cells_of h in
-    let fixed : satisfies values (fixed_part p) ≡ true =
-    satisfies-range values (λ k. fixed_clauses k (cell_number p.posed.cells k).kind) 0 (length p.posed.cells) (λ k low high. satisfies-fixed_clauses values k _ (s.cells.fixed k (omega arith))) in
-    let names : satisfies values (name_part p) ≡ true =
-    satisfies-range values (λ k. name_clauses p.posed.cells k) 0 (length p.posed.cells) (λ k low high. satisfies-name_clauses values p.posed.cells s.cells k (omega arith) _ refl) in
-    let transitions : satisfies values (transition_part p) ≡ true =
-    satisfies-range values (generation_clauses p) 0 (p.posed.generations - 1) (λ t low high. satisfies-generation_clauses p h s t (omega arith)) in
-    list_all-append (satisfies_clause values) (fixed_part p ++ name_part p) (transition_part p)
-    ∙ and_from _ _ (list_all-append (satisfies_clause values) (fixed_part p) (name_part p) ∙ and_from _ _ fixed names) transitions
+satisfies-formula_of p h kept fitting s =
+    let values : List Bool = values_of p h in
+    let has : HasCells p values h = HasCells-behind p h _ kept s.sizes in
+    satisfies-append values (front_part p ++ transition_part p) (difference_part p (length p.posed.cells))
+    ∙ and_from _ _ (satisfies-append values (front_part p) (transition_part p)
+    ∙ and_from _ _ (satisfies-front_part p h values has fitting s) (satisfies-transition_part p h values has s.rule))
+    (satisfies-difference_part p h kept s.sizes fitting s.differ)
 
--- the formula from its parts
-pub with_parts : (p : PosedProblem) → with_clauses (with_clauses (with_clauses (record { vars = length p.posed.cells; clauses = [] }) (fixed_part p)) (name_part p)) (transition_part p) ≡ formula_of p
+-- a value for each variable
+length-values_of : (p : PosedProblem) (h : History) → IsPosed p.posed → HasSizes p.posed.generations p.posed.height p.posed.width h → length (values_of p h) ≡ (formula_of p).vars
 unfolding formula_of
-with_parts p = refl
+length-values_of p h kept sizes =
+    let cells : List Bool = cells_of h in
+    length-append cells (marks_where p cells p.demands.differ) ∙ ap (λ n. n + length (marks_where p cells p.demands.differ)) (count_of p h kept sizes)
+    ∙ ap (λ n. length p.posed.cells + n) (length-marks_where p cells)
 
-pub vars-formula_of : (p : PosedProblem) → (formula_of p).vars ≡ length p.posed.cells
-unfolding formula_of
-vars-formula_of p = refl
-
-length-cells : (p : PosedProblem) → IsPosed p.posed → (history : History) → IsSolution p history → length (cells_of history) ≡ (formula_of p).vars
-length-cells p kept history solution =
-    length-cells_of p.posed.generations p.posed.height p.posed.width history solution.sizes ∙ sym kept.count ∙ sym (vars-formula_of p)
-
--- each variable is a cell's
-pub HasAssignment-cells : (p : PosedProblem) → IsPosed p.posed → (history : History) → IsSolution p history → HasAssignment (formula_of p) history
-HasAssignment-cells p kept history solution =
+pub HasAssignment-values_of : (p : PosedProblem) → IsPosed p.posed → AreFitting p.posed p.demands → (history : History) → IsSolution p history → HasAssignment (formula_of p) history
+HasAssignment-values_of p kept fitting history solution =
     record {
-      values = cells_of history;
-      count = length-cells p kept history solution;
-      cells = take_all (length (cells_of history)) (cells_of history) (omega arith);
-      satisfied = satisfies-formula_of p history solution;
+      values = values_of p history;
+      count = length-values_of p history kept solution.sizes;
+      cells = take-append_seam (cells_of history) (marks_where p (cells_of history) p.demands.differ);
+      satisfied = satisfies-formula_of p history kept fitting solution;
     }
 
 -- a formula that nothing satisfies has no solution
-pub absent_from : (p : PosedProblem) → IsPosed p.posed → IsUnsatisfiable (formula_of p) → IsAbsent p
-absent_from p kept unsatisfiable history solution =
-    let none = unsatisfiable (cells_of history) (length-cells p kept history solution) in
-    let all = satisfies-formula_of p history solution in
+pub absent_from : (p : PosedProblem) → IsPosed p.posed → AreFitting p.posed p.demands → IsUnsatisfiable (formula_of p) → IsAbsent p
+absent_from p kept fitting unsatisfiable history solution =
+    let assigned = HasAssignment-values_of p kept fitting history solution in
+    let none = unsatisfiable assigned.values assigned.count in
+    let all = assigned.satisfied in
     cc
-
--- all clauses together are few
-pub few_clauses : (p : PosedProblem) → IsPosed p.posed → length (formula_of p).clauses < 200000000
-unfolding formula_of
-few_clauses p kept =
-    omega (
-      arith,
-      kept.most,
-      kept.generations.1,
-      length-append (fixed_part p ++ name_part p) (transition_part p),
-      length-append (fixed_part p) (name_part p),
-      length-flat_map_most (λ k. fixed_clauses k (cell_number p.posed.cells k).kind) 1 (λ k. length-fixed_clauses k _) 0 (length p.posed.cells),
-      length-flat_map_most (name_clauses p.posed.cells) 2 (length-name_clauses p.posed.cells) 0 (length p.posed.cells),
-      length-flat_map_most (generation_clauses p) 2230272 (λ t. length-generation_clauses p t kept.width.1 kept.height.1) 0 (p.posed.generations - 1),
-    )
-
--- what the three pushes make of a new formula
-pub made : (p : PosedProblem) (empty fixed names all : Cnf) → empty ≡ record { vars = length p.posed.cells; clauses = [] }
-    → fixed ≡ with_clauses empty (fixed_part p) → names ≡ with_clauses fixed (name_part p) → all ≡ with_clauses names (transition_part p) → all ≡ formula_of p
-made p empty fixed names all is is' is'' is''' =
-    is''' ∙ ap (λ f. with_clauses f (transition_part p)) (is'' ∙ ap (λ f. with_clauses f (name_part p)) (is' ∙ ap (λ f. with_clauses f (fixed_part p)) is)) ∙ with_parts p
-
--- the room that is left for the transitions
-pub room_left : (p : PosedProblem) (empty fixed names : Cnf) → length p.posed.cells ≤ 8192 → empty ≡ record { vars = length p.posed.cells; clauses = [] }
-    → fixed ≡ with_clauses empty (fixed_part p) → names ≡ with_clauses fixed (name_part p) → HasRoom names 140507136
-room_left p empty fixed names few is is' is'' =
-    let none : length empty.clauses ≡ 0 = ap (λ f. length f.clauses) is in
-    let first : length fixed.clauses ≡ length empty.clauses + length (fixed_part p) = ap (λ f. length f.clauses) is' ∙ length-append empty.clauses (fixed_part p) in
-    let second : length names.clauses ≡ length fixed.clauses + length (name_part p) = ap (λ f. length f.clauses) is'' ∙ length-append fixed.clauses (name_part p) in
-    omega (
-      arith,
-      length-flat_map_most (λ k. fixed_clauses k (cell_number p.posed.cells k).kind) 1 (λ k. length-fixed_clauses k _) 0 (length p.posed.cells),
-      length-flat_map_most (name_clauses p.posed.cells) 2 (length-name_clauses p.posed.cells) 0 (length p.posed.cells),
-    )
-
--- the room that is left for the names
-pub room_for_names : (p : PosedProblem) (empty fixed : Cnf) → length p.posed.cells ≤ 8192 → empty ≡ record { vars = length p.posed.cells; clauses = [] }
-    → fixed ≡ with_clauses empty (fixed_part p) → HasRoom fixed (2 * length p.posed.cells)
-room_for_names p empty fixed few is is' =
-    let none : length empty.clauses ≡ 0 = ap (λ f. length f.clauses) is in
-    let first : length fixed.clauses ≡ length empty.clauses + length (fixed_part p) = ap (λ f. length f.clauses) is' ∙ length-append empty.clauses (fixed_part p) in
-    omega (arith, length-flat_map_most (λ k. fixed_clauses k (cell_number p.posed.cells k).kind) 1 (λ k. length-fixed_clauses k _) 0 (length p.posed.cells))

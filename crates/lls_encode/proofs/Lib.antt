@@ -9,3 +9,10 @@ pub mod Firsts
 pub mod Parts
 pub mod Agree
 pub mod Sound
+pub mod Each
+pub mod Alike
+pub mod Mirrored
+pub mod Returned
+pub mod Differences
+pub mod Differing
+pub mod Made

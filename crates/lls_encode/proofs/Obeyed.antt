@@ -5,7 +5,7 @@ use Rattle.std.proofs.lemmas.Bool.{and_parts, and_from, le-leb}
 use Rattle.lls_lit.specs.Literal.{variable_of}
 use Rattle.lls_lit.specs.Formula.{satisfies}
 use Rattle.lls_rule.specs.Rule.{successor}
-use Rattle.lls_grid.specs.History.{History, HasSizes, at, nine, cells_of}
+use Rattle.lls_grid.specs.History.{History, at, nine}
 use Rattle.lls_problem.specs.Problem.{PosedProblem}
 use Rattle.lls_problem.specs.Solution.{place_of}
 use Rattle.lls_transition.specs.declared.place.Place.{Place}
@@ -14,7 +14,7 @@ use Rattle.lls_transition.specs.Place.{place_within}
 use Rattle.lls_transition.specs.Transition.{transition_clauses}
 use Rattle.lls_transition.proofs.Obeyed.{satisfies_obeys}
 use Rattle.lls_encode.specs.Place.{place_at, place_in, inputs_at}
-use Rattle.lls_encode.proofs.Values.{values-inputs_at}
+use Rattle.lls_encode.proofs.Values.{HasCells, values-inputs_at}
 
 -- a known value, or a literal that isn't 0
 abbrev place_is_literal : Place → Bool
@@ -56,20 +56,20 @@ within_most (Of literal ∷ places) vars few all =
     let parts = and_parts _ _ all in
     and_from _ _ (and_from _ _ parts.0 (le-leb (variable_of literal) vars (omega arith))) (within_most places vars (omega arith) parts.1)
 
-obeys : (p : PosedProblem) (h : History) → HasSizes p.posed.generations p.posed.height p.posed.width h → (t : ℕ) (y x : ℤ) → t + 1 < p.posed.generations
-    → (satisfies (cells_of h) (transition_clauses p.rule (inputs_at p t y x)) ≡ true) ↔ (at p.rule h (t + 1) y x ≡ successor p.rule (nine p.rule h t y x))
-obeys p h sizes t y x next_in =
+obeys : (p : PosedProblem) (h : History) (values : List Bool) → HasCells p values h → (t : ℕ) (y x : ℤ) → t + 1 < p.posed.generations
+    → (satisfies values (transition_clauses p.rule (inputs_at p t y x)) ≡ true) ↔ (at p.rule h (t + 1) y x ≡ successor p.rule (nine p.rule h t y x))
+obeys p h values has t y x next_in =
     let inputs = inputs_at p t y x in
-    let values = values-inputs_at p h sizes t y x next_in in
-    let law = satisfies_obeys (cells_of h) (most_of inputs) p.rule inputs (within_most inputs (most_of inputs) (omega arith) (inputs_are_literals p t y x)) refl in
-    let last = ap (λ bits. get_or bits 9 false) values in
-    let before = ap (λ bits. successor p.rule (take 9 bits)) values in
+    let said = values-inputs_at p h values has t y x next_in in
+    let law = satisfies_obeys values (most_of inputs) p.rule inputs (within_most inputs (most_of inputs) (omega arith) (inputs_are_literals p t y x)) refl in
+    let last = ap (λ bits. get_or bits 9 false) said in
+    let before = ap (λ bits. successor p.rule (take 9 bits)) said in
     (λ satisfied. sym last ∙ law.0 satisfied ∙ before, λ obeyed. law.1 (last ∙ obeyed ∙ sym before))
 
-pub satisfies-transition_clauses : (p : PosedProblem) (h : History) → HasSizes p.posed.generations p.posed.height p.posed.width h → (t : ℕ) (y x : ℤ) → t + 1 < p.posed.generations
-    → at p.rule h (t + 1) y x ≡ successor p.rule (nine p.rule h t y x) → satisfies (cells_of h) (transition_clauses p.rule (inputs_at p t y x)) ≡ true
-satisfies-transition_clauses p h sizes t y x next_in obeyed = (obeys p h sizes t y x next_in).1 obeyed
+pub satisfies-transition_clauses : (p : PosedProblem) (h : History) (values : List Bool) → HasCells p values h → (t : ℕ) (y x : ℤ) → t + 1 < p.posed.generations
+    → at p.rule h (t + 1) y x ≡ successor p.rule (nine p.rule h t y x) → satisfies values (transition_clauses p.rule (inputs_at p t y x)) ≡ true
+satisfies-transition_clauses p h values has t y x next_in obeyed = (obeys p h values has t y x next_in).1 obeyed
 
-pub successor-by_clauses : (p : PosedProblem) (h : History) → HasSizes p.posed.generations p.posed.height p.posed.width h → (t : ℕ) (y x : ℤ) → t + 1 < p.posed.generations
-    → satisfies (cells_of h) (transition_clauses p.rule (inputs_at p t y x)) ≡ true → at p.rule h (t + 1) y x ≡ successor p.rule (nine p.rule h t y x)
-successor-by_clauses p h sizes t y x next_in satisfied = (obeys p h sizes t y x next_in).0 satisfied
+pub successor-by_clauses : (p : PosedProblem) (h : History) (values : List Bool) → HasCells p values h → (t : ℕ) (y x : ℤ) → t + 1 < p.posed.generations
+    → satisfies values (transition_clauses p.rule (inputs_at p t y x)) ≡ true → at p.rule h (t + 1) y x ≡ successor p.rule (nine p.rule h t y x)
+successor-by_clauses p h values has t y x next_in satisfied = (obeys p h values has t y x next_in).0 satisfied

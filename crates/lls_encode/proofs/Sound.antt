@@ -1,8 +1,8 @@
 -- The history of every assignment that satisfies the formula is a solution.
-use Rattle.std.proofs.Common.{◌≡◌, ◌<◌, ◌≤◌, take, ℕ, ◌+◌, ◌-◌, ◌*◌, Bool, true, false, cond, List, [], ◌∷◌, ◌++◌, length, None, refl, sym, ap, ◌∙◌, subst, arith}
+use Rattle.std.proofs.Common.{◌≡◌, ◌<◌, ◌≤◌, take, ℕ, ◌+◌, ◌-◌, ◌*◌, Bool, true, false, cond, List, [], ◌∷◌, ◌++◌, length, get_or, refl, sym, ap, ◌∙◌, arith}
 use Rattle.std.specs.List.{flat_map}
 use Rattle.std.proofs.lemmas.Bool.{and_parts, false_from_ne_true}
-use Rattle.std.proofs.lemmas.List.{take_all, length-take-le}
+use Rattle.std.proofs.lemmas.List.{take_all, length-take-le, get_or-take}
 use Rattle.std.proofs.lemmas.Grind.{flat_map-append}
 use Rattle.lls_lit.specs.Formula.{Clause, satisfies, IsUnsatisfiable}
 use Rattle.lls_grid.specs.Chunks.{chunked}
@@ -10,19 +10,19 @@ use Rattle.lls_grid.specs.History.{History, HasSizes, folded, cells_of, cells_of
 use Rattle.lls_grid.proofs.Folded.{length-folded, height_of-folded, width_of-folded, HasSizes-folded}
 use Rattle.lls_grid.proofs.Chunks.{folded-chunked, joined-chunked, length-chunked}
 use Rattle.lls_search_file.specs.Posed.{IsPosed}
-use Rattle.lls_problem.specs.Problem.{PosedProblem}
-use Rattle.lls_symmetry.specs.declared.symmetry.Symmetry.{Symmetry}
-use Rattle.lls_symmetry.specs.declared.symmetry.Symmetry.TheVariants.{C1}
-use Rattle.lls_symmetry.specs.Symmetry.{generators_of}
-use Rattle.lls_problem.specs.declared.demands.Demands.{Demands}
-use Rattle.lls_problem.specs.Solution.{MeetsCells, is_marked, AreSymmetric, Obeys, IsSolution, IsAbsent}
-use Rattle.lls_encode.specs.Formula.{place_clauses, line_clauses, generation_clauses, fixed_part, name_part, transition_part, formula_of, DemandsEdgeAlone}
+use Rattle.lls_problem.specs.Problem.{PosedProblem, AreFitting}
+use Rattle.lls_problem.specs.Solution.{is_marked, Obeys, IsSolution, IsAbsent}
+use Rattle.lls_encode.specs.Formula.{place_clauses, line_clauses, generation_clauses, fixed_part, name_part, symmetry_part, period_part, front_part, transition_part, difference_part, formula_of}
 use Rattle.lls_encode.specs.History.{history_of}
 use Rattle.lls_encode.proofs.Framed.{framed_row, framed_column}
-use Rattle.lls_encode.proofs.Complete.{vars-formula_of}
+use Rattle.lls_encode.proofs.Values.{HasCells}
+use Rattle.lls_encode.proofs.Complete.{MeetsCells-same}
 use Rattle.lls_encode.proofs.Parts.{satisfies-append, satisfied_in_range, satisfied_framed}
 use Rattle.lls_encode.proofs.Obeyed.{successor-by_clauses}
 use Rattle.lls_encode.proofs.Agree.{MeetsCells-by_clauses}
+use Rattle.lls_encode.proofs.Mirrored.{AreSymmetric-by_clauses}
+use Rattle.lls_encode.proofs.Returned.{Returns-by_clauses}
+use Rattle.lls_encode.proofs.Differing.{Differs-by_clauses}
 
 -- the cells of a history that is folded from its cells
 joined_twice : (history : History) → cells_of history ≡ flat_map (λ row. row) (flat_map (λ rows. rows) history)
@@ -56,58 +56,68 @@ HasSizes-history_of p values kept =
       rw (height_of-folded p.posed.generations p.posed.height p.posed.width cells some, width_of-folded p.posed.generations p.posed.height p.posed.width cells some rows) at sizes.1,
     )
 
+-- the first values are the history's cells
+HasCells-history_of : (p : PosedProblem) (values : List Bool) → IsPosed p.posed → length p.posed.cells ≤ length values → HasCells p values (history_of p values)
+HasCells-history_of p values kept enough = record {
+  kept = kept;
+  sizes = HasSizes-history_of p values kept;
+  cells = λ k k_in. sym (ap (λ cells. get_or cells k false) (cells_of-history_of p values kept enough) ∙ get_or-take (length p.posed.cells) values k false k_in);
+}
+
 -- the clauses of a place that no mark frees
 unmarked : (values : List Bool) (mark : Bool) (clauses : List Clause) → mark ≡ false → satisfies values (cond mark [] clauses) ≡ true → satisfies values clauses ≡ true
 unmarked values true clauses free satisfied = cc
 unmarked values false clauses free satisfied = satisfied
 
-Obeys-by_clauses : (p : PosedProblem) (h : History) → HasSizes p.posed.generations p.posed.height p.posed.width h → satisfies (cells_of h) (transition_part p) ≡ true → Obeys p h
-Obeys-by_clauses p h sizes satisfied = λ t y x next_in framed free.
+Obeys-by_clauses : (p : PosedProblem) (h : History) (values : List Bool) → HasCells p values h → satisfies values (transition_part p) ≡ true → Obeys p h
+Obeys-by_clauses p h values has satisfied = λ t y x next_in framed free.
     let edge = p.demands.edge in
-    let generation = satisfied_in_range (cells_of h) (generation_clauses p) 0 (p.posed.generations - 1) t satisfied (omega arith) (omega arith) in
-    let line = satisfied_framed (cells_of h) (line_clauses p t) edge p.posed.height y generation (framed_row edge p.posed.height p.posed.width y x framed) in
-    let place = satisfied_framed (cells_of h) (place_clauses p t y) edge p.posed.width x line (framed_column edge p.posed.height p.posed.width y x framed) in
-    successor-by_clauses p h sizes t y x next_in (unmarked (cells_of h) (is_marked p.posed (t + 1) y x) _ free place)
+    let generation = satisfied_in_range values (generation_clauses p) 0 (p.posed.generations - 1) t satisfied (omega arith) (omega arith) in
+    let line = satisfied_framed values (line_clauses p t) edge p.posed.height y generation (framed_row edge p.posed.height p.posed.width y x framed) in
+    let place = satisfied_framed values (place_clauses p t y) edge p.posed.width x line (framed_column edge p.posed.height p.posed.width y x framed) in
+    successor-by_clauses p h values has t y x next_in (unmarked values (is_marked p.posed (t + 1) y x) _ free place)
 
 -- each part of the formula is satisfied
 record SatisfiesParts (p : PosedProblem) (values : List Bool) : Type 0 where
   fixed : satisfies values (fixed_part p) ≡ true
   names : satisfies values (name_part p) ≡ true
+  symmetry : satisfies values (symmetry_part p) ≡ true
+  period : satisfies values (period_part p) ≡ true
   transitions : satisfies values (transition_part p) ≡ true
+  difference : satisfies values (difference_part p (length p.posed.cells)) ≡ true
 
 parts_of : (p : PosedProblem) (values : List Bool) → satisfies values (formula_of p).clauses ≡ true → SatisfiesParts p values
 unfolding formula_of
 parts_of p values satisfied =
-    let all = and_parts _ _ (sym (satisfies-append values (fixed_part p ++ name_part p) (transition_part p)) ∙ satisfied) in
-    let cells = and_parts _ _ (sym (satisfies-append values (fixed_part p) (name_part p)) ∙ all.0) in
-    record { fixed = cells.0; names = cells.1; transitions = all.1 }
+    let all = and_parts _ _ (sym (satisfies-append values (front_part p ++ transition_part p) (difference_part p (length p.posed.cells))) ∙ satisfied) in
+    let body = and_parts _ _ (sym (satisfies-append values (front_part p) (transition_part p)) ∙ all.0) in
+    let front = and_parts _ _ (sym (satisfies-append values (fixed_part p ++ name_part p ++ symmetry_part p) (period_part p)) ∙ body.0) in
+    let still = and_parts _ _ (sym (satisfies-append values (fixed_part p ++ name_part p) (symmetry_part p)) ∙ front.0) in
+    let cells = and_parts _ _ (sym (satisfies-append values (fixed_part p) (name_part p)) ∙ still.0) in
+    record { fixed = cells.0; names = cells.1; symmetry = still.1; period = front.1; transitions = body.1; difference = all.1 }
 
--- a symmetry without generators is every history's
-AreSymmetric-none : (p : PosedProblem) (h : History) → p.demands.symmetry ≡ C1 → AreSymmetric p h
-AreSymmetric-none p h none = λ t in_file k place generator.
-    let P : Symmetry → Type 0 = λ symmetry. k < length (generators_of symmetry) in
-    let past : k < 0 = subst P none generator in
-    absurd (omega (arith, past))
+-- a value for each cell at least
+enough_values : (p : PosedProblem) (values : List Bool) → length values ≡ (formula_of p).vars → length p.posed.cells ≤ length values
+unfolding formula_of
+enough_values p values len = omega (arith, len)
 
 -- the theorem
-pub IsSolution-history_of : (p : PosedProblem) → IsPosed p.posed → DemandsEdgeAlone p → (values : List Bool) → length values ≡ (formula_of p).vars
+pub IsSolution-history_of : (p : PosedProblem) → IsPosed p.posed → AreFitting p.posed p.demands → (values : List Bool) → length values ≡ (formula_of p).vars
     → satisfies values (formula_of p).clauses ≡ true → IsSolution p (history_of p values)
-IsSolution-history_of p kept alone values len satisfied =
+IsSolution-history_of p kept fitting values len satisfied =
     let parts = parts_of p values satisfied in
-    let sizes = HasSizes-history_of p values kept in
-    let many : length values ≡ length p.posed.cells = len ∙ vars-formula_of p in
-    let cells : cells_of (history_of p values) ≡ values =
-    cells_of-history_of p values kept (omega (arith, many)) ∙ take_all (length p.posed.cells) values (omega (arith, many)) in
+    let h : History = history_of p values in
+    let has : HasCells p values h = HasCells-history_of p values kept (enough_values p values len) in
     record {
-      sizes = sizes;
-      cells = subst (MeetsCells p.posed.cells) (sym cells) (MeetsCells-by_clauses values p.posed.cells parts.fixed parts.names);
-      symmetric = AreSymmetric-none p (history_of p values) (ap (λ (d : Demands). d.symmetry) alone);
-      moved = let none : p.demands.period ≡ None = ap (λ (d : Demands). d.period) alone in rw none (λ x is. absurd cc);
-      differ = let none : p.demands.differ ≡ None = ap (λ (d : Demands). d.differ) alone in rw none (λ x is. absurd cc);
-      rule = Obeys-by_clauses p (history_of p values) sizes (ap (λ vs. satisfies vs (transition_part p)) cells ∙ parts.transitions);
+      sizes = has.sizes;
+      cells = MeetsCells-same p.posed.cells values (cells_of h) has.cells (MeetsCells-by_clauses values p.posed.cells parts.fixed parts.names);
+      symmetric = AreSymmetric-by_clauses p h values has fitting parts.symmetry;
+      moved = Returns-by_clauses p h values has parts.period;
+      rule = Obeys-by_clauses p h values has parts.transitions;
+      differ = Differs-by_clauses p h values has fitting (length p.posed.cells) parts.difference;
     }
 
 -- so where there is no solution nothing satisfies the formula
-pub unsatisfiable_from : (p : PosedProblem) → IsPosed p.posed → DemandsEdgeAlone p → IsAbsent p → IsUnsatisfiable (formula_of p)
-unsatisfiable_from p kept alone absent values len =
-    false_from_ne_true (satisfies values (formula_of p).clauses) (λ satisfied. absent (history_of p values) (IsSolution-history_of p kept alone values len satisfied))
+pub unsatisfiable_from : (p : PosedProblem) → IsPosed p.posed → AreFitting p.posed p.demands → IsAbsent p → IsUnsatisfiable (formula_of p)
+unsatisfiable_from p kept fitting absent values len =
+    false_from_ne_true (satisfies values (formula_of p).clauses) (λ satisfied. absent (history_of p values) (IsSolution-history_of p kept fitting values len satisfied))

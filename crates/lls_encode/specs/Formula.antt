@@ -1,6 +1,6 @@
--- The formula of a problem, by its parts: fixed cells, names, transitions.
-use Rattle.std.specs.Prelude.{◌≡◌, ℕ, ◌+◌, ◌-◌, ℤ, pos, negsuc, ◌-ℤ◌, Bool, false, ◌==◌, List, [], ◌∷◌, ◌++◌, map, length, Option, None, Some, if◌then◌else◌}
-use Rattle.std.specs.Option.{option_map_or}
+-- The formula of a problem, by its parts: fixed cells, names, symmetry, period, transitions, differing generations.
+use Rattle.std.specs.Prelude.{ℕ, ◌+◌, ◌-◌, ◌*◌, ℤ, pos, negsuc, ◌-ℤ◌, Bool, true, false, ◌==◌, List, [], ◌∷◌, ◌++◌, map, length, Option, None, Some, if◌then◌else◌}
+use Rattle.std.specs.Option.{option_map_or, option_to_list}
 use Rattle.std.specs.List.{flat_map, range_with_len, position_from}
 use Rattle.lls_lit.specs.Literal.{negation}
 use Rattle.lls_lit.specs.Formula.{Clause, Cnf}
@@ -8,12 +8,24 @@ use Rattle.lls_search_file.specs.declared.cell.Cell.{Cell}
 use Rattle.lls_search_file.specs.declared.cell.Kind.{Kind}
 use Rattle.lls_search_file.specs.declared.cell.Kind.TheVariants.{Dead, Live, Free, Named, Negated}
 use Rattle.lls_search_file.specs.Posed.{name_of}
+use Rattle.lls_rule.specs.Rule.{background}
+use Rattle.lls_symmetry.specs.declared.motion.Motion.{Motion}
+use Rattle.lls_symmetry.specs.declared.pair.Pair.{Pair}
+use Rattle.lls_symmetry.specs.declared.moved.Moved.{Moved}
+use Rattle.lls_symmetry.specs.Symmetry.{generators_of}
+use Rattle.lls_symmetry.specs.Pairs.{motion_pairs}
+use Rattle.lls_symmetry.specs.Moved.{generation_moved}
 use Rattle.lls_problem.specs.declared.demands.Edge.{Edge}
 use Rattle.lls_problem.specs.declared.demands.Edge.TheVariants.{Framed, Bare}
-use Rattle.lls_problem.specs.Problem.{PosedProblem, edge_alone}
+use Rattle.lls_problem.specs.declared.demands.Period.{Period}
+use Rattle.lls_problem.specs.Problem.{PosedProblem}
 use Rattle.lls_problem.specs.Solution.{cell_number, is_marked}
+use Rattle.lls_problem.specs.Unlike.{differ}
+use Rattle.lls_problem.specs.Losses.{course_of}
+use Rattle.lls_transition.specs.declared.place.Place.{Place}
+use Rattle.lls_transition.specs.Clause.{differing, clause_of}
 use Rattle.lls_transition.specs.Transition.{transition_clauses}
-use Rattle.lls_encode.specs.Place.{inputs_at}
+use Rattle.lls_encode.specs.Place.{place_at, inputs_at}
 
 -- The kth cell has the variable k + 1. A fixed cell gives it, or its negation.
 abbrev pub fixed_clauses : ℕ → Kind → List Clause
@@ -70,6 +82,67 @@ line_clauses p t y = flat_map (place_clauses p t y) (framed p.demands.edge p.pos
 abbrev pub generation_clauses : PosedProblem → ℕ → List Clause
 generation_clauses p t = flat_map (line_clauses p t) (framed p.demands.edge p.posed.height)
 
+-- one of two places is true
+abbrev pub either : Place → Place → List Clause
+either a b = option_to_list (clause_of (a ∷ b ∷ []))
+
+-- two places are equal
+abbrev pub same_places : Place → Place → List Clause
+same_places a b = either (differing a true) b ++ either a (differing b true)
+
+-- the cells of a pair are equal in generation t
+abbrev pub pair_clauses : PosedProblem → ℕ → Pair → List Clause
+pair_clauses p t pair = same_places (place_at p t (pos pair.from_y) (pos pair.from_x)) (place_at p t (pos pair.to_y) (pos pair.to_x))
+
+-- of a generator, generation by generation, the pairs in their order
+abbrev pub symmetric_clauses : PosedProblem → Motion → ℕ → List Clause
+symmetric_clauses p motion t = flat_map (pair_clauses p t) (motion_pairs p.posed.height p.posed.width motion)
+
+abbrev pub motion_clauses : PosedProblem → Motion → List Clause
+motion_clauses p motion = flat_map (symmetric_clauses p motion) (range_with_len 0 p.posed.generations)
+
+-- a place and where it is a period later are equal
+abbrev pub moved_clauses : PosedProblem → Moved → List Clause
+moved_clauses p pair = same_places (place_at p pair.early.t pair.early.y pair.early.x) (place_at p pair.late.t pair.late.y pair.late.x)
+
+-- no assignment satisfies the clause without literals: it stands where the background isn't the same a period later
+abbrev pub background_clauses : PosedProblem → Period → ℕ → List Clause
+background_clauses p period t = if differ (background p.rule t) (background p.rule (t + period.length)) then [] ∷ [] else []
+
+-- generation t is there again a period later, moved by the shift
+abbrev pub return_clauses : PosedProblem → Period → ℕ → List Clause
+return_clauses p period t =
+    background_clauses p period t ++ flat_map (moved_clauses p) (generation_moved p.posed.height p.posed.width (course_of period t))
+
+abbrev pub period_clauses : PosedProblem → Period → List Clause
+period_clauses p period = flat_map (return_clauses p period) (range_with_len 0 (p.posed.generations - period.length))
+
+-- how many cells a generation has
+abbrev pub generation_size : PosedProblem → ℕ
+generation_size p = p.posed.width * p.posed.height
+
+-- the variable of the kth cell of generation t, in the order row, column
+abbrev pub cell_of_generation : PosedProblem → ℕ → ℕ → ℤ
+cell_of_generation p t k = pos (k + generation_size p * t + 1)
+
+-- where d is true, a and b differ
+abbrev pub difference_clauses : ℤ → ℤ → ℤ → List Clause
+difference_clauses d a b = (negation d ∷ a ∷ b ∷ []) ∷ (negation d ∷ negation a ∷ negation b ∷ []) ∷ []
+
+-- The variables behind the first `base`, one a cell of the grid. Where the kth is true, the kth cell differs in two generations.
+abbrev pub difference_variable : ℕ → ℕ → ℤ
+difference_variable base k = pos (base + k + 1)
+
+abbrev pub cell_difference : PosedProblem → ℕ → ℕ × ℕ → ℕ → List Clause
+cell_difference p base pair k =
+    difference_clauses (difference_variable base k) (cell_of_generation p pair.0 k) (cell_of_generation p pair.1 k)
+
+-- and some of them is true
+abbrev pub differing_clauses : PosedProblem → ℕ → ℕ × ℕ → List Clause
+differing_clauses p base pair =
+    flat_map (cell_difference p base pair) (range_with_len 0 (generation_size p))
+    ++ map (difference_variable base) (range_with_len 0 (generation_size p)) ∷ []
+
 -- the parts in their order
 abbrev pub fixed_part : PosedProblem → List Clause
 fixed_part p = flat_map (λ k. fixed_clauses k (cell_number p.posed.cells k).kind) (range_with_len 0 (length p.posed.cells))
@@ -77,13 +150,29 @@ fixed_part p = flat_map (λ k. fixed_clauses k (cell_number p.posed.cells k).kin
 abbrev pub name_part : PosedProblem → List Clause
 name_part p = flat_map (name_clauses p.posed.cells) (range_with_len 0 (length p.posed.cells))
 
+abbrev pub symmetry_part : PosedProblem → List Clause
+symmetry_part p = flat_map (motion_clauses p) (generators_of p.demands.symmetry)
+
+abbrev pub period_part : PosedProblem → List Clause
+period_part p = option_map_or (period_clauses p) p.demands.period []
+
 abbrev pub transition_part : PosedProblem → List Clause
 transition_part p = flat_map (generation_clauses p) (range_with_len 0 (p.posed.generations - 1))
 
--- of a problem that demands an edge, and nothing else, the formula says all
-abbrev pub DemandsEdgeAlone : PosedProblem → Type 0
-DemandsEdgeAlone p = p.demands ≡ edge_alone p.demands.edge
+abbrev pub difference_part : PosedProblem → ℕ → List Clause
+difference_part p base = option_map_or (differing_clauses p base) p.demands.differ []
 
--- one variable a cell
+-- how many variables that part has of its own
+abbrev pub difference_vars : PosedProblem → ℕ
+difference_vars p = option_map_or (λ pair. generation_size p) p.demands.differ 0
+
+-- what stands before the transitions
+abbrev pub front_part : PosedProblem → List Clause
+front_part p = fixed_part p ++ name_part p ++ symmetry_part p ++ period_part p
+
+-- one variable a cell, and behind these the variables of the difference
 unfoldable pub formula_of : PosedProblem → Cnf
-formula_of p = record { vars = length p.posed.cells; clauses = fixed_part p ++ name_part p ++ transition_part p }
+formula_of p = record {
+  vars = length p.posed.cells + difference_vars p;
+  clauses = front_part p ++ transition_part p ++ difference_part p (length p.posed.cells);
+}

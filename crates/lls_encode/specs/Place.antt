@@ -1,4 +1,4 @@
--- What a transition reads at a place: a cell's variable, or a known value.
+-- What stands at a place, a cell's variable or a known value, and the places that a transition reads.
 use Rattle.std.specs.Prelude.{ℕ, ◌+◌, ℤ, pos, ◌+ℤ◌, ◌-ℤ◌, List, [], ◌∷◌, Option, None, Some}
 use Rattle.lls_rule.specs.Rule.{background}
 use Rattle.lls_grid.specs.Place.{inside}

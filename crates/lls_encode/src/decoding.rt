@@ -2,7 +2,7 @@
 ghost use Rattle.std.specs.Prelude.{◌≡◌, ◌≤◌, true, length, take, IfOk};
 ghost use Rattle.lls_lit.specs.Formula.{satisfies};
 ghost use Rattle.lls_problem.specs.Solution.{IsSolution};
-ghost use Rattle.lls_encode.specs.Formula.{formula_of, DemandsEdgeAlone};
+ghost use Rattle.lls_encode.specs.Formula.{formula_of};
 ghost use Rattle.lls_encode.specs.History.{history_of};
 
 use lls_base::Memory;
@@ -13,13 +13,15 @@ use std::alloc::{AllocError, Global};
 
 /// The history of the problem's sizes whose cells have the first values of an assignment, in the order generation, row,
 /// column. Values of variables behind those of the cells aren't looked at. Where the assignment satisfies the problem's
-/// formula, and an edge is all that is demanded, the history is a solution.
+/// formula, the history is a solution.
 pub fn decode(alloc: Global, problem: &Problem, assignment: &Assignment) -> Result<History, Memory>
     requires { length problem.now.posed.cells ≤ length assignment.now }
     ensures history { IfOk result (λ history. history ≡ history_of problem.now assignment.now) }
-    ensures solution { IfOk result (λ history. DemandsEdgeAlone problem.now → length assignment.now ≡ (formula_of problem.now).vars
+    ensures solution { IfOk result (λ history. length assignment.now ≡ (formula_of problem.now).vars
         → satisfies assignment.now (formula_of problem.now).clauses ≡ true → IsSolution problem.now history) }
 {
+    // That the demands fit the file is known from here on.
+    let _demands = problem.demands();
     let posed = problem.posed();
     let cells = first_values(alloc, assignment.values(), posed.cells.items().len())?;
     Ok(History::from_cells(posed.sizes(), cells))

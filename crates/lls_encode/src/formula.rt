@@ -1,24 +1,49 @@
 // The formula of a problem.
-ghost use Rattle.std.specs.Prelude.{◌≡◌, ◌<◌, Bool, true, List, length, IfOk};
+ghost use Rattle.std.specs.Prelude.{◌≡◌, ◌<◌, Bool, true, List, length, IfOk, OnOk};
 ghost use Rattle.lls_grid.specs.History.{History};
 ghost use Rattle.lls_lit.specs.Formula.{satisfies, IsUnsatisfiable};
+ghost use Rattle.lls_transition.specs.Clause.{with_clauses};
 ghost use Rattle.lls_problem.specs.Solution.{IsSolution, IsAbsent};
-ghost use Rattle.lls_encode.specs.Formula.{formula_of, DemandsEdgeAlone};
+ghost use Rattle.lls_encode.specs.Formula.{front_part, formula_of};
 ghost use Rattle.lls_encode.specs.History.{history_of, HasAssignment};
+ghost use Rattle.lls_encode.specs.Room.{HasRoom};
 
 use crate::cells::{push_fixed, push_names};
+use crate::difference::push_difference;
+use crate::period::{MOST_CLAUSES_PERIOD, push_period};
+use crate::symmetry::{MOST_CLAUSES_SYMMETRY, push_symmetry};
 use crate::transition::push_transitions;
 use lls_base::Memory;
 use lls_cnf::Formula;
+use lls_grid::History;
 use lls_problem::Problem;
 use std::alloc::Global;
 
 /// Every formula of a problem has fewer clauses.
 pub const CLAUSES_BELOW: usize = 200_000_000;
 
-/// The formula of a problem, with one variable a cell in the order generation, row, column.
-/// The clauses come in this order: fixed cells, names, transitions. What is demanded of symmetry, of a period or of
-/// differing generations has no clauses yet.
+/// The clauses of fixed cells, of names, of symmetry and of a period.
+const MOST_CLAUSES_FRONT: usize = 3 * History::MOST_CELLS as usize
+    + MOST_CLAUSES_SYMMETRY
+    + MOST_CLAUSES_PERIOD;
+
+/// Pushes what stands before the transitions.
+fn push_front(alloc: Global, formula: &mut Formula, problem: &Problem) -> Result<(), Memory>
+    requires vars { formula.old.vars ≡ length problem.now.posed.cells }
+    requires room { HasRoom formula.old MOST_CLAUSES_FRONT }
+    ensures { OnOk result (formula.new ≡ with_clauses formula.old (front_part problem.now)) }
+{
+    let posed = problem.posed();
+    let cells = posed.cells.items();
+    push_fixed(formula, cells)?;
+    push_names(alloc, formula, cells, posed.names.items().len())?;
+    push_symmetry(formula, problem)?;
+    push_period(formula, problem)
+}
+
+/// The formula of a problem, with one variable a cell in the order generation, row, column. Where two generations have
+/// to differ, it has one variable more for each cell of the grid, behind all others.
+/// The clauses come in this order: fixed cells, names, symmetry, period, transitions, differing generations.
 pub fn encode(alloc: Global, problem: &Problem) -> Result<Formula, Memory>
     ensures formula { IfOk result (λ formula. formula ≡ formula_of problem.now) }
     ensures few { IfOk result (λ formula. length formula.clauses < CLAUSES_BELOW) }
@@ -27,21 +52,22 @@ pub fn encode(alloc: Global, problem: &Problem) -> Result<Formula, Memory>
     ensures complete { IfOk result (λ formula. (history : History) → IsSolution problem.now history
         → HasAssignment formula history) }
 
-    // Where an edge is all that is demanded, every assignment that satisfies it begins with the cells of a solution.
-    ensures sound { IfOk result (λ formula. DemandsEdgeAlone problem.now → (values : List Bool) → length values ≡ formula.vars
+    // Every assignment that satisfies it begins with the cells of a solution.
+    ensures sound { IfOk result (λ formula. (values : List Bool) → length values ≡ formula.vars
         → satisfies values formula.clauses ≡ true → IsSolution problem.now (history_of problem.now values)) }
 
     // So a formula that no assignment satisfies says that there is no solution.
     ensures absent { IfOk result (λ formula. IsUnsatisfiable formula → IsAbsent problem.now) }
 
-    // And where there is no solution then, no assignment satisfies it.
-    ensures unsatisfiable { IfOk result (λ formula. DemandsEdgeAlone problem.now → IsAbsent problem.now → IsUnsatisfiable formula) }
+    // And where there is no solution, no assignment satisfies it.
+    ensures unsatisfiable { IfOk result (λ formula. IsAbsent problem.now → IsUnsatisfiable formula) }
 {
-    let posed = problem.posed();
-    let cells = posed.cells.items();
-    let mut formula = Formula::new(alloc, cells.len() as u32);
-    push_fixed(&mut formula, cells)?;
-    push_names(alloc, &mut formula, cells, posed.names.items().len())?;
+    // That the demands fit the file is known from here on.
+    let _demands = problem.demands();
+    let cells = problem.posed().cells.items().len();
+    let mut formula = Formula::new(alloc, cells as u32);
+    push_front(alloc, &mut formula, problem)?;
     push_transitions(alloc, &mut formula, problem)?;
+    push_difference(alloc, &mut formula, problem)?;
     Ok(formula)
 }

@@ -1,10 +1,14 @@
-//! The formula of a problem: an assignment that satisfies it is a solution's cells in their order.
+//! The formula of a problem: an assignment that satisfies it begins with a solution's cells in their order.
 #![tactic(auto)]
 
 mod cells;
 mod decoding;
+mod difference;
+mod equal;
 mod formula;
+mod period;
 mod place;
+mod symmetry;
 #[cfg(test)]
 mod tests;
 mod transition;

@@ -1,4 +1,4 @@
-// What a transition reads at a place.
+// What stands at a place, and what a transition reads.
 ghost use Rattle.std.specs.Prelude.{◌≡◌, ◌<◌, ◌+◌, pos, negsuc, ◌≤ℤ◌, length, true};
 ghost use Rattle.std.specs.List.{list_all};
 ghost use Rattle.lls_transition.specs.Place.{place_within};

@@ -1,11 +1,16 @@
 // Formulas of search files, as DIMACS writes clauses, worked out by hand and by an independent script.
+ghost use Rattle.std.specs.Option.{ForSome};
+ghost use Rattle.lls_problem.specs.Problem.{IsPeriod};
+
 use crate::{decode, encode};
 use lls_cnf::{Assignment, Formula};
 use lls_grid::print_history;
-use lls_problem::{Demands, Edge, make_problem};
+use lls_problem::{Demands, Edge, Period, make_problem};
 use lls_rule::Rule;
 use lls_search_file::read_posed;
+use lls_symmetry::Symmetry;
 use std::alloc::{AllocError, Global};
+use std::process::Abort;
 use std::test::Fail;
 
 // The clauses in their order, each ended by 0.
@@ -20,9 +25,11 @@ fn clauses(alloc: Global, formula: &Formula) -> Result<String, AllocError> {
     Ok(text)
 }
 
-// The formula of a search file under a rule and an edge.
-fn encoded(alloc: Global, file: &[u8], rule: Rule, edge: Edge) -> Result<Formula, Fail> {
-    let problem = make_problem(read_posed(alloc, file)?, rule, Demands::new(edge))?;
+// The formula of a search file under a rule and demands.
+fn encoded(alloc: Global, file: &[u8], rule: Rule, demands: Demands) -> Result<Formula, Fail>
+    requires { ForSome demands.period IsPeriod }
+{
+    let problem = make_problem(read_posed(alloc, file)?, rule, demands)?;
     Ok(encode(alloc, &problem)?)
 }
 
@@ -95,7 +102,190 @@ fn formulas_of_search_files(rt: HostRuntime) -> Result<(), Fail> {
         (b"* *\n* *", life, Edge::Framed, 4, ""),
     ];
     for (file, rule, edge, vars, text) in rows {
-        let formula = encoded(alloc, file, rule, edge)?;
+        let formula = encoded(alloc, file, rule, Demands::new(edge))?;
+        let found = clauses(alloc, &formula)?;
+        assert_eq!(rt; formula.vars(), vars);
+        assert_eq!(rt; found.as_str(), text);
+    }
+    Ok(())
+}
+
+// The demands of a row, where its period is within the limits.
+fn demanded(
+    rt: &impl Abort,
+    edge: Edge,
+    symmetry: Symmetry,
+    period: Option<Period>,
+    differ: Option<(u32, u32)>,
+) -> Demands
+    ensures { ForSome result.period IsPeriod }
+{
+    let mut demands = Demands::new(edge);
+    demands.symmetry = symmetry;
+    demands.differ = differ;
+    if let Some(period) = period {
+        assert!(rt; 1 <= period.length && period.length <= 63);
+        assert!(rt; -64 <= period.dx && period.dx <= 64);
+        assert!(rt; -64 <= period.dy && period.dy <= 64);
+        demands.period = Some(period);
+    }
+    demands
+}
+
+#[test]
+fn formulas_of_demands(rt: HostRuntime) -> Result<(), Fail> {
+    let alloc = rt.alloc();
+    let life = Rule::from_counts(0b0_0000_1000, 0b0_0000_1100);
+    let blinking = Rule::from_counts(0b0_0000_0001, 0);
+    let one_born = Rule::from_counts(0b0_0000_0010, 0);
+    let rows: [(
+        &[u8],
+        Rule,
+        Edge,
+        Symmetry,
+        Option<Period>,
+        Option<(u32, u32)>,
+        u32,
+        &str,
+    ); 11] = [
+        (
+            b"*\n\n*",
+            life,
+            Edge::Framed,
+            Symmetry::C1,
+            None,
+            Some((0, 1)),
+            3,
+            "1 -2 0\n-1 -2 0\n-3 1 2 0\n-3 -1 -2 0\n3 0\n",
+        ),
+        (
+            b"*\n\n*",
+            blinking,
+            Edge::Framed,
+            Symmetry::C1,
+            Some(Period {
+                length: 1,
+                dx: 0,
+                dy: 0,
+            }),
+            None,
+            2,
+            "0\n-1 2 0\n1 -2 0\n-1 0\n-1 0\n-1 0\n-1 0\n1 2 0\n-1 -2 0\n-1 0\n-1 0\n-1 0\n-1 0\n",
+        ),
+        (
+            b"*",
+            life,
+            Edge::Framed,
+            Symmetry::C1,
+            None,
+            Some((0, 0)),
+            2,
+            "-2 1 1 0\n-2 -1 -1 0\n2 0\n",
+        ),
+        (
+            b"0 *\n* *",
+            life,
+            Edge::Framed,
+            Symmetry::C4,
+            None,
+            None,
+            4,
+            "-1 0\n-1 2 0\n1 -2 0\n-2 4 0\n2 -4 0\n-3 1 0\n3 -1 0\n-4 3 0\n4 -3 0\n",
+        ),
+        (
+            b"* *\n* *",
+            life,
+            Edge::Framed,
+            Symmetry::D8,
+            None,
+            None,
+            4,
+            "-1 2 0\n1 -2 0\n-2 4 0\n2 -4 0\n-3 1 0\n3 -1 0\n-4 3 0\n4 -3 0\n-1 2 0\n1 -2 0\n-2 1 0\n2 -1 0\n-3 4 0\n3 -4 0\n-4 3 0\n4 -3 0\n",
+        ),
+        (
+            b"* *\n* *\n\n*' *'\n*' *'",
+            life,
+            Edge::Bare,
+            Symmetry::D4Plus,
+            None,
+            None,
+            8,
+            "-1 3 0\n1 -3 0\n-2 4 0\n2 -4 0\n-3 1 0\n3 -1 0\n-4 2 0\n4 -2 0\n-5 7 0\n5 -7 0\n-6 8 0\n6 -8 0\n-7 5 0\n7 -5 0\n-8 6 0\n8 -6 0\n-1 2 0\n1 -2 0\n-2 1 0\n2 -1 0\n-3 4 0\n3 -4 0\n-4 3 0\n4 -3 0\n-5 6 0\n5 -6 0\n-6 5 0\n6 -5 0\n-7 8 0\n7 -8 0\n-8 7 0\n8 -7 0\n",
+        ),
+        (
+            b"* *\n\n*' *'",
+            life,
+            Edge::Bare,
+            Symmetry::C1,
+            Some(Period {
+                length: 1,
+                dx: 1,
+                dy: 0,
+            }),
+            None,
+            4,
+            "-1 4 0\n1 -4 0\n-2 0\n-3 0\n",
+        ),
+        (
+            b"*\n*\n\n*'\n*'",
+            life,
+            Edge::Bare,
+            Symmetry::C1,
+            Some(Period {
+                length: 1,
+                dx: 0,
+                dy: -1,
+            }),
+            Some((1, 0)),
+            6,
+            "-1 0\n-2 3 0\n2 -3 0\n-4 0\n-5 3 1 0\n-5 -3 -1 0\n-6 4 2 0\n-6 -4 -2 0\n5 6 0\n",
+        ),
+        (
+            b"a *\n\n*' *'\n\n*' -a'",
+            life,
+            Edge::Bare,
+            Symmetry::D2Col,
+            Some(Period {
+                length: 2,
+                dx: -1,
+                dy: 0,
+            }),
+            Some((0, 2)),
+            8,
+            "-1 -6 0\n1 6 0\n-1 2 0\n1 -2 0\n-2 1 0\n2 -1 0\n-3 4 0\n3 -4 0\n-4 3 0\n4 -3 0\n-5 6 0\n5 -6 0\n-6 5 0\n6 -5 0\n-1 0\n-2 5 0\n2 -5 0\n-6 0\n-7 1 5 0\n-7 -1 -5 0\n-8 2 6 0\n-8 -2 -6 0\n7 8 0\n",
+        ),
+        (
+            b"*\n\n*'\n\n*'",
+            blinking,
+            Edge::Bare,
+            Symmetry::C1,
+            Some(Period {
+                length: 1,
+                dx: 0,
+                dy: 1,
+            }),
+            None,
+            3,
+            "0\n1 0\n-2 0\n0\n-2 0\n3 0\n",
+        ),
+        (
+            b"* *\n* *\n\n*' *\n*' *'",
+            one_born,
+            Edge::Bare,
+            Symmetry::D2Down,
+            Some(Period {
+                length: 1,
+                dx: 64,
+                dy: -64,
+            }),
+            Some((0, 1)),
+            12,
+            "-2 3 0\n2 -3 0\n-3 2 0\n3 -2 0\n-6 7 0\n6 -7 0\n-7 6 0\n7 -6 0\n-1 0\n-2 0\n-3 0\n-4 0\n-5 0\n-6 0\n-7 0\n-8 0\n1 2 3 4 -6 0\n1 2 3 -4 6 0\n1 2 -3 4 6 0\n1 2 -3 -4 -6 0\n1 -2 3 4 -6 0\n1 -2 3 -4 -6 0\n1 -2 -3 4 -6 0\n1 -2 -3 -4 -6 0\n-1 2 3 4 6 0\n-1 2 3 -4 -6 0\n-1 2 -3 4 -6 0\n-1 2 -3 -4 -6 0\n-1 -2 3 4 -6 0\n-1 -2 3 -4 -6 0\n-1 -2 -3 4 -6 0\n-1 -2 -3 -4 -6 0\n-9 1 5 0\n-9 -1 -5 0\n-10 2 6 0\n-10 -2 -6 0\n-11 3 7 0\n-11 -3 -7 0\n-12 4 8 0\n-12 -4 -8 0\n9 10 11 12 0\n",
+        ),
+    ];
+    for (file, rule, edge, symmetry, period, differ, vars, text) in rows {
+        let demands = demanded(&rt, edge, symmetry, period, differ);
+        let formula = encoded(alloc, file, rule, demands)?;
         let found = clauses(alloc, &formula)?;
         assert_eq!(rt; formula.vars(), vars);
         assert_eq!(rt; found.as_str(), text);
