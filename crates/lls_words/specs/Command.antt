@@ -30,11 +30,15 @@ operand_count commands.Cnf = 1
 operand_count commands.Lrat = 2
 operand_count commands.Rule = 1
 
+-- the rule and the demands of a problem
+abbrev pub problem_options : List Setting
+problem_options = settings.Rule ∷ settings.Edge ∷ settings.Symmetry ∷ settings.Period ∷ settings.Differ ∷ []
+
 -- the options that a command takes
 abbrev pub options_of : Command → List Setting
-options_of commands.Check = settings.Rule ∷ settings.Edge ∷ []
-options_of commands.Judge = settings.Rule ∷ settings.Edge ∷ settings.Symmetry ∷ settings.Period ∷ settings.Differ ∷ []
-options_of commands.Cnf = settings.Rule ∷ settings.Edge ∷ []
+options_of commands.Check = problem_options
+options_of commands.Judge = problem_options
+options_of commands.Cnf = problem_options
 options_of commands.Lrat = []
 options_of commands.Rule = []
 

@@ -57,14 +57,13 @@ impl Command {
         ensures { result.now ≡ options_of self }
     {
         match self {
-            Command::Judge => &[
+            Command::Check | Command::Judge | Command::Cnf => &[
                 Setting::Rule,
                 Setting::Edge,
                 Setting::Symmetry,
                 Setting::Period,
                 Setting::Differ,
             ],
-            Command::Check | Command::Cnf => &[Setting::Rule, Setting::Edge],
             Command::Lrat | Command::Rule => &[],
         }
     }

@@ -55,8 +55,10 @@ fn faults_are_named_by_their_place(rt: HostRuntime) -> Result<(), Fail> {
         ("judge f p --differ 0", "BadValue 4"),
         ("judge f p --differ 0,64", "BadValue 4"),
         ("judge f p --differ 0,1,2", "BadValue 4"),
-        ("check f p --symmetry C2", "UnknownOption 4"),
-        ("cnf f --period 1", "UnknownOption 3"),
+        ("check f p --period 4,1", "BadValue 4"),
+        ("cnf f --differ 64,0", "BadValue 3"),
+        ("lrat f p --symmetry C2", "UnknownOption 4"),
+        ("rule B3/S23 --period 1", "UnknownOption 3"),
         ("rule B1k/S", "BadLetter 2 3"),
         ("rule B33/S", "RepeatedDigit 2 3"),
         ("rule B2aa/S", "RepeatedLetter 2 4"),
@@ -103,20 +105,27 @@ fn options_and_operands_stand_in_any_order(rt: HostRuntime) -> Result<(), Fail> 
 }
 
 #[test]
-fn demands_of_a_pattern(rt: HostRuntime) -> Result<(), Fail> {
+fn demands_of_a_problem(rt: HostRuntime) -> Result<(), Fail> {
     let alloc = rt.alloc();
-    let line = "judge f --symmetry D2/ --period 07,-64,064 p --differ=63,0";
-    let words = words_of(alloc, line)?;
-    let Ok(Job::Judge { demands, .. }) = read_job(alloc, &words) else {
-        return Err(Fail::from("a judging"));
-    };
+    let rows = [
+        "judge f --symmetry D2/ --period 07,-64,064 p --differ=63,0",
+        "check --differ 63,0 f --period=7,-64,64 --symmetry D2/ p",
+        "cnf --symmetry D2/ --differ 063,00 --period 7,-64,64 f",
+    ];
     let period = Period {
         length: 7,
         dx: -64,
         dy: 64,
     };
-    assert_eq!(rt; demands.symmetry, Symmetry::D2Up);
-    assert_eq!(rt; demands.period, Some(period));
-    assert_eq!(rt; demands.differ, Some((63, 0)));
+    for line in rows {
+        let words = words_of(alloc, line)?;
+        let Ok(Job::Judge { demands, .. } | Job::Check { demands, .. } | Job::Cnf { demands, .. }) =
+            read_job(alloc, &words) else {
+            return Err(Fail::from("a job with demands"));
+        };
+        assert_eq!(rt; demands.symmetry, Symmetry::D2Up, "at {line:?}");
+        assert_eq!(rt; demands.period, Some(period), "at {line:?}");
+        assert_eq!(rt; demands.differ, Some((63, 0)), "at {line:?}");
+    }
     Ok(())
 }
