@@ -6,7 +6,22 @@ use std::test::Fail;
 // Any call may answer want of memory, and no clause excludes it. With ample memory none does.
 #[test]
 fn answers_with_ample_memory(rt: HostRuntime) -> Result<(), Fail> {
-    let rows: [Row; 21] = [
+    let rows: [Row; 23] = [
+        // The background isn't there again, so the first clause is empty.
+        (
+            "check f p --rule B0/S --period 1",
+            "*\n\n*\n",
+            "14 0 1 0\n",
+            Status::Done,
+            "accepted\n",
+        ),
+        (
+            "check f p --rule B0/S --symmetry D8",
+            "*\n\n*\n",
+            "14 0 1 0\n",
+            Status::Refused,
+            "refused: NoConflict 1\n",
+        ),
         (
             "check f p",
             "1\n\n1\n",

@@ -272,14 +272,14 @@ fn demands_that_do_not_fit(rt: HostRuntime) -> Result<(), Fail> {
             "content: NoGeneration 2",
         ),
         (
-            "judge f q --symmetry C4",
+            "check f q --symmetry C4",
             "* * *\n",
             "",
             Status::Content,
             "content: NotSquare 1 3",
         ),
         (
-            "judge f q --period 2",
+            "cnf f --period 2",
             "*\n\n*\n",
             "",
             Status::Content,

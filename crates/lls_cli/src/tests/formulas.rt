@@ -7,7 +7,21 @@ use std::test::Fail;
 // The texts are those that the script in tools/ makes, which shares nothing with the program.
 #[test]
 fn formulas_of_an_independent_script(rt: HostRuntime) -> Result<(), Fail> {
-    let rows: [Row; 22] = [
+    let rows: [Row; 24] = [
+        (
+            "cnf f --differ 0,1",
+            "*\n\n*\n",
+            "",
+            Status::Done,
+            "p cnf 3 5\n1 -2 0\n-1 -2 0\n-3 1 2 0\n-3 -1 -2 0\n3 0\n",
+        ),
+        (
+            "cnf f --rule B0/S --period 1",
+            "*\n\n*\n",
+            "",
+            Status::Done,
+            "p cnf 2 13\n0\n-1 2 0\n1 -2 0\n-1 0\n-1 0\n-1 0\n-1 0\n1 2 0\n-1 -2 0\n-1 0\n-1 0\n-1 0\n-1 0\n",
+        ),
         (
             "cnf f",
             "1\n\n1\n",

@@ -1,0 +1,61 @@
+#!/usr/bin/env python3
+"""Writes random problems: search files, and the words that ask for their demands.
+
+    problems.py SEED COUNT FOLDER
+
+For each K below COUNT, FOLDER gets K.lls, a search file; K.words, the options of `lls`, one word a line; and K.script, the
+words of formula.py behind the search file, one a line. Rules are in B/S notation, and every demand fits its file.
+"""
+import os
+import random
+import sys
+
+SYMMETRIES = ["C1", "C2", "D2-", "D2|", "D4+"]
+SQUARE = SYMMETRIES + ["C4", "D2\\", "D2/", "D4x", "D8"]
+
+
+def cell(names):
+    word = random.choice(["*"] * 5 + ["0", "1", "name", "name"])
+    if word == "name":
+        word = random.choice(["", "-"]) + random.choice(names)
+    return word + random.choice(["", "", "", "'"])
+
+
+def problem():
+    generations, height = random.randint(1, 4), random.randint(1, 3)
+    width = height if random.random() < 0.5 else random.randint(1, 3)
+    names = random.sample(["a", "b", "c3", "x_y"], random.randint(1, 3))
+    rows = lambda: "\n".join(" ".join(cell(names) for _ in range(width)) for _ in range(height))
+    text = "\n\n".join(rows() for _ in range(generations)) + "\n"
+    births = "".join(d for d in "012345678" if random.random() < 0.3)
+    survivals = "".join(d for d in "012345678" if random.random() < 0.3)
+    edge = random.choice(["closed", "open"])
+    words = [f"--rule=B{births}/S{survivals}", f"--edge={edge}"]
+    script = [births or "-", survivals or "-", edge]
+    if random.random() < 0.6:
+        symmetry = random.choice(SQUARE if height == width else SYMMETRIES)
+        words.append(f"--symmetry={symmetry}")
+        script.append(f"--symmetry={symmetry}")
+    if generations > 1 and random.random() < 0.6:
+        period, shift = random.randint(1, generations - 1), (random.randint(-2, 2), random.randint(-2, 2))
+        words.append(f"--period={period},{shift[0]},{shift[1]}")
+        script += [f"--period={period}", f"--shift={shift[0]},{shift[1]}"]
+    if random.random() < 0.6:
+        pair = (random.randrange(generations), random.randrange(generations))
+        words.append(f"--differ={pair[0]},{pair[1]}")
+        script.append(f"--differ={pair[0]},{pair[1]}")
+    return text, words, script
+
+
+def main():
+    seed, count, folder = sys.argv[1:]
+    random.seed(int(seed))
+    for k in range(int(count)):
+        text, words, script = problem()
+        for name, content in (("lls", text), ("words", "\n".join(words) + "\n"), ("script", "\n".join(script) + "\n")):
+            with open(os.path.join(folder, f"{k}.{name}"), "w") as file:
+                file.write(content)
+
+
+if __name__ == "__main__":
+    main()
