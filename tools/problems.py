@@ -24,7 +24,7 @@ def cell(names):
 def problem():
     generations, height = random.randint(1, 4), random.randint(1, 3)
     width = height if random.random() < 0.5 else random.randint(1, 3)
-    names = random.sample(["a", "b", "c3", "x_y"], random.randint(1, 3))
+    names = random.sample(["a", "b", "c3", "xY9"], random.randint(1, 3))
     rows = lambda: "\n".join(" ".join(cell(names) for _ in range(width)) for _ in range(height))
     text = "\n\n".join(rows() for _ in range(generations)) + "\n"
     births = "".join(d for d in "012345678" if random.random() < 0.3)
