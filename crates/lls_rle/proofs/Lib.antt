@@ -1,0 +1,9 @@
+pub mod FirstTokens
+pub mod HeaderParts
+pub mod Counts
+pub mod Painting
+pub mod TokenCounts
+pub mod Steps
+pub mod Lines
+pub mod LineTotals
+pub mod Whole
