@@ -11,7 +11,7 @@ use Rattle.std.proofs.lemmas.Str.{digit_value_digit}
 use Rattle.std.proofs.lemmas.Int.Digits.{digits_value-lt}
 use Rattle.std.proofs.Math.Nat.{pow-le-pow_right}
 use Rattle.lls_text.specs.Digits.{is_digits}
-use Rattle.lls_rle.specs.declared.parts.Tag.TheVariants as tag
+use Rattle.lls_rle.specs.declared.item.Tag.TheVariants as tag
 use Rattle.lls_rle.specs.declared.parts.Part.TheVariants as part
 use Rattle.lls_rle.specs.Parts.{part_of, count_part, tag_part}
 

@@ -7,3 +7,7 @@ pub mod Steps
 pub mod Lines
 pub mod LineTotals
 pub mod Whole
+pub mod ItemRows
+pub mod Cells
+pub mod Wrapping
+pub mod Isotropic

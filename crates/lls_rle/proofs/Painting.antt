@@ -9,7 +9,7 @@ use Rattle.std.proofs.Math.Nat.{mul-le-mul_left}
 use Rattle.lls_grid.specs.History.{folded}
 use Rattle.lls_rle.specs.declared.rle_error.RleError.{RleError}
 use Rattle.lls_rle.specs.declared.rle_error.RleError.TheVariants.{TooHigh, TooWide}
-use Rattle.lls_rle.specs.declared.parts.Tag.TheVariants as tag
+use Rattle.lls_rle.specs.declared.item.Tag.TheVariants as tag
 use Rattle.lls_rle.specs.declared.reader.Reader.{Reader}
 use Rattle.lls_rle.specs.Items.{Items, before_items}
 use Rattle.lls_rle.specs.Picture.{Run, runs_from, misfit, first_misfit, or_else, unless_misfit, at_ending, covers, picture}

@@ -1,15 +1,10 @@
 -- The items of an RLE text: runs of dead cells, of live cells and of row ends, up to the end or the first byte that can't stand there.
 use Rattle.std.specs.Prelude.{ℕ, ◌+◌, List, [], ◌∷◌, Option, None, Some, unwrap_or}
-use Rattle.lls_rle.specs.declared.parts.Tag.{Tag}
+use Rattle.lls_rle.specs.declared.item.Item.{Item}
 use Rattle.lls_rle.specs.declared.parts.Part.{Part}
 use Rattle.lls_rle.specs.declared.parts.Part.TheVariants as part
 use Rattle.lls_rle.specs.Tokens.{PlacedToken}
 use Rattle.lls_rle.specs.Parts.{part_of}
-
--- so many cells or row ends
-pub record Item : Type 0 where
-  pub count : ℕ
-  pub tag : Tag
 
 -- what stands behind the last item: `!`, nothing, or a byte that can't stand there, at its line and column
 pub data Ending : Type 0 where

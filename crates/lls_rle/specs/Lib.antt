@@ -8,3 +8,5 @@ pub mod Picture
 pub mod Reading
 pub mod Reader
 pub mod Between
+pub mod Printing
+pub mod Stacked

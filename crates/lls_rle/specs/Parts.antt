@@ -2,7 +2,7 @@
 use Rattle.std.specs.Prelude.{ℕ, ◌-◌, ◌==◌, nat_le, List, length, slice_index, if◌then◌else◌}
 use Rattle.std.specs.Str.Parse.{digits_value}
 use Rattle.lls_text.specs.Digits.{is_digits}
-use Rattle.lls_rle.specs.declared.parts.Tag.TheVariants.{Dead, Live, RowEnd}
+use Rattle.lls_rle.specs.declared.item.Tag.TheVariants.{Dead, Live, RowEnd}
 use Rattle.lls_rle.specs.declared.parts.Part.{Part}
 use Rattle.lls_rle.specs.declared.parts.Part.TheVariants as part
 

@@ -4,9 +4,10 @@ use Rattle.std.specs.List.{list_any, range_with_len}
 use Rattle.lls_grid.specs.History.{History}
 use Rattle.lls_rle.specs.declared.rle_error.RleError.{RleError}
 use Rattle.lls_rle.specs.declared.rle_error.RleError.TheVariants.{BadTag, TooWide, TooHigh, NoEnd}
-use Rattle.lls_rle.specs.declared.parts.Tag.{Tag}
-use Rattle.lls_rle.specs.declared.parts.Tag.TheVariants.{Dead, Live, RowEnd}
-use Rattle.lls_rle.specs.Items.{Item, Items, Ending, ended, unended, stray}
+use Rattle.lls_rle.specs.declared.item.Tag.{Tag}
+use Rattle.lls_rle.specs.declared.item.Tag.TheVariants.{Dead, Live, RowEnd}
+use Rattle.lls_rle.specs.declared.item.Item.{Item}
+use Rattle.lls_rle.specs.Items.{Items, Ending, ended, unended, stray}
 
 -- live cells of a row, from a column on
 pub record Run : Type 0 where

@@ -2,7 +2,9 @@
 #![tactic(auto)]
 
 mod header;
+mod item;
 mod parts;
+mod print;
 mod read;
 mod reader;
 mod rle_error;
@@ -10,6 +12,7 @@ mod rle_error;
 mod tests;
 mod tokens;
 
+pub use print::print_rle;
 pub use read::read_rle;
 pub use reader::MOST_BYTES;
 pub use rle_error::RleError;

@@ -3,21 +3,11 @@ ghost use Rattle.std.specs.Prelude.{◌≡◌, true};
 ghost use Rattle.lls_text.specs.Digits.{is_digits};
 ghost use Rattle.lls_rle.specs.Parts.{count_part, part_of, tag_part};
 
+use crate::item::Tag;
 use lls_text::{digits_number, is_digits};
 
 /// The greatest number of digits of a count.
 pub(crate) const MOST_DIGITS: usize = 6;
-
-/// What a run is of.
-#[derive(Clone, Copy, Debug, PartialEq, Eq)]
-pub(crate) enum Tag {
-    /// `b`
-    Dead,
-    /// `o`
-    Live,
-    /// `$`
-    RowEnd,
-}
 
 /// What a token is.
 #[derive(Clone, Copy, Debug, PartialEq, Eq)]

@@ -7,7 +7,8 @@ ghost use Rattle.lls_rle.specs.Between.{is_between};
 ghost use Rattle.lls_rle.specs.Reading.{is_comment, tokens_of_line, tokens_of_lines};
 
 use crate::RleError;
-use crate::parts::{Part, Tag, part_of};
+use crate::item::Tag;
+use crate::parts::{Part, part_of};
 use crate::tokens::{Token, Tokens};
 use lls_grid::{History, Sizes};
 use lls_text::Lines;
