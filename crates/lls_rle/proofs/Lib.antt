@@ -11,3 +11,4 @@ pub mod ItemRows
 pub mod Cells
 pub mod Wrapping
 pub mod Isotropic
+pub mod Pictured

@@ -89,7 +89,7 @@ no_misfit false true high far e = absurd cc
 no_misfit false false high far e = refl
 
 -- a run that is no misfit fits
-fitting : (h w row column count : ℕ) → None ≡ misfit h w (record { row = row; column = column; count = count }) → column + count ≤ w
+pub fitting : (h w row column count : ℕ) → None ≡ misfit h w (record { row = row; column = column; count = count }) → column + count ≤ w
 fitting h w row column count fits = le_of w (column + count) (no_misfit (nat_le h row) (nat_lt w (column + count)) (TooHigh row) (TooWide row) fits) where
   le_of : (a b : ℕ) → nat_lt a b ≡ false → b ≤ a
   le_of a b e = grind (arith, nat_tests)
