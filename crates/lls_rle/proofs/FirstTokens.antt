@@ -1,9 +1,11 @@
 -- The blanks and the token that stand first in a text.
-use Rattle.std.proofs.Common.{◌≡◌, ◌<◌, ◌≤◌, ◌+◌, ◌-◌, ℕ, suc, Bool, true, false, not, cond, max, List, [], ◌∷◌, length, take, drop, refl, sym, ap, ◌∙◌, arith, subst, length-drop}
+use Rattle.std.proofs.Common.{◌≡◌, ◌<◌, ◌≤◌, ◌+◌, ◌-◌, ℕ, suc, Bool, true, false, not, cond, max, List, [], ◌∷◌, ◌++◌, length, take, drop, refl, sym, ap, ◌∙◌, arith, subst, length-drop}
 use Rattle.std.specs.Prelude.{◌&&◌}
-use Rattle.std.specs.List.{position_or_len}
+use Rattle.std.specs.List.{position_or_len, list_all}
+use Rattle.std.proofs.lemmas.Bool.{and_parts}
 use Rattle.std.specs.Char.{is_ascii_digit}
 use Rattle.std.proofs.lemmas.Bool.Decides.{nat_tests}
+use Rattle.std.proofs.Math.Seq.{take-append_seam, drop-append_seam}
 use Rattle.std.proofs.lemmas.List.Sums.{prefix_len-le-length}
 use Rattle.lls_text.specs.Words.{is_blank, is_solid, begins_solid}
 use Rattle.lls_rle.specs.Header.{digits}
@@ -109,3 +111,22 @@ tokens_from-first line column (b ∷ bs) solid =
           let n : 1 ≡ max (digits (b ∷ bs)) 1 = omega (arith, none_digit (b ∷ bs) is) in
           subst (IsFirst line column (b ∷ bs)) n (alone line column b bs (not_blank b solid) (and_none (is_ascii_digit b) (begins_digit bs) is))
     ] refl
+
+digits-front : (ds rest : List ℕ) → list_all is_ascii_digit ds ≡ true → begins_digit rest ≡ false → digits (ds ++ rest) ≡ length ds
+digits-front [] rest all ends = none_digit rest ends
+digits-front (b ∷ bs) rest all ends =
+    let parts = and_parts (is_ascii_digit b) (list_all is_ascii_digit bs) all in
+    some_digit b (bs ++ rest) parts.0 ∙ ap suc (digits-front bs rest parts.1 ends)
+
+-- digits that stand first are one token
+pub tokens_from-digits : (line column : ℕ) (ds rest : List ℕ) → 0 < length ds → list_all is_ascii_digit ds ≡ true → begins_digit rest ≡ false
+    → tokens_from line column (ds ++ rest) ≡ record { line = line; column = column; text = ds } ∷ tokens_from line (column + length ds) rest
+unfolding IsFirst
+tokens_from-digits line column [] rest some all ends = absurd (omega arith)
+tokens_from-digits line column (b ∷ bs) rest some all ends =
+    let parts = and_parts (is_ascii_digit b) (list_all is_ascii_digit bs) all in
+    let n : digits (bs ++ rest) ≡ length bs = digits-front bs rest parts.1 ends in
+    digits_first line column b (bs ++ rest) parts.0
+    ∙ ap (λ k. record { line = line; column = column; text = b ∷ take k (bs ++ rest) } ∷ tokens_from line (column + suc k) (drop k (bs ++ rest))) n
+    ∙ ap (λ front. record { line = line; column = column; text = b ∷ front } ∷ tokens_from line (column + suc (length bs)) (drop (length bs) (bs ++ rest))) (take-append_seam bs rest)
+    ∙ ap (λ behind. record { line = line; column = column; text = b ∷ bs } ∷ tokens_from line (column + suc (length bs)) behind) (drop-append_seam bs rest)

@@ -12,3 +12,5 @@ pub mod Cells
 pub mod Wrapping
 pub mod Isotropic
 pub mod Pictured
+pub mod ItemTexts
+pub mod Bodies
