@@ -1,6 +1,6 @@
 -- The lines of a printed body, and what is read of them.
-use Rattle.std.proofs.Common.{◌≡◌, ◌<◌, ◌≤◌, ◌+◌, ℕ, suc, Bool, true, false, cond, eqb, List, [], ◌∷◌, ◌++◌, length, None, Some, refl, sym, ap, subst, ◌∙◌, inl, inr, arith, append_assoc, append-nil, length-append}
-use Rattle.std.specs.Prelude.{Option, nat_lt, ◌&&◌}
+use Rattle.std.proofs.Common.{◌≡◌, ◌+◌, ℕ, Bool, true, false, cond, List, [], ◌∷◌, ◌++◌, length, None, refl, sym, ap, ◌∙◌, inl, inr, arith, append_assoc, append-nil, length-append}
+use Rattle.std.specs.Prelude.{nat_lt}
 use Rattle.std.specs.List.{list_all}
 use Rattle.std.proofs.lemmas.List.Folds.{list_all-append}
 use Rattle.std.specs.Cmp.Derive.{both_true}
@@ -10,7 +10,7 @@ use Rattle.lls_text.specs.Lines.{lines_of}
 use Rattle.lls_text.proofs.Printed.{lines_of-line}
 use Rattle.lls_rle.specs.declared.item.Item.{Item}
 use Rattle.lls_rle.specs.Tokens.{PlacedToken, tokens_from}
-use Rattle.lls_rle.specs.Items.{Items, ended, none_but, before_items, items_behind, items_of}
+use Rattle.lls_rle.specs.Items.{Items, ended, items_behind, items_of}
 use Rattle.lls_rle.specs.Reading.{is_comment, tokens_of_line, tokens_of_lines}
 use Rattle.lls_rle.specs.Printing.{item_text, wrapped, body_text}
 use Rattle.lls_rle.specs.Stacked.{AreSmall}

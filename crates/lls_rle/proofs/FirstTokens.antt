@@ -49,7 +49,7 @@ begins_solid-behind (b ∷ bs) some =
 not_blank : (b : ℕ) → is_solid b ≡ true → is_blank b ≡ false
 not_blank b e = elim (is_blank b) as (λ v. not v ≡ true → v ≡ false) [ true ↦ λ h. cc | false ↦ λ h. refl ] e
 
-digit_not_blank : (b : ℕ) → is_ascii_digit b ≡ true → is_blank b ≡ false
+pub digit_not_blank : (b : ℕ) → is_ascii_digit b ≡ true → is_blank b ≡ false
 digit_not_blank b e = grind (arith, nat_tests)
 
 and_false : (x y : Bool) → y ≡ false → (x && y) ≡ false
@@ -112,7 +112,7 @@ tokens_from-first line column (b ∷ bs) solid =
           subst (IsFirst line column (b ∷ bs)) n (alone line column b bs (not_blank b solid) (and_none (is_ascii_digit b) (begins_digit bs) is))
     ] refl
 
-digits-front : (ds rest : List ℕ) → list_all is_ascii_digit ds ≡ true → begins_digit rest ≡ false → digits (ds ++ rest) ≡ length ds
+pub digits-front : (ds rest : List ℕ) → list_all is_ascii_digit ds ≡ true → begins_digit rest ≡ false → digits (ds ++ rest) ≡ length ds
 digits-front [] rest all ends = none_digit rest ends
 digits-front (b ∷ bs) rest all ends =
     let parts = and_parts (is_ascii_digit b) (list_all is_ascii_digit bs) all in

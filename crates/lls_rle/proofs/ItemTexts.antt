@@ -1,9 +1,9 @@
 -- What is read of an item's text.
-use Rattle.std.proofs.Common.{◌≡◌, ◌<◌, ◌≤◌, ◌+◌, ◌^◌, ℕ, suc, Bool, true, false, not, cond, eqb, List, [], ◌∷◌, ◌++◌, length, take, drop, None, Some, refl, sym, ap, subst, ◌∙◌, inl, inr, arith, append_assoc, length-append}
-use Rattle.std.specs.Prelude.{Option, ◌==◌, ◌||◌, ◌&&◌, decimal, unwrap_or}
-use Rattle.std.specs.List.{list_all, position_or_len}
+use Rattle.std.proofs.Common.{◌≡◌, ◌<◌, ◌≤◌, ◌+◌, ℕ, Bool, true, false, cond, eqb, List, [], ◌∷◌, ◌++◌, length, None, Some, refl, sym, ap, ◌∙◌, inl, inr, arith, append_assoc, length-append}
+use Rattle.std.specs.Prelude.{Option, ◌==◌, ◌||◌, decimal, unwrap_or}
+use Rattle.std.specs.List.{list_all}
 use Rattle.std.specs.Char.{is_ascii_digit}
-use Rattle.std.specs.Str.Parse.{AllDigits, digits_value}
+use Rattle.std.specs.Str.Parse.{digits_value}
 use Rattle.std.proofs.lemmas.List.Folds.{list_all-append}
 use Rattle.std.specs.Cmp.Derive.{both_true}
 use Rattle.std.proofs.lemmas.Bool.{and_parts}
@@ -15,10 +15,9 @@ use Rattle.lls_rle.specs.declared.item.Tag.{Tag}
 use Rattle.lls_rle.specs.declared.item.Tag.TheVariants.{Dead, Live, RowEnd}
 use Rattle.lls_rle.specs.declared.item.Item.{Item}
 use Rattle.lls_rle.specs.declared.parts.Part.TheVariants as part
-use Rattle.lls_rle.specs.Header.{digits}
 use Rattle.lls_rle.specs.Tokens.{PlacedToken, begins_digit, tokens_from}
-use Rattle.lls_rle.specs.Parts.{part_of, count_part, tag_part}
-use Rattle.lls_rle.specs.Items.{Items, before_items, with_part, items_behind}
+use Rattle.lls_rle.specs.Parts.{part_of}
+use Rattle.lls_rle.specs.Items.{before_items, with_part, items_behind}
 use Rattle.lls_rle.specs.Printing.{tag_text, item_text}
 use Rattle.lls_rle.proofs.FirstTokens.{tokens_from-digits}
 use Rattle.lls_rle.proofs.Counts.{IsCount, counted}

@@ -14,3 +14,6 @@ pub mod Isotropic
 pub mod Pictured
 pub mod ItemTexts
 pub mod Bodies
+pub mod RuleBytes
+pub mod Headers
+pub mod RoundTrip

@@ -1,19 +1,19 @@
 -- The items of rows picture the rows.
-use Rattle.std.proofs.Common.{◌≡◌, ◌<◌, ◌≤◌, ◌+◌, ◌-◌, ◌*◌, ℕ, zero, suc, Bool, true, false, cond, eqb, List, [], ◌∷◌, ◌++◌, length, map, get_or, None, Some, Ok, refl, sym, ap, subst, ◌∙◌, inl, inr, arith, append_assoc, zero-add, add-zero}
-use Rattle.std.specs.Prelude.{Option, nat_le, nat_lt, ◌==◌, ◌&&◌, ◌||◌, Result}
+use Rattle.std.proofs.Common.{◌≡◌, ◌<◌, ◌≤◌, ◌+◌, ℕ, zero, suc, Bool, true, false, eqb, List, [], ◌∷◌, length, map, get_or, None, Some, Ok, refl, sym, ap, ◌∙◌, arith, zero-add, add-zero}
+use Rattle.std.specs.Prelude.{Option, nat_le, nat_lt, ◌==◌, ◌&&◌, ◌||◌}
 use Rattle.std.specs.List.{list_any, list_all, range_with_len}
-use Rattle.std.proofs.lemmas.Bool.{cases_lt, and_parts, eqb-true}
+use Rattle.std.proofs.lemmas.Bool.{and_parts, eqb-true}
 use Rattle.std.proofs.lemmas.Bool.Decides.{nat_tests}
 use Rattle.lls_rle.specs.declared.rle_error.RleError.{RleError}
 use Rattle.lls_rle.specs.declared.item.Tag.{Tag}
 use Rattle.lls_rle.specs.declared.item.Tag.TheVariants.{Dead, Live, RowEnd}
 use Rattle.lls_rle.specs.declared.item.Item.{Item}
-use Rattle.lls_rle.specs.Picture.{Run, with_item, runs_from, misfit, first_misfit, or_else, unless_misfit, covers, picture, pictured}
-use Rattle.lls_rle.specs.Items.{Items, ended}
+use Rattle.lls_rle.specs.Picture.{with_item, runs_from, misfit, first_misfit, or_else, unless_misfit, covers, picture, pictured}
+use Rattle.lls_rle.specs.Items.{ended}
 use Rattle.lls_grid.proofs.InOrder.{width_at}
 use Rattle.std.proofs.lemmas.List.FromFn.{fill_by_all}
 use Rattle.lls_rle.proofs.Painting.{fitting}
-use Rattle.lls_rle.specs.Printing.{single, longer, before_item, before_cell, before_row, before_ends, before_end, items_of_rows}
+use Rattle.lls_rle.specs.Printing.{before_item, before_cell, before_row, before_ends, before_end, items_of_rows}
 
 or_assoc : (a b c : Bool) → ((a || b) || c) ≡ (a || (b || c))
 or_assoc true b c = refl
@@ -161,7 +161,7 @@ pub picture-items_of_rows : (height width : ℕ) (rows : List (List Bool)) → l
 picture-items_of_rows height width rows count even =
     let runs = runs_from 0 0 (items_of_rows rows) in
     ap (λ rs. rs ∷ []) (sym (fill_by_all (λ y. map (λ x. list_any (covers y x) runs) (range_with_len 0 width)) rows height [] count (λ y y_in.
-      fill_by_all (λ x. list_any (covers y x) runs) (get_or rows y []) width false (width_at width rows y even (omega (arith, y_in, count))) (λ x x_in. sym (made rows y x))
+    fill_by_all (λ x. list_any (covers y x) runs) (get_or rows y []) width false (width_at width rows y even (omega (arith, y_in, count))) (λ x x_in. sym (made rows y x))
     )))
 
 -- runs that fit

@@ -1,8 +1,9 @@
 //! The RLE text of a generation.
-ghost use Rattle.std.specs.Prelude.{◌≡◌, ◌==◌, ◌<◌, ◌≤◌, ◌+◌, ◌^◌, [], ◌++◌, ◌∷◌, ◌↔◌, ℕ, List, length, reverse, nat_lt, decimal, slice_index_or, if◌then◌else◌, IfOk, IsErrOf, OnOk};
+ghost use Rattle.std.specs.Prelude.{◌≡◌, ◌==◌, ◌<◌, ◌≤◌, ◌+◌, ◌^◌, [], ◌++◌, ◌∷◌, ◌↔◌, ℕ, List, length, reverse, nat_lt, decimal, slice_index_or, Ok, if◌then◌else◌, IfOk, IsErrOf, OnOk};
 ghost use Rattle.lls_hensel.specs.Printing.{uneven};
 ghost use Rattle.lls_grid.specs.History.{height_of, width_of, rows_at};
 ghost use Rattle.lls_rle.specs.Printing.{before_cell, before_end, before_row, body_text, header_text, item_text, items_of_rows, longer, rle_text, single, tag_text, wrapped};
+ghost use Rattle.lls_rle.specs.Reading.{rle_of};
 ghost use Rattle.lls_rle.specs.Stacked.{AreSmall, cell_of};
 
 use crate::item::{Item, Tag};
@@ -26,8 +27,11 @@ pub fn print_rle(
 ) -> Result<Vec<u8>, PrintRuleError>
     requires { t < length history.now }
     ensures text { IfOk result (λ text. text.items ≡ rle_text rule.now history.now t) }
+    ensures reads_back { IfOk result (λ text. rle_of (height_of history.now) (width_of history.now) text.items ≡ Ok (rows_at history.now t ∷ [])) }
     ensures not_isotropic { (nine : ℕ) → IsErrOf result (PrintRuleError.NotIsotropic nine) ↔ (uneven rule.now ≡ Some nine) }
 {
+    // Every history keeps to the limits.
+    let _sizes = history.sizes();
     let rule_text = print_rule(alloc, rule)?;
     Ok(text_of(alloc, history, t, rule, &rule_text)?)
 }
