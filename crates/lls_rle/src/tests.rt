@@ -1,6 +1,8 @@
 //! Patterns read and printed.
-use crate::{MOST_BYTES, RleError, read_rle};
+use crate::{MOST_BYTES, RleError, print_rle, read_rle};
 use lls_grid::{History, print_history};
+use lls_hensel::PrintRuleError;
+use lls_rule::Rule;
 use std::alloc::Global;
 use std::test::Fail;
 
@@ -59,6 +61,47 @@ const FAULTS: [(&[u8], RleError); 22] = [
     (b"x = 1, y = 1\nz4o!", RleError::BadTag(2, 1)),
 ];
 
+// A text, a height and a width, and what is printed of its generation with Life's rule.
+const PRINTED: [(&[u8], u32, u32, &[u8]); 6] = [
+    (
+        b"x = 3, y = 3\nb1o$2bo$ooo!",
+        3,
+        3,
+        b"x = 3, y = 3, rule = B3/S23\nbo$2bo$3o!\n",
+    ),
+    (
+        b"x = 3, y = 3\n$3o$!",
+        3,
+        3,
+        b"x = 3, y = 3, rule = B3/S23\n$3o!\n",
+    ),
+    (
+        b"x = 3, y = 3\nbob$bo$bo!",
+        3,
+        3,
+        b"x = 3, y = 3, rule = B3/S23\nbo$bo$bo!\n",
+    ),
+    (
+        b"x = 0, y = 0\n!",
+        2,
+        2,
+        b"x = 2, y = 2, rule = B3/S23\n!\n",
+    ),
+    (
+        b"x = 1, y = 4\no$2b$$o!",
+        5,
+        2,
+        b"x = 2, y = 5, rule = B3/S23\no3$o!\n",
+    ),
+    // The 71st byte goes to the next line.
+    (
+        b"x = 0, y = 0\nobobobobobobobobobobobobobobobobobobobobobobobobobobobobobobobo$obobobobobobobobobobobobobobobobobobobobobobobobobobobobobobobo!",
+        64,
+        64,
+        b"x = 64, y = 64, rule = B3/S23\nobobobobobobobobobobobobobobobobobobobobobobobobobobobobobobobo$obobob\nobobobobobobobobobobobobobobobobobobobobobobobobobobobobo!\n",
+    ),
+];
+
 // What is read, where text and sizes are within their limits.
 fn read(
     alloc: Global,
@@ -84,6 +127,31 @@ fn patterns_are_read(rt: HostRuntime) -> Result<(), Fail> {
         assert_eq!(rt; cells.as_slice(), expected, "at {text:?}");
     }
     Ok(())
+}
+
+#[test]
+fn generations_are_printed(rt: HostRuntime) -> Result<(), Fail> {
+    let life = Rule::from_counts(1 << 3, 1 << 2 | 1 << 3);
+    for (text, height, width, expected) in PRINTED {
+        let history = read(rt.alloc(), text, height, width)??;
+        assert!(rt; 0 < history.generations());
+        let printed = print_rle(rt.alloc(), &history, 0, &life)?;
+        assert_eq!(rt; printed.as_slice(), expected, "at {text:?}");
+    }
+    Ok(())
+}
+
+// One corner makes a cell live, and the other three don't.
+#[test]
+fn an_uneven_rule_is_refused(rt: HostRuntime) -> Result<(), Fail> {
+    let mut rule = Rule::dead();
+    rule.set(1 << 8, true);
+    let history = read(rt.alloc(), b"x = 0, y = 0\n!", 1, 1)??;
+    assert!(rt; 0 < history.generations());
+    match print_rle(rt.alloc(), &history, 0, &rule) {
+        Err(PrintRuleError::NotIsotropic(_)) => Ok(()),
+        _ => Err(Fail::from("a rule that isn't isotropic")),
+    }
 }
 
 #[test]
