@@ -1,0 +1,12 @@
+use Rattle.std.proofs.Common.{◌≡◌, arith}
+use Rattle.std.specs.Str.Parse.{digits_value}
+use Rattle.lls_rle.proofs.Counts.{small_value, counted}
+use Rattle.lls_rle.proofs.parts.count_part.Goals as goal
+
+pub overflow_cast-result : goal.overflow_cast-result
+overflow_cast-result c = omega (arith, small_value c.args.digits.now c.requires c.if-digits-gt-MOST_DIGITS.false, c.digits_number-count.ensures)
+
+pub returns-else-count-eq0 : goal.returns-else-count-eq0
+returns-else-count-eq0 c =
+    let is : c.digits_number-count.result ≡ digits_value 10 c.args.digits.now = omega (arith, small_value c.args.digits.now c.requires c.if-digits-gt-MOST_DIGITS.false, c.digits_number-count.ensures) in
+    counted c.args.digits.now c.digits_number-count.result is c.if-digits-gt-MOST_DIGITS.false (λ zero. omega (arith, zero, c.if-count-eq0.false))

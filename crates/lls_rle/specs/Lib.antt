@@ -1,0 +1,12 @@
+pub mod Faults
+pub mod Tokens
+pub mod Seen
+pub mod Header
+pub mod Parts
+pub mod Items
+pub mod Picture
+pub mod Reading
+pub mod Reader
+pub mod Between
+pub mod Printing
+pub mod Stacked

@@ -1,0 +1,18 @@
+//! Run length encoded patterns (RLE): generations of two-state cells as Life programs exchange them.
+#![tactic(auto)]
+
+mod header;
+mod item;
+mod parts;
+mod print;
+mod read;
+mod reader;
+mod rle_error;
+#[cfg(test)]
+mod tests;
+mod tokens;
+
+pub use print::print_rle;
+pub use read::read_rle;
+pub use reader::MOST_BYTES;
+pub use rle_error::RleError;
