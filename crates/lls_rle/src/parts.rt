@@ -1,10 +1,11 @@
 //! What a token is.
-ghost use Rattle.std.specs.Prelude.{◌≡◌, true};
+ghost use Rattle.std.specs.Prelude.{◌≡◌, ◌-◌, ◌^◌, min, true};
+ghost use Rattle.std.specs.Str.Parse.{digits_value};
 ghost use Rattle.lls_text.specs.Digits.{is_digits};
 ghost use Rattle.lls_rle.specs.Parts.{count_part, part_of, tag_part};
 
 use crate::item::Tag;
-use lls_text::{digits_number, is_digits};
+use lls_text::digits_number;
 
 /// The greatest number of digits of a count.
 pub(crate) const MOST_DIGITS: usize = 6;
@@ -24,26 +25,25 @@ pub(crate) enum Part {
 pub(crate) fn part_of(text: &[u8]) -> Part
     ensures { result ≡ part_of text.now }
 {
-    match text {
-        _ if is_digits(text) => count_part(text),
-        [byte, ..] => tag_part(*byte),
-        [] => Part::Bad(0),
+    match (digits_number(text), text) {
+        (Some(number), _) => count_part(text, number),
+        (None, [byte, ..]) => tag_part(*byte),
+        (None, []) => Part::Bad(0),
     }
 }
 
-// What digits are.
-fn count_part(digits: &[u8]) -> Part
-    requires { is_digits digits.now ≡ true }
+// What digits are, with the number that they write.
+fn count_part(digits: &[u8], number: u64) -> Part
+    requires digits { is_digits digits.now ≡ true }
+    requires number { number ≡ min (digits_value 10 digits.now) (2 ^ 64 - 1) }
     ensures { result ≡ count_part digits.now }
 {
     if digits.len() > MOST_DIGITS {
-        return Part::Bad(MOST_DIGITS as u64);
-    }
-    let count = digits_number(digits);
-    if count == 0 {
+        Part::Bad(MOST_DIGITS as u64)
+    } else if number == 0 {
         Part::Bad(digits.len() as u64 - 1)
     } else {
-        Part::Count(count as u32)
+        Part::Count(number as u32)
     }
 }
 

@@ -4,9 +4,9 @@ use Rattle.lls_rle.proofs.Counts.{small_value, counted}
 use Rattle.lls_rle.proofs.parts.count_part.Goals as goal
 
 pub overflow_cast-result : goal.overflow_cast-result
-overflow_cast-result c = omega (arith, small_value c.args.digits.now c.requires c.if-digits-gt-MOST_DIGITS.false, c.digits_number-count.ensures)
+overflow_cast-result c = omega (arith, small_value c.args.digits.now c.requires.digits c.if-digits-gt-MOST_DIGITS.false, c.requires.number)
 
-pub returns-else-count-eq0 : goal.returns-else-count-eq0
-returns-else-count-eq0 c =
-    let is : c.digits_number-count.result ≡ digits_value 10 c.args.digits.now = omega (arith, small_value c.args.digits.now c.requires c.if-digits-gt-MOST_DIGITS.false, c.digits_number-count.ensures) in
-    counted c.args.digits.now c.digits_number-count.result is c.if-digits-gt-MOST_DIGITS.false (λ zero. omega (arith, zero, c.if-count-eq0.false))
+pub returns-else-number-eq0 : goal.returns-else-number-eq0
+returns-else-number-eq0 c =
+    let is : c.args.number ≡ digits_value 10 c.args.digits.now = omega (arith, small_value c.args.digits.now c.requires.digits c.if-digits-gt-MOST_DIGITS.false, c.requires.number) in
+    counted c.args.digits.now c.args.number is c.if-digits-gt-MOST_DIGITS.false (λ zero. omega (arith, zero, c.if-number-eq0.false))
