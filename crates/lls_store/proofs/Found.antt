@@ -14,7 +14,7 @@ use Rattle.lls_store.proofs.Values.{entry_of-unset, same_sign, same_sign-beq, ha
 pub entry_of-free : (t s : TrailState) (l : ℤ) → t ≡ s → IsTrail t → IsUnset s.entries l → entry_of t.entries (variable_of l) ≡ None
 entry_of-free t s l same h unset = entry_of-unset t.entries l h.once (let P : TrailState → Type 0 = λ u. IsUnset u.entries l in subst P (sym same) unset)
 
-valued : (o : Option Entry) (b : Bool) → option_map (λ e. is_positive e.lit) o ≡ Some b → (e : Entry) × (o ≡ Some e)
+pub valued : (o : Option Entry) (b : Bool) → option_map (λ e. is_positive e.lit) o ≡ Some b → (e : Entry) × (o ≡ Some e)
 valued None b is = absurd cc
 valued (Some e) b is = (e, refl)
 

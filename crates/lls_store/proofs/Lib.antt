@@ -17,3 +17,4 @@ pub mod Scanned
 pub mod Standings
 pub mod Passes
 pub mod ReasonFound
+pub mod Placed

@@ -1,12 +1,13 @@
 -- What holds of the parts of a trail, kept as it changes.
 use Rattle.std.proofs.Common.{◌≡◌, ℕ, ◌+◌, ◌-◌, ◌<◌, ◌≤◌, Bool, true, false, cond, List, [], ◌∷◌, ◌++◌, length, get_or, set, Some, None, refl, sym, ap, subst, ◌∙◌, inl, inr, arith}
-use Rattle.std.specs.Prelude.{ℤ, Option, is_none, option_map}
-use Rattle.std.proofs.lemmas.List.{length-set, length-map, length_push, map_push, get_or-set_other, get_or_read}
+use Rattle.std.specs.Prelude.{ℤ, replicate, Option, is_none, option_map}
+use Rattle.std.proofs.lemmas.List.{length-set, length-map, length_push, map_push, get_or-set_other, get_or_read, get_or-replicate, length-replicate}
 use Rattle.std.proofs.lemmas.List.Sums.{sum_by-set, get_or-le-sum_by}
 use Rattle.std.proofs.lemmas.Grind.{get_or-set_at}
-use Rattle.std.proofs.lemmas.List.Folds.{list_all-append}
+use Rattle.std.proofs.lemmas.List.Folds.{list_all-append, sum_by-replicate}
 use Rattle.std.proofs.lemmas.Bool.{and_parts}
 use Rattle.std.proofs.lemmas.Bool.Decides.{eqb_tells}
+use Rattle.lls_lit.specs.declared.var.TheConstants.Var.{MOST}
 use Rattle.lls_lit.specs.Literal.{variable_of}
 use Rattle.lls_lit.specs.Formula.{is_literal_of, is_within}
 use Rattle.lls_store.specs.Trail.{Entry, TrailState, entry_of, is_decision, decisions}
@@ -155,3 +156,20 @@ AreTables-counted_down vars current now room i values levels reasons all lits l 
     let now_is : decisions es ≡ now = omega (arith, counted, counts) in
     let Q : ℕ → Type 0 = λ n. AreTables (trail_in vars n levels reasons lits) room (set values i None) levels reasons in
     subst Q now_is (AreTables-popped vars current room i values levels reasons lits l h at (omega (arith, at, most, h.value_each)))
+
+-- no literal
+pub AreTables-empty : (vars room : ℕ) (values : List (Option Bool)) (levels : List ℕ) (reasons : List (Option ℕ)) (lits : List ℤ) → vars ≤ MOST → lits ≡ [] → vars ≤ room → values ≡ replicate vars None → length levels ≡ vars → length reasons ≡ vars
+    → AreTables (trail_in vars 0 levels reasons lits) room values levels reasons
+AreTables-empty vars room values levels reasons lits few none roomy unset level_each reason_each =
+    let P : List ℤ → Type 0 = λ ls. AreTables (trail_in vars 0 levels reasons ls) room values levels reasons in
+    subst P (sym none) (record {
+      is_trail = record { vars_fit = few; within = refl; once = refl; most = omega arith; levels = refl; current = refl };
+      room_for_all = roomy;
+      value_each = ap length unset ∙ length-replicate vars None;
+      level_each = level_each;
+      reason_each = reason_each;
+      are_values = λ i lt. ap (λ (vs : List (Option Bool)). get_or vs i None) unset ∙ get_or-replicate vars i None None (omega (arith, lt, ap length unset, length-replicate vars (unset_value)));
+      unset_rest = omega (arith, ap unset_count unset, sum_by-replicate unset_one vars None);
+    }) where
+      unset_value : Option Bool
+      unset_value = None

@@ -33,6 +33,11 @@ unset_count values = sum_by (λ value. if is_none value then 1 else 0) values
 abbrev pub AreValues : List Entry → List (Option Bool) → Type 0
 AreValues entries values = (i : ℕ) → i < length values → slice_index_or values i None ≡ value_of entries (i + 1)
 
+-- each literal stands where the table by variable says
+pub record ArePlaced (vars : ℕ) (lits : List ℤ) (places : List ℕ) : Type 0 where
+  pub place_each : length places ≡ vars
+  pub are_places : (k : ℕ) → k < length lits → slice_index_or places (variable_of (slice_index_or lits k (pos 0)) - 1) 0 ≡ k
+
 -- what holds of the parts of a trail, whose list of literals has so much room
 pub record AreTables (trail : TrailState) (room : ℕ) (values : List (Option Bool)) (levels : List ℕ) (reasons : List (Option ℕ)) : Type 0 where
   pub is_trail : IsTrail trail

@@ -1,6 +1,6 @@
 -- A trail: the literals that are true, in the order in which they became so, each with its level and its reason.
 use Rattle.std.specs.Prelude.{◌≡◌, ◌≤◌, ℕ, ◌+◌, ℤ, Bool, true, ◌&&◌, List, [], ◌∷◌, length, map, Option, is_none, option_map, option_and_then, if◌then◌else◌, ◌==◌, find, count_by}
-use Rattle.std.specs.List.{list_any}
+use Rattle.std.specs.List.{list_any, position}
 use Rattle.std.specs.Ordering.{int_eq}
 use Rattle.lls_lit.specs.declared.var.TheConstants.Var.{MOST}
 use Rattle.lls_lit.specs.Literal.{variable_of, negation}
@@ -47,6 +47,10 @@ level_of entries v = option_map (λ e. e.level) (entry_of entries v)
 
 abbrev pub reason_of : List Entry → ℕ → Option ℕ
 reason_of entries v = option_and_then (λ e. e.reason) (entry_of entries v)
+
+-- where the entry of a variable stands
+abbrev pub place_of : List Entry → ℕ → Option ℕ
+place_of entries v = position (λ e. variable_of e.lit == v) entries
 
 abbrev pub is_decision : Entry → Bool
 is_decision e = is_none e.reason

@@ -1,7 +1,7 @@
 // A trail.
 ghost use Rattle.std.specs.Prelude.{◌≡◌, ◌<◌, ◌≤◌, ◌+◌, ◌-◌, if◌then◌else◌, ◌↔◌, true, false, length, take, slice_get, option_map, is_none, IfOk, IsSome};
 ghost use Rattle.lls_lit.specs.Literal.{variable_of};
-ghost use Rattle.lls_store.specs.Trail.{Has, HasNegated, IsConsistent, IsUnset, IsTrail, decisions, level_of, literals_of, reason_of};
+ghost use Rattle.lls_store.specs.Trail.{Has, HasNegated, IsConsistent, IsUnset, IsTrail, decisions, level_of, literals_of, place_of, reason_of};
 ghost use Rattle.lls_store.specs.Changes.{taken, cut_to, decided, empty_trail, forced, with_reason};
 
 use crate::tables::{is_positive, place_of};
@@ -22,18 +22,20 @@ pub struct Trail {
     values: Vec<Option<bool>>,
     levels: Vec<u32>,
     reasons: Vec<Option<u32>>,
+    places: Vec<u32>,
 }
 
 impl Model for Trail {
     ghost use Rattle.std.specs.Prelude.{vec_capacity};
     ghost use Rattle.lls_store.specs.Trail.{TrailState};
-    ghost use Rattle.lls_store.specs.Tables.{trail_in, AreTables};
+    ghost use Rattle.lls_store.specs.Tables.{trail_in, ArePlaced, AreTables};
 
     ghost Value = { TrailState };
 
     ghost view = { λ t. trail_in t.vars t.current t.levels.items t.reasons.items t.lits.items };
 
-    ghost invariant = { λ t. AreTables (trail_in t.vars t.current t.levels.items t.reasons.items t.lits.items) (vec_capacity t.lits) t.values.items t.levels.items t.reasons.items };
+    ghost invariant = { λ t. AreTables (trail_in t.vars t.current t.levels.items t.reasons.items t.lits.items) (vec_capacity t.lits) t.values.items t.levels.items t.reasons.items
+        × ArePlaced t.vars t.lits.items t.places.items };
 }
 
 impl Trail {
@@ -46,6 +48,7 @@ impl Trail {
         let values = vec![in alloc; None; vars as usize]?;
         let levels = vec![in alloc; 0; vars as usize]?;
         let reasons = vec![in alloc; None; vars as usize]?;
+        let places = vec![in alloc; 0; vars as usize]?;
         Ok(Trail {
             vars,
             current: 0,
@@ -53,6 +56,7 @@ impl Trail {
             values,
             levels,
             reasons,
+            places,
         })
     }
 
@@ -106,6 +110,18 @@ impl Trail {
         let place = place_of(var);
         match self.values[place] {
             Some(_) => self.reasons[place],
+            None => None,
+        }
+    }
+
+    /// Where a variable's literal stands, counted from 0: None exactly where the variable has no value.
+    pub fn place(&self, var: Var) -> Option<usize>
+        requires { var ≤ self.now.vars }
+        ensures { result ≡ place_of self.now.entries var }
+    {
+        let place = place_of(var);
+        match self.values[place] {
+            Some(_) => Some(self.places[place] as usize),
             None => None,
         }
     }
@@ -166,6 +182,7 @@ impl Trail {
     {
         let place = place_of(lit.var());
         self.current = level;
+        self.places[place] = self.lits.len() as u32;
         self.lits.push_reserved(lit);
         self.values[place] = Some(is_positive(lit));
         self.levels[place] = level;

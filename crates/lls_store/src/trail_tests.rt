@@ -160,7 +160,7 @@ pub(crate) fn shown(alloc: Global, trail: &Trail) -> Result<Vec<Shown>, Fail>
     Ok(entries)
 }
 
-// Whether exactly the literals among these are true, and exactly their negations false.
+// Whether exactly the literals among these are true, in their places, and exactly their negations false.
 fn assert_values(rt: &impl Abort, trail: &Trail, entries: &[Shown]) -> Result<(), Fail>
     requires { trail.now.vars ≡ VARS }
 {
@@ -176,6 +176,10 @@ fn assert_values(rt: &impl Abort, trail: &Trail, entries: &[Shown]) -> Result<()
             };
             assert_eq!(rt; trail.value(lit), expected);
             assert_eq!(rt; trail.value(lit.negated()), expected.map(|value| !value));
+            let place = entries
+                .iter()
+                .position(|entry| entry.0 == n || entry.0 == -n);
+            assert_eq!(rt; trail.place(lit.var()), place);
         }
     }
     Ok(())

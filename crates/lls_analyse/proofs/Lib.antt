@@ -1,0 +1,16 @@
+pub mod Walk
+pub mod Visits
+pub mod Trails
+pub mod LiveClauses
+pub mod Holds
+pub mod Opens
+pub mod Resolving
+pub mod Followed
+pub mod Resolvents
+pub mod HintLists
+pub mod Clauses
+pub mod Gathering
+pub mod Learning
+pub mod Learned
+pub mod Steps
+pub mod FreshLearnt

@@ -1,0 +1,159 @@
+// The analysis of conflicts.
+ghost use Rattle.std.specs.Prelude.{◌≡◌, ◌<◌, ◌≤◌, ◌+◌, IsTrue, IfOk, OnOk};
+ghost use Rattle.lls_prooflog.specs.Log.{HasSpare, Widens};
+ghost use Rattle.lls_store.specs.Trail.{TrailState};
+ghost use Rattle.lls_store.specs.Sound.{IsSound};
+ghost use Rattle.lls_store.specs.Store.{IsConflict, IsNewId};
+ghost use Rattle.lls_analyse.specs.Learnt.{IsCurrentConflict, Learns, Refutes};
+
+use crate::analysis::{analyse, analyse_at_zero};
+use crate::clause::{back_of, store_clause};
+use crate::visited::Visited;
+use lls_base::Memory;
+use lls_lit::{Lit, Var};
+use lls_prooflog::Log;
+use lls_store::{MOST_CLAUSES, Store, Trail};
+use std::alloc::Global;
+use std::marker::Model;
+
+/// What was learnt from a conflict.
+#[derive(Clone, Copy, Debug, PartialEq, Eq)]
+pub struct Learnt {
+    /// The number of the clause in the store.
+    pub clause: u32,
+    /// The highest level of its literals below the current one, 0 where it has one literal.
+    pub back: u32,
+}
+
+/// Learns clauses from conflicts: that of the first unique implication point (Marques-Silva and Sakallah, GRASP, 1996).
+///
+/// Each clause is written to a log with the hints that lead to it by unit propagation (LRAT). Memory is taken once, for all
+/// variables.
+#[derive(Drop)]
+pub struct Analyser {
+    vars: u32,
+    visited: Visited,
+    clause: Vec<Lit>,
+    places: Vec<usize>,
+    hints: Vec<i64>,
+}
+
+impl Model for Analyser {
+    ghost use Rattle.std.specs.Prelude.{ℕ, vec_capacity};
+    ghost use Rattle.lls_analyse.specs.Analysis.{IsReady};
+
+    ghost Value = { ℕ };
+
+    ghost view = { λ a. a.vars };
+
+    ghost invariant = { λ a. IsReady a.vars a.visited (vec_capacity a.clause) (vec_capacity a.places) (vec_capacity a.hints) };
+}
+
+impl Analyser {
+    /// An analyser for the variables up to `vars`.
+    pub fn new(alloc: Global, vars: u32) -> Result<Analyser, Memory>
+        requires { vars ≤ Var.MOST }
+        ensures { IfOk result (λ analyser. analyser ≡ vars) }
+    {
+        let visited = Visited::new(alloc, vars)?;
+        let clause = Vec::with_capacity(alloc, vars as usize)?;
+        let places = Vec::with_capacity(alloc, vars as usize)?;
+        let hints = Vec::with_capacity(alloc, vars as usize + 1)?;
+        Ok(Analyser {
+            vars,
+            visited,
+            clause,
+            places,
+            hints,
+        })
+    }
+
+    /// Makes room for what a conflict gives: in the store for a clause, and in the log for a step.
+    pub fn reserve_conflict<S: Store>(&mut self, store: &mut S, log: &mut Log) -> Result<(), Memory>
+        ensures vars { self.new ≡ self.old }
+        ensures room { OnOk result (IsTrue (S.room store.new)) }
+        ensures spare { OnOk result (HasSpare log.new 1 self.old (self.old + 1)) }
+        ensures state { S.state store.new ≡ S.state store.old }
+        ensures tracked { (t : TrailState) → S.tracks store.old t → S.tracks store.new t }
+        ensures settled { (t : TrailState) → S.settled store.old t → S.settled store.new t }
+        ensures steps { Widens log.old log.new }
+    {
+        store.reserve_learnt()?;
+        log.reserve(1, self.vars as usize, self.vars as usize + 1)
+    }
+
+    /// Learns a clause from a conflict that has a literal of the current level, which is above 0: adds it to the store under
+    /// the id, and its addition to the log.
+    pub fn learn<S: Store>(
+        &mut self,
+        store: &mut S,
+        trail: &Trail,
+        conflict: u32,
+        id: u64,
+        log: &mut Log,
+    ) -> Learnt
+        requires vars { trail.now.vars ≡ self.old }
+        requires tracked { S.tracks store.old trail.now }
+        requires sound { IsSound (S.state store.old).live trail.now }
+        requires level { 0 < trail.now.current }
+        requires conflict { IsCurrentConflict (S.state store.old).live trail.now conflict }
+        requires id { IsNewId (S.state store.old).live id }
+        requires room { IsTrue (S.room store.old) }
+        requires most { (S.state store.old).count < MOST_CLAUSES }
+        requires spare { HasSpare log.old 1 self.old (self.old + 1) }
+        ensures vars { self.new ≡ self.old }
+        ensures learns { Learns (S.state store.old) (S.state store.new) trail.now conflict id result.back log.old.steps log.new.steps }
+        ensures clause { result.clause ≡ (S.state store.old).count }
+        ensures tracked { S.tracks store.new trail.now }
+        ensures sound { IsSound (S.state store.new).live trail.now }
+    {
+        store.count();
+        trail.len();
+        analyse(
+            &mut self.visited,
+            trail,
+            store,
+            conflict,
+            &mut self.clause,
+            &mut self.places,
+            &mut self.hints,
+        );
+        log.push_add(id, self.clause.as_slice(), self.hints.as_slice());
+        Learnt {
+            clause: store_clause(store, trail, self.clause.as_slice(), id),
+            back: back_of(trail, self.clause.as_slice()),
+        }
+    }
+
+    /// Derives the empty clause from a conflict at level 0: adds its addition to the log, under the id.
+    pub fn refute<S: Store>(
+        &mut self,
+        store: &S,
+        trail: &Trail,
+        conflict: u32,
+        id: u64,
+        log: &mut Log,
+    )
+        requires vars { trail.now.vars ≡ self.old }
+        requires tracked { S.tracks store.now trail.now }
+        requires sound { IsSound (S.state store.now).live trail.now }
+        requires level { trail.now.current ≡ 0 }
+        requires conflict { IsConflict (S.state store.now).live trail.now conflict }
+        requires id { IsNewId (S.state store.now).live id }
+        requires spare { HasSpare log.old 1 0 (self.old + 1) }
+        ensures vars { self.new ≡ self.old }
+        ensures refutes { Refutes (S.state store.now).live id log.old.steps log.new.steps }
+    {
+        store.count();
+        trail.len();
+        analyse_at_zero(
+            &mut self.visited,
+            trail,
+            store,
+            conflict,
+            &mut self.places,
+            &mut self.hints,
+        );
+        log.push_add(id, &[], self.hints.as_slice());
+    }
+}
