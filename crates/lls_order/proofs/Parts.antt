@@ -1,13 +1,15 @@
 -- What holds of the parts of an order, kept as it changes.
-use Rattle.std.proofs.Common.{◌≡◌, ◌≢◌, ℕ, ◌+◌, ◌-◌, ◌*◌, ◌/◌, ◌^◌, ◌<◌, ◌≤◌, true, false, List, length, map, get_or, set, replicate, refl, sym, ap, ◌∙◌, inl, inr, arith}
+use Rattle.std.proofs.Common.{◌≡◌, ◌≢◌, ℕ, zero, suc, ◌+◌, ◌-◌, ◌*◌, ◌/◌, ◌^◌, ◌<◌, ◌≤◌, true, false, List, length, map, get_or, set, replicate, refl, sym, ap, ◌∙◌, inl, inr, arith}
 use Rattle.std.specs.Prelude.{max}
 use Rattle.std.proofs.Math.Nat.{div-le_self}
-use Rattle.std.proofs.lemmas.List.{length-map, length-set, length-replicate, get_or-map, get_or_past, get_or-replicate, get_or-set_other, set-get_or}
+use Rattle.std.proofs.lemmas.List.{length-map, length-set, length-replicate, get_or-map, get_or_past, get_or-replicate, get_or-set_other, get_or-set_same, set-get_or}
 use Rattle.std.proofs.lemmas.Grind.{get_or-set_at}
 use Rattle.std.proofs.lemmas.Bool.{cases_lt}
 use Rattle.std.proofs.lemmas.Bool.Decides.{eqb_tells}
 use Rattle.lls_lit.specs.declared.var.TheConstants.Var.{MOST}
 use Rattle.lls_order.specs.declared.order.TheConstants.{MOST_ACTIVITY}
+use Rattle.lls_order.specs.Order.{OrderState, is_in}
+use Rattle.lls_order.specs.Changes.{put_in}
 use Rattle.lls_order.specs.Heap.{AreTables, AreParts, IsHeap, IsHeapButAt, inside_of, parent_of, rank_of, ranks}
 use Rattle.lls_order.proofs.Inside.{inside_of-is, get_or-inside_of, is_below}
 use Rattle.lls_order.proofs.Sifts.{parent_of-lt}
@@ -126,3 +128,10 @@ module _ (vars count amount v : ℕ) (activities heap places : List ℕ) (h : Ar
   AreTables-risen =
       let same : length (set activities v (get_or activities v 0 + amount)) ≡ length activities = length-set activities v (get_or activities v 0 + amount) in
       record { few = omega (arith, same, h.tables.few); number_each = h.tables.number_each ∙ sym same; inverse = h.tables.inverse }
+
+-- what is put in is in
+pub is_in-put_in : (o : OrderState) (v : ℕ) → 1 ≤ v → v ≤ length o.inside → is_in (put_in o v) v ≡ true
+is_in-put_in o zero some within = absurd (omega (arith, some))
+is_in-put_in o (suc n) some within =
+    let place : suc n - 1 ≡ n = omega arith in
+    rw place (get_or-set_same o.inside n true false (omega (arith, within)))

@@ -1,6 +1,6 @@
 //! An order of decisions.
-ghost use Rattle.std.specs.Prelude.{◌≡◌, ◌<◌, ◌≤◌, ◌↔◌, ◌+◌, ◌/◌, ◌^◌, map, IfNone, IfOk, IfSome};
-ghost use Rattle.lls_order.specs.Order.{activity_of, IsEmpty, IsGreatest};
+ghost use Rattle.std.specs.Prelude.{◌≡◌, ◌<◌, ◌≤◌, ◌↔◌, ◌+◌, ◌/◌, ◌^◌, true, map, IfNone, IfOk, IfSome};
+ghost use Rattle.lls_order.specs.Order.{activity_of, is_in, IsEmpty, IsGreatest};
 ghost use Rattle.lls_order.specs.Changes.{bumped, grown, new_order, put_in, raised, scaled_down, taken_out};
 
 use crate::heap::{insert_from, make_heap, numbers_below, remove_first, sift_up};
@@ -98,7 +98,8 @@ impl Order {
     /// Puts a variable in where it isn't.
     pub fn put_back(&mut self, var: Var)
         requires { var ≤ self.old.vars }
-        ensures { self.new ≡ put_in self.old var }
+        ensures put_in { self.new ≡ put_in self.old var }
+        ensures stands { is_in self.new var ≡ true }
     {
         let place = self.places[var.number() as usize - 1] as usize;
         if place >= self.count {

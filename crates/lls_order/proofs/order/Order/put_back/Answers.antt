@@ -1,12 +1,13 @@
-use Rattle.std.proofs.Common.{◌≡◌, ◌+◌, ◌-◌, ◌<◌, ◌≤◌, Bool, true, List, get_or, set, length, sym, ◌∙◌, ap, arith}
-use Rattle.std.proofs.lemmas.List.{with_items_is, get_or_read}
-use Rattle.lls_order.specs.Order.{OrderState}
+use Rattle.std.proofs.Common.{◌≡◌, ◌+◌, ◌-◌, ◌<◌, ◌≤◌, Bool, true, List, get_or, set, length, sym, ◌∙◌, ap, subst, arith}
+use Rattle.std.specs.Prelude.{nat_lt}
+use Rattle.std.proofs.lemmas.List.{with_items_is, get_or_read, length-map}
+use Rattle.lls_order.specs.Order.{OrderState, is_in}
 use Rattle.lls_order.specs.Heap.{inside_of}
-use Rattle.lls_order.proofs.Parts.{inside_of-put_again}
+use Rattle.lls_order.proofs.Parts.{inside_of-put_again, is_in-put_in}
 use Rattle.lls_order.proofs.order.Order.put_back.Goals as goal
 
-pub returns-then-place-self : goal.returns-then-place-self
-returns-then-place-self c =
+pub returns-then-place-self-clause-put_in : goal.returns-then-place-self-clause-put_in
+returns-then-place-self-clause-put_in c =
     let m = c.self.inside in
     let new = c.insert_from.new.heap in
     let after = c.insert_from.new.places in
@@ -26,8 +27,8 @@ returns-then-place-self c =
     rw (with_items_is m.places after (c.insert_from.auto.places ∙ c.deref_mut-then-place-self.ensures.len), ← c.self.view_is)
     (ap (λ (bs : List Bool). record { vars = m.vars; activities = m.activities.items; inside = bs; amount = m.amount }) inside)
 
-pub returns-else-place-self : goal.returns-else-place-self
-returns-else-place-self c =
+pub returns-else-place-self-clause-put_in : goal.returns-else-place-self-clause-put_in
+returns-else-place-self-clause-put_in c =
     let m = c.self.inside in
     let v = c.number.result - 1 in
     let place = c.index.result.now in
@@ -40,3 +41,21 @@ returns-else-place-self c =
     sym again ∙ ap (λ n. set (inside_of m.count m.places.items) (n - 1) true) c.number.ensures.number in
     rw (← c.self.view_is)
     (ap (λ (bs : List Bool). record { vars = m.vars; activities = m.activities.items; inside = bs; amount = m.amount }) inside)
+
+pub returns-then-place-self-clause-stands : goal.returns-then-place-self-clause-stands
+returns-then-place-self-clause-stands c =
+    let m = c.self.inside in
+    let each : length m.places.items ≡ m.vars = c.self.invariant.tables.inverse.place_each ∙ c.self.invariant.tables.number_each ∙ c.self.invariant.activity_each in
+    let inside : length c.args.self.now.inside ≡ m.vars = ap (λ (o : OrderState). length o.inside) (sym c.self.view_is) ∙ length-map m.places.items (λ place. nat_lt place m.count) ∙ each in
+    let most : c.args.var ≤ m.vars = rw (ap (λ (o : OrderState). o.vars) c.self.view_is) c.requires in
+    let P : OrderState → Type 0 = λ o. is_in o c.args.var ≡ true in
+    subst P (sym (returns-then-place-self-clause-put_in c)) (is_in-put_in c.args.self.now c.args.var (omega (arith, c.number.ensures.variable.0, c.number.ensures.number)) (omega (arith, inside, most)))
+
+pub returns-else-place-self-clause-stands : goal.returns-else-place-self-clause-stands
+returns-else-place-self-clause-stands c =
+    let m = c.self.inside in
+    let each : length m.places.items ≡ m.vars = c.self.invariant.tables.inverse.place_each ∙ c.self.invariant.tables.number_each ∙ c.self.invariant.activity_each in
+    let inside : length c.args.self.now.inside ≡ m.vars = ap (λ (o : OrderState). length o.inside) (sym c.self.view_is) ∙ length-map m.places.items (λ place. nat_lt place m.count) ∙ each in
+    let most : c.args.var ≤ m.vars = rw (ap (λ (o : OrderState). o.vars) c.self.view_is) c.requires in
+    let P : OrderState → Type 0 = λ o. is_in o c.args.var ≡ true in
+    subst P (sym (returns-else-place-self-clause-put_in c)) (is_in-put_in c.args.self.now c.args.var (omega (arith, c.number.ensures.variable.0, c.number.ensures.number)) (omega (arith, inside, most)))

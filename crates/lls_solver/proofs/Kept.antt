@@ -1,0 +1,35 @@
+-- What is true over the clauses of a store is true over those of an equal one.
+use Rattle.std.proofs.Common.{◌≡◌, ℕ, List, subst, sym}
+use Rattle.lls_store.specs.Trail.{TrailState}
+use Rattle.lls_store.specs.Sound.{IsSound}
+use Rattle.lls_store.specs.Store.{StoreState, IsConflict}
+use Rattle.lls_store.specs.Closed.{IsClosed}
+use Rattle.lls_lit.specs.Formula.{Cnf}
+use Rattle.lls_prooflog.specs.declared.step.Step.{Step}
+use Rattle.lls_order.specs.Order.{OrderState}
+use Rattle.lls_solver.specs.Course.{IsCourse}
+use Rattle.lls_solver.specs.Searching.{HoldsClauses, IsSearching, live_after}
+
+pub sound_kept : (s t : StoreState) (trail : TrailState) → s ≡ t → IsSound s.live trail → IsSound t.live trail
+sound_kept s t trail same sound = subst (λ (x : StoreState). IsSound x.live trail) same sound
+
+pub sound_moved : (s : StoreState) (old new : TrailState) → old ≡ new → IsSound s.live old → IsSound s.live new
+sound_moved s old new same sound = subst (λ (x : TrailState). IsSound s.live x) same sound
+
+pub closed_kept : (s t : StoreState) (trail : TrailState) → s ≡ t → IsClosed s.live trail → IsClosed t.live trail
+closed_kept s t trail same closed = subst (λ (x : StoreState). IsClosed x.live trail) same closed
+
+pub closed_moved : (s : StoreState) (old new : TrailState) → old ≡ new → IsClosed s.live old → IsClosed s.live new
+closed_moved s old new same closed = subst (λ (x : TrailState). IsClosed s.live x) same closed
+
+pub conflict_kept : (s t : StoreState) (trail : TrailState) (c : ℕ) → s ≡ t → IsConflict s.live trail c → IsConflict t.live trail c
+conflict_kept s t trail c same conflict = subst (λ (x : StoreState). IsConflict x.live trail c) same conflict
+
+-- a search goes on over the same clauses with another trail
+pub searching_kept : (formula : Cnf) (steps : List Step) (s t : StoreState) (old new : TrailState) (before after : OrderState) (phases more : ℕ) → IsSearching formula steps s old before phases → t ≡ s → IsCourse s.vars new after more → IsSound s.live new → IsSearching formula steps t new after more
+searching_kept formula steps s t old new before after phases more h same course sound = record {
+  holds = subst (λ (x : StoreState). HoldsClauses x formula.vars (live_after formula steps)) (sym same) h.holds;
+  log = h.log;
+  course = subst (λ (x : StoreState). IsCourse x.vars new after more) (sym same) course;
+  sound = subst (λ (x : StoreState). IsSound x.live new) (sym same) sound;
+}

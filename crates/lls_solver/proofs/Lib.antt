@@ -1,0 +1,8 @@
+pub mod Levels
+pub mod Waiting
+pub mod Kept
+pub mod Conflicts
+pub mod Clauses
+pub mod Satisfied
+pub mod Logs
+pub mod Learning

@@ -1,0 +1,100 @@
+use Rattle.std.proofs.Common.{◌≡◌, ◌+◌, ◌++◌, ◌∷◌, [], ℕ, List, length, sym, ap, ◌∙◌, subst, arith, true}
+use Rattle.std.specs.Prelude.{count_by, IsSome}
+use Rattle.lls_lit.specs.Formula.{is_within}
+use Rattle.lls_prooflog.specs.UnitWalk.{Live}
+use Rattle.lls_prooflog.specs.Spent.{is_addition}
+use Rattle.lls_prooflog.specs.declared.step.Step.{Step}
+use Rattle.lls_prooflog.specs.declared.step.Step.TheVariants.{Add}
+use Rattle.lls_store.specs.Trail.{TrailState}
+use Rattle.lls_store.specs.Clauses.{clause_numbered}
+use Rattle.lls_store.specs.Store.{StoreState, AreLive, IsNewId, sealed}
+use Rattle.lls_store.proofs.Live.{AreWithin-read}
+use Rattle.lls_store.proofs.Sets.{is_within-from_AreWithin}
+use Rattle.lls_solver.specs.Searching.{live_after, HoldsClauses, IsGoodLog}
+use Rattle.lls_solver.specs.Course.{IsCourse}
+use Rattle.lls_solver.proofs.Kept.{sound_kept, sound_moved}
+use Rattle.lls_solver.proofs.Clauses.{fresh_id, holds_sealed, length-live_after, count-additions, sealed_live}
+use Rattle.lls_solver.proofs.Logs.{good_push, live_after-push}
+use Rattle.lls_solver.proofs.Learning.{back_most, some_literal}
+use Rattle.lls_solver.proofs.solving.learn_from.Goals as goal
+
+pub learn-learnt-requires-clause-sound : goal.learn-learnt-requires-clause-sound
+learn-learnt-requires-clause-sound g c =
+    sound_kept (g.S.Store.state c.args.store.now) (g.S.Store.state c.reserve_conflict.new.store) c.args.course.now.trail (sym c.in_ok-reserve_conflict.ensures.state) c.requires.searching.sound
+
+pub learn-learnt-requires-clause-id : goal.learn-learnt-requires-clause-id
+learn-learnt-requires-clause-id g c =
+    let h = c.requires.searching in
+    let steps = c.args.log.now.steps in
+    let same = c.in_ok-reserve_conflict.ensures.steps.steps_stay in
+    let count : c.additions.result ≡ count_by is_addition steps = c.additions.ensures ∙ ap (count_by is_addition) same in
+    let few = count-additions steps h.log.additions in
+    subst (λ (s : StoreState). IsNewId s.live (c.len.result + c.additions.result + 1)) (sym c.in_ok-reserve_conflict.ensures.state)
+    (fresh_id c.args.formula.now steps (g.S.Store.state c.args.store.now) c.len.result c.additions.result h.holds h.log.additions c.len.ensures.len count (omega (arith, c.len.ensures.most, count, few, c.requires.few)))
+
+pub learn-learnt-requires-clause-most : goal.learn-learnt-requires-clause-most
+learn-learnt-requires-clause-most g c =
+    let h = c.requires.searching in
+    let formula = c.args.formula.now in
+    let steps = c.args.log.now.steps in
+    let same = ap (λ (s : StoreState). s.count) c.in_ok-reserve_conflict.ensures.state in
+    omega (arith, same, h.holds.count, length-live_after formula steps h.log.additions, c.len.ensures.len, c.len.ensures.most, c.requires.few)
+
+pub bump-requires : goal.bump-requires
+bump-requires g c =
+    let middle = g.S.Store.state c.reserve_conflict.new.store in
+    let new = g.S.Store.state c.learn-learnt.new.store in
+    let learns = c.learn-learnt.ensures.learns in
+    let id = c.len.result + c.additions.result + 1 in
+    let number = c.learn-learnt.result.clause in
+    let lits = c.lits.result.now in
+    let at_sealed : IsSome (clause_numbered (sealed (record middle { tail = learns.lits }) id).live middle.count) = sealed_live middle id learns.lits (subst AreLive learns.store c.count-count.ensures.live) in
+    let some : IsSome (clause_numbered new.live number) =
+    subst (λ (n : ℕ). IsSome (clause_numbered new.live n)) (sym c.learn-learnt.ensures.clause) (subst (λ (s : StoreState). IsSome (clause_numbered s.live middle.count)) (sym learns.store) at_sealed)
+    in
+    let within : is_within new.vars lits ≡ true = is_within-from_AreWithin new.vars lits (AreWithin-read new number lits c.count-count.ensures.live some c.lits.ensures) in
+    let vars : c.args.course.now.order.vars ≡ new.vars =
+    c.requires.searching.course.order_vars ∙ sym (ap (λ (s : StoreState). s.vars) c.in_ok-reserve_conflict.ensures.state) ∙ sym (ap (λ (s : StoreState). s.vars) learns.store)
+    in
+    ap (λ n. is_within n lits) vars ∙ within
+
+pub go_back-requires-clause-level : goal.go_back-requires-clause-level
+go_back-requires-clause-level g c =
+    let learns = c.learn-learnt.ensures.learns in
+    omega (arith, back_most c.args.course.now.trail learns.lits c.learn-learnt.result.back learns.clause.is_back, ap (λ (t : TrailState). t.current) c.bump.ensures.trail)
+
+pub go_back-requires-clause-sound : goal.go_back-requires-clause-sound
+go_back-requires-clause-sound g c =
+    sound_moved (g.S.Store.state c.learn-learnt.new.store) c.args.course.now.trail c.bump.new.self.trail (sym c.bump.ensures.trail) c.learn-learnt.ensures.sound
+
+pub returns-clause-searching : goal.returns-clause-searching
+returns-clause-searching g c =
+    let h = c.requires.searching in
+    let formula = c.args.formula.now in
+    let steps = c.args.log.now.steps in
+    let old = g.S.Store.state c.args.store.now in
+    let middle = g.S.Store.state c.reserve_conflict.new.store in
+    let new = g.S.Store.state c.learn-learnt.new.store in
+    let last = g.S.Store.state c.go_back.new.store in
+    let learns = c.learn-learnt.ensures.learns in
+    let id = c.len.result + c.additions.result + 1 in
+    let same = c.in_ok-reserve_conflict.ensures.steps.steps_stay in
+    let step = Add id learns.lits learns.hints in
+    let logged : c.learn-learnt.new.log.steps ≡ steps ++ step ∷ [] = learns.step.logged ∙ ap (λ (ss : List Step). ss ++ step ∷ []) same in
+    let count : c.additions.result ≡ count_by is_addition steps = c.additions.ensures ∙ ap (count_by is_addition) same in
+    let next : length (live_after formula steps) + 1 ≡ id = omega (arith, length-live_after formula steps h.log.additions, c.len.ensures.len, count, count-additions steps h.log.additions) in
+    let after : length formula.clauses + 1 + length steps ≡ id = omega (arith, c.len.ensures.len, count, count-additions steps h.log.additions) in
+    let holds : HoldsClauses middle formula.vars (live_after formula steps) = subst (λ (s : StoreState). HoldsClauses s formula.vars (live_after formula steps)) (sym c.in_ok-reserve_conflict.ensures.state) h.holds in
+    let more : HoldsClauses (sealed (record middle { tail = learns.lits }) id) formula.vars (live_after formula (steps ++ step ∷ [])) =
+    subst (λ (ps : Live). HoldsClauses (sealed (record middle { tail = learns.lits }) id) formula.vars ps) (sym (live_after-push formula steps step)) (holds_sealed middle formula.vars (live_after formula steps) id learns.lits holds next)
+    in
+    let good = learns.step.good (live_after formula steps) holds.spelled in
+    let log : IsGoodLog formula (steps ++ step ∷ []) = good_push formula steps id learns.lits learns.hints h.log after good (some_literal c.args.course.now.trail learns.lits learns.clause.one_current) in
+    let vars : new.vars ≡ last.vars = sym (ap (λ (s : StoreState). s.vars) c.go_back.ensures.state) in
+    record {
+      holds = subst (λ (s : StoreState). HoldsClauses s formula.vars (live_after formula c.learn-learnt.new.log.steps)) (sym (c.go_back.ensures.state ∙ learns.store))
+          (subst (λ (ss : List Step). HoldsClauses (sealed (record middle { tail = learns.lits }) id) formula.vars (live_after formula ss)) (sym logged) more);
+      log = subst (IsGoodLog formula) (sym logged) log;
+      course = subst (λ n. IsCourse n c.go_back.new.self.trail c.go_back.new.self.order (length c.go_back.new.self.phases.items)) vars c.go_back.ensures.course;
+      sound = sound_kept new last c.go_back.new.self.trail (sym c.go_back.ensures.state) c.go_back.ensures.sound;
+    }

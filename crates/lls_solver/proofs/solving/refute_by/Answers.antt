@@ -1,0 +1,41 @@
+use Rattle.std.proofs.Common.{◌≡◌, ◌+◌, ◌++◌, ◌∷◌, [], List, length, sym, ap, ◌∙◌, subst, arith}
+use Rattle.std.specs.Prelude.{count_by}
+use Rattle.lls_prooflog.specs.Spent.{is_addition}
+use Rattle.lls_prooflog.specs.declared.step.Step.{Step}
+use Rattle.lls_prooflog.specs.declared.step.Step.TheVariants.{Add}
+use Rattle.lls_store.specs.Store.{StoreState, IsNewId}
+use Rattle.lls_solver.specs.Searching.{live_after, IsRefutation}
+use Rattle.lls_analyse.specs.Spelled.{Spells}
+use Rattle.lls_solver.proofs.Kept.{sound_kept}
+use Rattle.lls_solver.proofs.Clauses.{fresh_id, count-additions}
+use Rattle.lls_solver.proofs.Logs.{refutation_push}
+use Rattle.lls_solver.proofs.solving.refute_by.Goals as goal
+
+pub refute-requires-clause-sound : goal.refute-requires-clause-sound
+refute-requires-clause-sound g c =
+    sound_kept (g.S.Store.state c.args.store.now) (g.S.Store.state c.reserve_conflict.new.store) c.args.course.now.trail (sym c.in_ok-reserve_conflict.ensures.state) c.requires.searching.sound
+
+pub refute-requires-clause-id : goal.refute-requires-clause-id
+refute-requires-clause-id g c =
+    let h = c.requires.searching in
+    let steps = c.args.log.now.steps in
+    let same = c.in_ok-reserve_conflict.ensures.steps.steps_stay in
+    let count : c.additions.result ≡ count_by is_addition steps = c.additions.ensures ∙ ap (count_by is_addition) same in
+    let few = count-additions steps h.log.additions in
+    subst (λ (s : StoreState). IsNewId s.live (c.len.result + c.additions.result + 1)) (sym c.in_ok-reserve_conflict.ensures.state)
+    (fresh_id c.args.formula.now steps (g.S.Store.state c.args.store.now) c.len.result c.additions.result h.holds h.log.additions c.len.ensures.len count (omega (arith, c.len.ensures.most, count, few, c.requires.few)))
+
+pub returns-clause-refutation : goal.returns-clause-refutation
+returns-clause-refutation g c =
+    let h = c.requires.searching in
+    let formula = c.args.formula.now in
+    let steps = c.args.log.now.steps in
+    let same = c.in_ok-reserve_conflict.ensures.steps.steps_stay in
+    let refutes = c.refute.ensures.refutes in
+    let id = c.len.result + c.additions.result + 1 in
+    let spelled = subst (λ (s : StoreState). Spells s.live (live_after formula steps)) (sym c.in_ok-reserve_conflict.ensures.state) h.holds.spelled in
+    let good = refutes.step.good (live_after formula steps) spelled in
+    let count : c.additions.result ≡ count_by is_addition steps = c.additions.ensures ∙ ap (count_by is_addition) same in
+    let next : length formula.clauses + 1 + length steps ≡ id = omega (arith, c.len.ensures.len, count, count-additions steps h.log.additions) in
+    subst (IsRefutation formula) (sym (refutes.step.logged ∙ ap (λ (ss : List Step). ss ++ Add id [] refutes.hints ∷ []) same))
+    (refutation_push formula steps id refutes.hints h.log next good)

@@ -1,0 +1,55 @@
+use Rattle.std.proofs.Common.{length, sym, ◌∙◌, subst, arith}
+use Rattle.lls_store.specs.Store.{StoreState}
+use Rattle.lls_solver.specs.Course.{IsCourse}
+use Rattle.lls_solver.specs.Searching.{HoldsFormula}
+use Rattle.lls_solver.proofs.Kept.{sound_kept, conflict_kept, searching_kept}
+use Rattle.lls_solver.proofs.Clauses.{count-additions}
+use Rattle.lls_solver.proofs.Logs.{holds_formula}
+use Rattle.lls_solver.proofs.solving.solve_over.Goals as goal
+
+pub found-requires-clause-holds : goal.found-requires-clause-holds
+found-requires-clause-holds g c =
+    let h = c.loop-alloc.invariant.searching in
+    subst (HoldsFormula c.args.formula.now) (sym c.descend.ensures.state) (holds_formula c.args.formula.now c.loop-alloc.log.steps (g.S.Store.state c.loop-alloc.store) h.holds h.log.additions)
+
+pub go_to_conflict-requires-clause-conflict : goal.go_to_conflict-requires-clause-conflict
+go_to_conflict-requires-clause-conflict g c =
+    conflict_kept (g.S.Store.state c.loop-alloc.store) (g.S.Store.state c.descend.new.store) c.descend.new.course.trail c.in-Conflict.conflict (sym c.descend.ensures.state) (c.descend.ensures.conflict c.in-Conflict.conflict c.in-Conflict.is)
+
+pub go_to_conflict-requires-clause-sound : goal.go_to_conflict-requires-clause-sound
+go_to_conflict-requires-clause-sound g c =
+    sound_kept (g.S.Store.state c.loop-alloc.store) (g.S.Store.state c.descend.new.store) c.descend.new.course.trail (sym c.descend.ensures.state) c.descend.ensures.sound
+
+pub refute_by-requires-clause-searching : goal.refute_by-requires-clause-searching
+refute_by-requires-clause-searching g c =
+    let old = g.S.Store.state c.loop-alloc.store in
+    let new = c.go_to_conflict.new.course in
+    searching_kept c.args.formula.now c.loop-alloc.log.steps old (g.S.Store.state c.go_to_conflict.new.store) c.loop-alloc.course.trail new.trail c.loop-alloc.course.order new.order (length c.loop-alloc.course.phases.items) (length new.phases.items) c.loop-alloc.invariant.searching
+    (c.go_to_conflict.ensures.state ∙ c.descend.ensures.state)
+    (subst (λ (s : StoreState). IsCourse s.vars new.trail new.order (length new.phases.items)) c.descend.ensures.state c.go_to_conflict.ensures.course)
+    (sound_kept (g.S.Store.state c.descend.new.store) old new.trail c.descend.ensures.state c.go_to_conflict.ensures.sound)
+
+pub learn_from-requires-clause-searching : goal.learn_from-requires-clause-searching
+learn_from-requires-clause-searching g c =
+    let old = g.S.Store.state c.loop-alloc.store in
+    let new = c.go_to_conflict.new.course in
+    searching_kept c.args.formula.now c.loop-alloc.log.steps old (g.S.Store.state c.go_to_conflict.new.store) c.loop-alloc.course.trail new.trail c.loop-alloc.course.order new.order (length c.loop-alloc.course.phases.items) (length new.phases.items) c.loop-alloc.invariant.searching
+    (c.go_to_conflict.ensures.state ∙ c.descend.ensures.state)
+    (subst (λ (s : StoreState). IsCourse s.vars new.trail new.order (length new.phases.items)) c.descend.ensures.state c.go_to_conflict.ensures.course)
+    (sound_kept (g.S.Store.state c.descend.new.store) old new.trail c.descend.ensures.state c.go_to_conflict.ensures.sound)
+
+pub learn_from-requires-clause-few : goal.learn_from-requires-clause-few
+learn_from-requires-clause-few g c =
+    omega (arith, c.if-additions-from.false, c.additions.ensures, c.from.ensures, count-additions c.loop-alloc.log.steps c.loop-alloc.invariant.searching.log.additions, c.requires.budget)
+
+pub loop-alloc-smaller : goal.loop-alloc-smaller
+loop-alloc-smaller g c =
+    omega (arith, c.in_ok-learn_from.ensures.steps, c.if-additions-from.false, c.additions.ensures, c.from.ensures, count-additions c.loop-alloc.log.steps c.loop-alloc.invariant.searching.log.additions)
+
+pub loop-alloc-preserved : goal.loop-alloc-preserved
+loop-alloc-preserved g c = record {
+  searching = c.in_ok-learn_from.ensures.searching;
+  tracked = c.in_ok-learn_from.ensures.tracked;
+  analyser = c.in_ok-learn_from.ensures.analyser ∙ c.loop-alloc.invariant.analyser;
+  spent = omega (arith, c.in_ok-learn_from.ensures.steps, c.if-additions-from.false, c.additions.ensures, c.from.ensures, count-additions c.loop-alloc.log.steps c.loop-alloc.invariant.searching.log.additions);
+}

@@ -1,0 +1,14 @@
+use Rattle.std.proofs.Common.{◌≡◌, ◌≤◌, ◌-◌, length}
+use Rattle.lls_solver.specs.Searching.{IsSearching}
+use Rattle.lls_solver.proofs.solving.solve_over.Given as goal
+
+abbrev pub invariant-loop-alloc : goal.invariant-loop-alloc
+invariant-loop-alloc g l = record {
+  searching : IsSearching l.formula l.log.steps (g.S.Store.state l.store) l.course.trail l.course.order (length l.course.phases.items);
+  tracked : g.S.Store.tracks l.store l.course.trail;
+  analyser : l.analyser ≡ l.formula.vars;
+  spent : length l.log.steps ≤ l.budget;
+}
+
+abbrev pub decreases-loop-alloc : goal.decreases-loop-alloc
+decreases-loop-alloc g l = l.budget - length l.log.steps

@@ -1,0 +1,47 @@
+-- Values of variables, and an order that has the variables without one.
+use Rattle.std.specs.Prelude.{◌≡◌, ◌≢◌, ℕ, ℤ, true, List}
+use Rattle.lls_lit.specs.Literal.{variable_of}
+use Rattle.lls_lit.specs.Formula.{is_literal_of}
+use Rattle.lls_store.specs.Trail.{Entry, TrailState, IsTrail, IsUnset}
+use Rattle.lls_store.specs.Changes.{decided}
+use Rattle.lls_store.specs.Closed.{IsClosed}
+use Rattle.lls_store.specs.Store.{StoreState}
+use Rattle.lls_order.specs.Order.{OrderState, is_in}
+
+-- each literal without a value is one of a variable that is in the order
+abbrev pub AreWaiting : List Entry → OrderState → Type 0
+AreWaiting entries order = (l : ℤ) → is_literal_of order.vars l ≡ true → IsUnset entries l → is_in order (variable_of l) ≡ true
+
+-- but perhaps those of one variable
+abbrev pub AreWaitingBut : ℕ → List Entry → OrderState → Type 0
+AreWaitingBut v entries order =
+    (l : ℤ) → is_literal_of order.vars l ≡ true → variable_of l ≢ v → IsUnset entries l → is_in order (variable_of l) ≡ true
+
+-- every variable has a value
+abbrev pub AllSet : ℕ → List Entry → Type 0
+AllSet vars entries = (l : ℤ) → is_literal_of vars l ≡ true → ¬ IsUnset entries l
+
+-- a trail, an order that has what it lacks, and a value that each variable had last
+pub record IsCourse (vars : ℕ) (trail : TrailState) (order : OrderState) (phases : ℕ) : Type 0 where
+  pub is_trail : IsTrail trail
+  pub trail_vars : trail.vars ≡ vars
+  pub order_vars : order.vars ≡ vars
+  pub phase_each : phases ≡ vars
+  pub waiting : AreWaiting trail.entries order
+
+-- a literal that has no value, and is the only one that neither has one nor waits
+pub record IsNext (vars : ℕ) (entries : List Entry) (order : OrderState) (l : ℤ) : Type 0 where
+  pub within : is_literal_of vars l ≡ true
+  pub unset : IsUnset entries l
+  pub others : AreWaitingBut (variable_of l) entries order
+
+-- some literal without a value was decided
+pub record IsDecision (old new : TrailState) : Type 0 where
+  pub literal : ℤ
+  pub unset : IsUnset old.entries literal
+  pub is_decided : new ≡ decided old literal
+
+-- nothing is left to decide or to propagate
+pub record IsComplete (store : StoreState) (trail : TrailState) : Type 0 where
+  pub closed : IsClosed store.live trail
+  pub all_set : AllSet store.vars trail.entries

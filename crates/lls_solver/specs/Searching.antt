@@ -1,0 +1,70 @@
+-- A search under way: what holds of its clauses and of its log.
+use Rattle.std.specs.Prelude.{◌≡◌, ℕ, ◌+◌, Bool, true, not, List, [], ◌∷◌, ◌++◌, map, length, fold, count_by}
+use Rattle.std.specs.List.{list_all, range_with_len}
+use Rattle.lls_lit.specs.Formula.{Cnf, satisfies}
+use Rattle.lls_prooflog.specs.UnitWalk.{Live, numbered}
+use Rattle.lls_prooflog.specs.Steps.{after, are_accepted, is_empty_addition}
+use Rattle.lls_prooflog.specs.Spent.{EachStep, IsGood, log_start, is_addition}
+use Rattle.lls_prooflog.specs.declared.step.Step.{Step}
+use Rattle.lls_prooflog.specs.declared.step.Step.TheVariants.{Add, Del}
+use Rattle.lls_store.specs.Trail.{TrailState}
+use Rattle.lls_store.specs.Sound.{IsSound}
+use Rattle.lls_store.specs.Store.{StoreState}
+use Rattle.lls_order.specs.Order.{OrderState}
+use Rattle.lls_solver.specs.Course.{IsCourse}
+use Rattle.lls_analyse.specs.Spelled.{Spells}
+
+-- the clauses that are live after the steps
+abbrev pub live_after : Cnf → List Step → Live
+live_after formula steps = fold after (numbered formula.clauses) steps
+
+abbrev pub ids_of : Live → List ℕ
+ids_of live = map (λ pair. pair.0) live
+
+-- a store of these clauses, under the ids from 1
+pub record HoldsClauses (store : StoreState) (vars : ℕ) (pairs : Live) : Type 0 where
+  pub store_vars : store.vars ≡ vars
+  pub spelled : Spells store.live pairs
+  pub count : store.count ≡ length pairs
+  pub ids : ids_of pairs ≡ range_with_len 1 (length pairs)
+
+-- additions whose ids run upwards from a number
+abbrev pub AreNumberedFrom : ℕ → List Step → Type 0
+AreNumberedFrom n [] = Unit {0}
+AreNumberedFrom n (Add id lits hints ∷ steps) = (id ≡ n) × AreNumberedFrom (n + 1) steps
+AreNumberedFrom n (Del ids ∷ steps) = ⊥
+
+-- additions that are good in their turn, none of which is empty, with the ids behind those of the formula's clauses
+pub record IsGoodLog (formula : Cnf) (steps : List Step) : Type 0 where
+  pub good : EachStep IsGood (log_start formula) steps
+  pub numbered_on : AreNumberedFrom (length formula.clauses + 1) steps
+  pub additions : list_all is_addition steps ≡ true
+  pub none_empty : list_all (λ step. not (is_empty_addition step)) steps ≡ true
+
+-- what holds between two conflicts
+pub record IsSearching (formula : Cnf) (steps : List Step) (store : StoreState) (trail : TrailState) (order : OrderState) (phases : ℕ) : Type 0 where
+  pub holds : HoldsClauses store formula.vars (live_after formula steps)
+  pub log : IsGoodLog formula steps
+  pub course : IsCourse store.vars trail order phases
+  pub sound : IsSound store.live trail
+
+-- an assignment of the formula's variables that satisfies it
+pub record IsModel (formula : Cnf) (values : List Bool) : Type 0 where
+  pub many : length values ≡ formula.vars
+  pub satisfied : satisfies values formula.clauses ≡ true
+
+-- a log that shows that nothing satisfies the formula: good additions, and the empty clause behind them
+pub record IsRefutation (formula : Cnf) (steps : List Step) : Type 0 where
+  pub accepted : are_accepted (numbered formula.clauses) steps ≡ true
+  pub numbered_on : AreNumberedFrom (length formula.clauses + 1) steps
+
+-- good additions, as many as the budget allows
+pub record IsExhausted (formula : Cnf) (budget : ℕ) (steps : List Step) : Type 0 where
+  pub log : IsGoodLog formula steps
+  pub spent : count_by is_addition steps ≡ budget
+
+-- the formula's clauses are among those of a store
+pub record HoldsFormula (formula : Cnf) (store : StoreState) : Type 0 where
+  pub store_vars : store.vars ≡ formula.vars
+  pub more : Live
+  pub spelled : Spells store.live (numbered formula.clauses ++ more)

@@ -1,0 +1,15 @@
+//! A solver that learns clauses from conflicts, and writes down each of them as a step of a proof.
+#![tactic(auto)]
+
+mod conflict;
+mod course;
+mod descent;
+mod loading;
+mod outcome;
+mod solving;
+#[cfg(test)]
+mod tests;
+mod values;
+
+pub use outcome::Outcome;
+pub use solving::{MOST_BUDGET, solve};

@@ -1,0 +1,165 @@
+// The search for an assignment: descents and conflicts in turn.
+ghost use Rattle.std.specs.Prelude.{◌≡◌, ◌≤◌, ◌<◌, ◌+◌, Bool, true, List, [], length, Ok, IfOk, OnOk, OnErr};
+ghost use Rattle.lls_store.specs.Store.{IsConflict};
+ghost use Rattle.lls_analyse.specs.Learnt.{IsCurrentConflict};
+ghost use Rattle.lls_solver.specs.Course.{IsComplete};
+ghost use Rattle.lls_solver.specs.Searching.{HoldsFormula, IsExhausted, IsGoodLog, IsModel, IsRefutation, IsSearching};
+
+use crate::conflict::go_to_conflict;
+use crate::course::Course;
+use crate::descent::{Descent, descend};
+use crate::loading::load;
+use crate::outcome::Outcome;
+use crate::values::values_of;
+use lls_analyse::Analyser;
+use lls_base::Memory;
+use lls_cnf::{Assignment, Formula};
+use lls_prooflog::Log;
+use lls_store::{ScanStore, Store};
+use std::alloc::Global;
+
+/// The greatest budget.
+pub const MOST_BUDGET: u32 = 10_000_000;
+
+/// Searches for an assignment that satisfies a formula, by deciding variables and learning a clause from each conflict
+/// (Marques-Silva, Sakallah, *GRASP*, 1996; Eén, Sörensson, *An Extensible SAT-solver*, 2003). The log gets the clauses that
+/// were learnt, as many as the budget allows, each as a step of a proof; their ids run upwards from the number of the formula's
+/// clauses plus 1. After `Memory` it holds good steps.
+pub fn solve(
+    alloc: Global,
+    formula: &Formula,
+    budget: u32,
+    log: &mut Log,
+) -> Result<Outcome, Memory>
+    requires none { log.old.steps ≡ [] }
+    requires budget { budget ≤ MOST_BUDGET }
+    ensures sat { (values : List Bool) → result ≡ Ok (Outcome.Sat values) → IsModel formula.now values }
+    ensures unsat { result ≡ Ok Outcome.Unsat → IsRefutation formula.now log.new.steps }
+    ensures undecided { result ≡ Ok Outcome.Undecided → IsExhausted formula.now budget log.new.steps }
+    ensures memory { OnErr result (IsGoodLog formula.now log.new.steps) }
+{
+    let vars = formula.vars();
+    let mut store = ScanStore::new(alloc, vars);
+    let mut course = Course::new(alloc, vars)?;
+    let mut analyser = Analyser::new(alloc, vars)?;
+    load(&mut store, &course.trail, formula)?;
+    solve_over(
+        alloc,
+        formula,
+        &mut store,
+        &mut course,
+        &mut analyser,
+        log,
+        budget,
+    )
+}
+
+/// Searches until every variable has a value, the empty clause is derived, or the budget is spent.
+pub(crate) fn solve_over<S: Store>(
+    alloc: Global,
+    formula: &Formula,
+    store: &mut S,
+    course: &mut Course,
+    analyser: &mut Analyser,
+    log: &mut Log,
+    budget: u32,
+) -> Result<Outcome, Memory>
+    requires searching { IsSearching formula.now log.old.steps (S.state store.old) course.old.trail course.old.order (length course.old.phases.items) }
+    requires tracked { S.tracks store.old course.old.trail }
+    requires analyser { analyser.old ≡ formula.now.vars }
+    requires none { log.old.steps ≡ [] }
+    requires budget { budget ≤ MOST_BUDGET }
+    ensures sat { (values : List Bool) → result ≡ Ok (Outcome.Sat values) → IsModel formula.now values }
+    ensures unsat { result ≡ Ok Outcome.Unsat → IsRefutation formula.now log.new.steps }
+    ensures undecided { result ≡ Ok Outcome.Undecided → IsExhausted formula.now budget log.new.steps }
+    ensures memory { OnErr result (IsGoodLog formula.now log.new.steps) }
+{
+    loop {
+        let conflict = match descend(store, course) {
+            Descent::Complete => return Ok(Outcome::Sat(found(alloc, formula, store, course)?)),
+            Descent::Conflict(conflict) => conflict,
+        };
+        if go_to_conflict(store, course, conflict) == 0 {
+            refute_by(formula, store, course, analyser, log, conflict)?;
+            return Ok(Outcome::Unsat);
+        }
+        if log.additions() >= u64::from(budget) {
+            return Ok(Outcome::Undecided);
+        }
+        learn_from(formula, store, course, analyser, log, conflict)?;
+    }
+}
+
+// The assignment of a trail that has a value for each variable.
+fn found<S: Store>(
+    alloc: Global,
+    formula: &Formula,
+    store: &S,
+    course: &Course,
+) -> Result<Assignment, Memory>
+    requires holds { HoldsFormula formula.now (S.state store.now) }
+    requires vars { course.now.trail.vars ≡ formula.now.vars }
+    requires complete { IsComplete (S.state store.now) course.now.trail }
+    ensures { IfOk result (IsModel formula.now) }
+{
+    // What holds of all live clauses and of every trail is known from here on.
+    let _count = store.count();
+    let _len = course.trail.len();
+    let values = values_of(alloc, &course.trail, formula.vars())?;
+    Ok(Assignment::new(values))
+}
+
+// Learns a clause from a conflict at a level above 0, and goes back.
+fn learn_from<S: Store>(
+    formula: &Formula,
+    store: &mut S,
+    course: &mut Course,
+    analyser: &mut Analyser,
+    log: &mut Log,
+    conflict: u32,
+) -> Result<(), Memory>
+    requires searching { IsSearching formula.now log.old.steps (S.state store.old) course.old.trail course.old.order (length course.old.phases.items) }
+    requires tracked { S.tracks store.old course.old.trail }
+    requires analyser { analyser.old ≡ formula.now.vars }
+    requires few { length log.old.steps < MOST_BUDGET }
+    requires level { 0 < course.old.trail.current }
+    requires conflict { IsCurrentConflict (S.state store.old).live course.old.trail conflict }
+    ensures searching { OnOk result (IsSearching formula.now log.new.steps (S.state store.new) course.new.trail course.new.order (length course.new.phases.items)) }
+    ensures tracked { OnOk result (S.tracks store.new course.new.trail) }
+    ensures steps { OnOk result (length log.new.steps ≡ length log.old.steps + 1) }
+    ensures analyser { analyser.new ≡ analyser.old }
+    ensures err { OnErr result (log.new.steps ≡ log.old.steps) }
+{
+    analyser.reserve_conflict(store, log)?;
+    let id = formula.len() as u64 + log.additions() + 1;
+    let learnt = analyser.learn(store, &course.trail, conflict, id, log);
+    // What holds of all live clauses is known from here on.
+    let _count = store.count();
+    course.bump(store.lits(learnt.clause));
+    course.go_back(store, learnt.back);
+    Ok(())
+}
+
+// Derives the empty clause from a conflict at level 0.
+fn refute_by<S: Store>(
+    formula: &Formula,
+    store: &mut S,
+    course: &Course,
+    analyser: &mut Analyser,
+    log: &mut Log,
+    conflict: u32,
+) -> Result<(), Memory>
+    requires searching { IsSearching formula.now log.old.steps (S.state store.old) course.now.trail course.now.order (length course.now.phases.items) }
+    requires tracked { S.tracks store.old course.now.trail }
+    requires analyser { analyser.old ≡ formula.now.vars }
+    requires few { length log.old.steps ≤ MOST_BUDGET }
+    requires level { course.now.trail.current ≡ 0 }
+    requires conflict { IsConflict (S.state store.old).live course.now.trail conflict }
+    ensures refutation { OnOk result (IsRefutation formula.now log.new.steps) }
+    ensures err { OnErr result (log.new.steps ≡ log.old.steps) }
+{
+    analyser.reserve_conflict(store, log)?;
+    let id = formula.len() as u64 + log.additions() + 1;
+    analyser.refute(store, &course.trail, conflict, id, log);
+    Ok(())
+}
