@@ -3,7 +3,7 @@ use Rattle.std.proofs.lemmas.Bool.{and_from, le-leb}
 use Rattle.lls_lit.specs.Formula.{is_literal_of}
 use Rattle.lls_encode.specs.Formula.{generation_size}
 use Rattle.lls_encode.proofs.Differences.{cell_in_order}
-use Rattle.lls_encode.proofs.difference.cell_of_generation.Goals as goal
+use Rattle.lls_encode.proofs.generation.cell_of_generation.Goals as goal
 
 pub cell_literal-requires : goal.cell_literal-requires
 cell_literal-requires c =
