@@ -4,7 +4,7 @@ use Rattle.std.specs.List.{All, count_by}
 use Rattle.std.specs.Prelude.{nat_le}
 use Rattle.std.proofs.lemmas.Nat.{mul-add-lt}
 use Rattle.std.proofs.lemmas.Bool.{and_parts, and_from, leb-true, le-leb}
-use Rattle.std.proofs.lemmas.List.{append-nil, get_or_append_left}
+use Rattle.std.proofs.lemmas.List.{get_or_append_left}
 use Rattle.std.proofs.lemmas.List.Sums.{sum_by-cons}
 use Rattle.lls_lit.specs.Formula.{is_true, is_literal_of, is_within, satisfies}
 use Rattle.lls_grid.specs.History.{History}
@@ -13,7 +13,7 @@ use Rattle.lls_search_file.specs.Posed.{IsPosed}
 use Rattle.lls_problem.specs.declared.bounds.Bound.{Bound}
 use Rattle.lls_problem.specs.Bounds.{Allows, top_end, counter_top, counter_vars, all_counter_vars}
 use Rattle.lls_problem.specs.Problem.{PosedProblem}
-use Rattle.lls_cardinality.specs.Counter.{at_least, live_among, Counts}
+use Rattle.lls_cardinality.specs.Counter.{at_least, Counts}
 use Rattle.lls_cardinality.proofs.Count.{satisfies_counts}
 use Rattle.lls_cardinality.proofs.Extended.{extended}
 use Rattle.lls_encode.specs.Formula.{generation_size, generation_cells, bound_clauses, bounds_clauses}

@@ -1,5 +1,5 @@
 -- The ends of a bound, and how far its counter counts.
-use Rattle.std.proofs.Common.{◌≡◌, ◌<◌, ◌≤◌, ℕ, ◌+◌, Bool, true, false, cond, None, Some, Option, refl, sym, ap, ◌∙◌, arith}
+use Rattle.std.proofs.Common.{◌≡◌, ◌<◌, ◌≤◌, ℕ, ◌+◌, true, false, cond, None, Some, Option, refl, ap, arith}
 use Rattle.std.specs.Prelude.{min, nat_lt}
 use Rattle.std.specs.Option.{ForSome, option_map_or}
 use Rattle.std.proofs.lemmas.Bool.{ltb-true, ltb-false}

@@ -1,5 +1,5 @@
 -- The clauses of one bound say that the live cells of its generation are within its ends.
-use Rattle.std.proofs.Common.{◌≡◌, ◌<◌, ◌≤◌, ℕ, ◌+◌, ◌-◌, ℤ, pos, Bool, true, false, not, ◌&&◌, ◌||◌, List, [], ◌∷◌, ◌++◌, length, take, refl, sym, ap, ◌∙◌, subst, arith, add-one}
+use Rattle.std.proofs.Common.{◌≡◌, ◌<◌, ◌≤◌, ℕ, ◌+◌, ◌-◌, ℤ, Bool, true, false, not, ◌&&◌, ◌||◌, List, [], ◌∷◌, ◌++◌, length, take, refl, sym, ap, ◌∙◌, arith, add-one}
 use Rattle.std.specs.Prelude.{nat_le, ◌==◌, if◌then◌else◌}
 use Rattle.std.specs.List.{count_by}
 use Rattle.std.proofs.lemmas.Bool.{and_parts, and_from, eqb-true, eqb-false, leb-true, leb-false, le-leb, lt-leb}
@@ -12,10 +12,10 @@ use Rattle.lls_grid.specs.Changes.{population}
 use Rattle.lls_problem.specs.declared.bounds.Bound.{Bound}
 use Rattle.lls_problem.specs.Bounds.{Allows, top_end, counter_top}
 use Rattle.lls_problem.specs.Problem.{PosedProblem}
-use Rattle.lls_cardinality.specs.Counter.{at_least, counter_clauses, live_among, Counts}
+use Rattle.lls_cardinality.specs.Counter.{at_least, counter_clauses, Counts}
 use Rattle.lls_cardinality.proofs.Count.{satisfies_counts}
 use Rattle.lls_encode.specs.Formula.{generation_size, generation_cells, low_clauses, high_clauses, counted_clauses, bound_clauses}
-use Rattle.lls_encode.proofs.Satisfied.{is_literal, is_true-negation}
+use Rattle.lls_encode.proofs.Satisfied.{is_true-negation}
 use Rattle.lls_encode.proofs.Parts.{satisfies-append}
 use Rattle.lls_encode.proofs.Values.{HasCells}
 use Rattle.lls_encode.proofs.LiveCells.{some_cells, length-generation_cells, count-generation_cells, is_within-generation_cells}

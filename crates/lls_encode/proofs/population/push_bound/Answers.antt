@@ -1,8 +1,8 @@
-use Rattle.std.proofs.Common.{◌≡◌, ◌<◌, ◌≤◌, ◌+◌, ◌*◌, ◌∙◌, true, length, ap, sym, subst, arith}
+use Rattle.std.proofs.Common.{◌≡◌, ◌∙◌, true, ap, sym, subst, arith}
 use Rattle.lls_lit.specs.Formula.{Cnf, is_within}
 use Rattle.lls_cardinality.specs.declared.counter.CounterVars.{CounterVars}
 use Rattle.lls_problem.specs.Bounds.{top_end}
-use Rattle.lls_encode.specs.Formula.{generation_size, generation_cells}
+use Rattle.lls_encode.specs.Formula.{generation_size}
 use Rattle.lls_encode.proofs.Steps.{on_ok}
 use Rattle.lls_encode.proofs.LiveCells.{some_cells, is_within-generation_cells}
 use Rattle.lls_encode.proofs.Ends.{end_counted}

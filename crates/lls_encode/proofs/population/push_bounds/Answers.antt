@@ -1,9 +1,8 @@
-use Rattle.std.proofs.Common.{◌≡◌, ◌≤◌, ◌∙◌, ap, sym, arith}
+use Rattle.std.proofs.Common.{◌≤◌, ◌∙◌, ap, arith}
 use Rattle.lls_problem.specs.declared.demands.Demands.{Demands}
 use Rattle.lls_problem.specs.Bounds.{all_counter_vars}
-use Rattle.lls_encode.specs.Formula.{generation_size, bounds_clauses, bounds_vars}
-use Rattle.lls_encode.specs.Room.{with_more}
-use Rattle.lls_encode.proofs.Counters.{bounds_more, bound_within, bound_room}
+use Rattle.lls_encode.specs.Formula.{generation_size}
+use Rattle.lls_encode.proofs.Counters.{bounds_more, bound_room}
 use Rattle.lls_encode.proofs.population.push_bounds.Goals as goal
 
 pub loop-bound-preserved : goal.loop-bound-preserved
