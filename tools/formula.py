@@ -1,9 +1,10 @@
 #!/usr/bin/env python3
 """Prints the formula of a search file as DIMACS CNF, for any SAT solver.
 
-    formula.py SEARCH BIRTHS SURVIVALS closed|open [--symmetry NAME] [--period N] [--shift DX,DY] [--differ A,B]
+    formula.py SEARCH BIRTHS SURVIVALS closed|open [--symmetry NAME] [--period N] [--shift DX,DY] [--live T:LOW-HIGH,..]
+        [--differ A,B]
 
-BIRTHS and SURVIVALS are digits, or `-` for none. The clauses are made by refute.py beside this file, which shares nothing
+BIRTHS and SURVIVALS are digits, or `-` for none. LOW and HIGH may be left out. The clauses are made by refute.py beside this file, which shares nothing
 with the crates.
 """
 from refute import formula_of_words

@@ -1,9 +1,10 @@
 #!/usr/bin/env python3
 """Makes the formula of a small search file and an LRAT proof of its absence, by plain splitting.
 
-    refute.py SEARCH BIRTHS SURVIVALS closed|open [--symmetry NAME] [--period N] [--shift DX,DY] [--differ A,B]
+    refute.py SEARCH BIRTHS SURVIVALS closed|open [--symmetry NAME] [--period N] [--shift DX,DY] [--live T:LOW-HIGH,..]
+        [--differ A,B]
 
-BIRTHS and SURVIVALS are digits, or `-` for none. The proof goes to the standard output, the sizes of the formula to the
+BIRTHS and SURVIVALS are digits, or `-` for none. LOW and HIGH may be left out. The proof goes to the standard output, the sizes of the formula to the
 standard error. Where generations exist that fit the file, there is no proof and the exit status is 1.
 
 It is written from docs/definitions.md alone and shares nothing with the crates, so that what both agree on is worth
@@ -61,7 +62,7 @@ def opposite(place):
 class Formula:
     """The clauses of a search file, in the order of docs/definitions.md."""
 
-    def __init__(self, generations, successor, closed, symmetry="C1", period=None, shift=(0, 0), differ=None):
+    def __init__(self, generations, successor, closed, symmetry="C1", period=None, shift=(0, 0), live=(), differ=None):
         self.generations = generations
         self.height, self.width = len(generations[0]), len(generations[0][0])
         self.count = len(generations) * self.height * self.width
@@ -76,6 +77,8 @@ class Formula:
         if period is not None:
             self.push_period(period, *shift)
         self.push_transitions()
+        for generation, low, high in live:
+            self.push_bound(generation, low, high)
         if differ is not None:
             self.push_difference(*differ)
 
@@ -133,6 +136,30 @@ class Formula:
             for y, x in self.grid():
                 if (y - dy, x - dx) not in self.grid():
                     self.push_same(self.place(t, y - dy, x - dx), self.place(later, y, x))
+
+    def push_bound(self, generation, low, high):
+        """Counts the live cells as far as the bound asks, one cell after another."""
+        cells = [self.variable(generation, y, x) for y, x in self.grid()]
+        most = len(cells) if high is None else min(high, len(cells))
+        top = most + 1 if most < len(cells) else low
+        base = self.count
+        self.count += len(cells) * top
+
+        def at_least(i, j):
+            """That at least j of the first i cells are live."""
+            return j == 0 if i == 0 or j == 0 else base + (i - 1) * top + j
+
+        for i, cell in enumerate(cells, 1):
+            for j in range(1, top + 1):
+                here, more, fewer = at_least(i, j), at_least(i - 1, j), at_least(i - 1, j - 1)
+                self.push_clause([opposite(more), here])
+                self.push_clause([-cell, opposite(fewer), here])
+                self.push_clause([-here, more, cell])
+                self.push_clause([-here, more, fewer])
+        if low > 0:
+            self.clauses.append([at_least(len(cells), low)])
+        if most < len(cells):
+            self.clauses.append([-at_least(len(cells), most + 1)])
 
     def push_difference(self, first, second):
         base = self.count
@@ -228,6 +255,16 @@ def pair(text):
     return first, second
 
 
+def bounds(text):
+    """The bounds of a text like 0:1-,2:-7: generation, low end, and high end or None."""
+    found = []
+    for entry in text.split(","):
+        generation, ends = entry.split(":")
+        low, high = ends.split("-")
+        found.append((int(generation), int(low or 0), int(high) if high else None))
+    return found
+
+
 def formula_of_words(description):
     """Returns the formula of the search file and the demands that the program's words name."""
     parser = argparse.ArgumentParser(description=description, formatter_class=argparse.RawDescriptionHelpFormatter)
@@ -238,6 +275,7 @@ def formula_of_words(description):
     parser.add_argument("--symmetry", choices=GENERATORS, default="C1")
     parser.add_argument("--period", type=int)
     parser.add_argument("--shift", type=pair, default=(0, 0))
+    parser.add_argument("--live", type=bounds, default=())
     parser.add_argument("--differ", type=pair)
     words = parser.parse_args()
 
@@ -247,7 +285,8 @@ def formula_of_words(description):
 
     with open(words.search, encoding="ascii") as file:
         generations = read_search_file(file.read())
-    return Formula(generations, successor, words.edge == "closed", words.symmetry, words.period, words.shift, words.differ)
+    demands = (words.symmetry, words.period, words.shift, words.live, words.differ)
+    return Formula(generations, successor, words.edge == "closed", *demands)
 
 
 def main():

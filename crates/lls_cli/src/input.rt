@@ -1,9 +1,8 @@
 // The inputs of a job.
 ghost use Rattle.std.specs.Prelude.{◌≡◌, ◌≤◌, length, IfOk};
-ghost use Rattle.std.specs.Option.{ForSome};
 ghost use Rattle.lls_base.specs.Results.{and_then, Gives};
 ghost use Rattle.lls_search_file.specs.Reading.{posed_of};
-ghost use Rattle.lls_problem.specs.Problem.{IsPeriod};
+ghost use Rattle.lls_words.specs.Job.{AreWithinLimits};
 ghost use Rattle.lls_cli.specs.Moment.{shelf_moment, files_at};
 ghost use Rattle.lls_cli.specs.Question.{IsInput, MadeOfOne, posed_in, problem_in, formula_in, history_in};
 ghost use Rattle.lls_cli.specs.Steps.{Reads, input_fault};
@@ -73,7 +72,7 @@ fn problem_input(
     rule: Rule,
     demands: Demands,
 ) -> Result<Problem, Fault>
-    requires { ForSome demands.period IsPeriod }
+    requires { AreWithinLimits demands }
     ensures { Gives Fault.Memory (λ problem. problem) result (problem_in rule demands bytes.now) }
 {
     let posed = posed_input(alloc, bytes)?;
@@ -88,7 +87,7 @@ pub fn read_problem<S: Shelf>(
     rule: Rule,
     demands: Demands,
 ) -> Result<Problem, Fault>
-    requires { ForSome demands.period IsPeriod }
+    requires { AreWithinLimits demands }
     ensures { Reads (λ problem. problem) (MadeOfOne (files_at (shelf_moment (S.told shelf.old) (S.has_input shelf.old) (S.has_output shelf.old) (S.faults shelf.old))) search.now SEARCH_LIMIT
         (λ first. and_then first (problem_in rule demands))) result
         (shelf_moment (S.told shelf.old) (S.has_input shelf.old) (S.has_output shelf.old) (S.faults shelf.old))

@@ -1,5 +1,5 @@
 -- Every solution has an assignment that satisfies the formula.
-use Rattle.std.proofs.Common.{◌≡◌, ◌<◌, ℕ, suc, ◌+◌, ◌-◌, ℤ, pos, ◌-ℤ◌, Bool, true, false, not, ◌&&◌, ◌||◌, cond, List, [], ◌∷◌, ◌++◌, length, refl, sym, ap, ◌∙◌, subst, arith, Option, None, Some, get_or, ◌==◌, add-one, length-append}
+use Rattle.std.proofs.Common.{◌≡◌, ◌<◌, ℕ, suc, ◌+◌, ◌-◌, ℤ, pos, ◌-ℤ◌, Bool, true, false, not, ◌&&◌, ◌||◌, cond, List, [], ◌∷◌, ◌++◌, length, refl, sym, ap, ◌∙◌, subst, arith, Option, None, Some, get_or, ◌==◌, add-one, append_assoc, length-append, take}
 use Rattle.std.specs.Option.{option_map_or}
 use Rattle.std.specs.List.{flat_map, position_from}
 use Rattle.std.proofs.lemmas.Bool.{and_from, eqb-true}
@@ -16,14 +16,15 @@ use Rattle.lls_transition.specs.Transition.{transition_clauses}
 use Rattle.lls_encode.specs.Place.{inputs_at}
 use Rattle.lls_encode.specs.History.{HasAssignment}
 use Rattle.std.proofs.Math.Seq.{take-append_seam}
-use Rattle.lls_encode.specs.Formula.{fixed_clauses, same, name_literal, has_name, tied_to, name_clauses, first_framed, framed_count, framed, place_clauses, line_clauses, generation_clauses, fixed_part, name_part, symmetry_part, period_part, front_part, transition_part, difference_part, formula_of}
+use Rattle.lls_encode.specs.Formula.{fixed_clauses, same, name_literal, has_name, tied_to, name_clauses, first_framed, framed_count, framed, place_clauses, line_clauses, generation_clauses, fixed_part, name_part, symmetry_part, period_part, front_part, transition_part, bounds_part, difference_base, difference_part, formula_of}
 use Rattle.lls_encode.proofs.Steps.{flat_map-map}
 use Rattle.lls_encode.proofs.Framed.{IsFramedLine, framed_place, framed_both}
 use Rattle.lls_encode.proofs.Parts.{satisfies-append}
 use Rattle.lls_encode.proofs.Values.{HasCells, is_true-cell}
 use Rattle.lls_encode.proofs.Mirrored.{satisfies-symmetry_part}
 use Rattle.lls_encode.proofs.Returned.{satisfies-period_part}
-use Rattle.lls_encode.proofs.Differing.{values_of, marks_where, length-marks_where, count_of, HasCells-behind, satisfies-difference_part}
+use Rattle.lls_encode.proofs.Differing.{marks_where, length-marks_where, count_of, HasCells-append, satisfies-difference_part}
+use Rattle.lls_encode.proofs.AllBounds.{AreBounds, AllCount, HasCounters, satisfies-bounds_clauses, AllCount-append, has_counters}
 use Rattle.lls_encode.proofs.Satisfied.{satisfies-range, is_true-negation, is_literal, or_left}
 use Rattle.lls_encode.proofs.Obeyed.{satisfies-transition_clauses}
 
@@ -155,32 +156,78 @@ satisfies-transition_part : (p : PosedProblem) (h : History) (values : List Bool
 satisfies-transition_part p h values has obeys =
     satisfies-range values (generation_clauses p) 0 (p.posed.generations - 1) (λ t low high. satisfies-generation_clauses p h values has obeys t (omega arith))
 
+-- bounds that fit the file
+pub AreBounds-fitting : (p : PosedProblem) → AreFitting p.posed p.demands → AreBounds p p.demands.bounds
+AreBounds-fitting p fitting = record { bounded = fitting.bounded; ordered = fitting.ordered }
+
+-- The values of a solution's assignment: the cells, those of the counters, and where generations have to differ, the cells
+-- in which they do.
+abbrev values_before : (p : PosedProblem) (h : History) → HasCounters p (cells_of h) p.demands.bounds → List Bool
+values_before p h counters = cells_of h ++ counters.more
+
+abbrev values_of : (p : PosedProblem) (h : History) → HasCounters p (cells_of h) p.demands.bounds → List Bool
+values_of p h counters = values_before p h counters ++ marks_where p (values_before p h counters) p.demands.differ
+
+HasCells-cells_of : (p : PosedProblem) (h : History) → IsPosed p.posed → HasSizes p.posed.generations p.posed.height p.posed.width h → HasCells p (cells_of h) h
+HasCells-cells_of p h kept sizes = record { kept = kept; sizes = sizes; cells = λ k k_in. refl }
+
+length-values_before : (p : PosedProblem) (h : History) (counters : HasCounters p (cells_of h) p.demands.bounds) → IsPosed p.posed → HasSizes p.posed.generations p.posed.height p.posed.width h
+    → length (values_before p h counters) ≡ difference_base p
+length-values_before p h counters kept sizes = omega (arith, length-append (cells_of h) counters.more, count_of p h kept sizes, counters.count)
+
+-- they satisfy the bounds
+satisfies-bounds_part : (p : PosedProblem) (h : History) (counters : HasCounters p (cells_of h) p.demands.bounds) (more : List Bool) → IsPosed p.posed → AreFitting p.posed p.demands → IsSolution p h
+    → HasCells p (values_before p h counters ++ more) h → satisfies (values_before p h counters ++ more) (bounds_part p (length p.posed.cells)) ≡ true
+satisfies-bounds_part p h counters more kept fitting s has =
+    let before : List Bool = values_before p h counters in
+    let fit = AreBounds-fitting p fitting in
+    let count : length (cells_of h) ≡ length p.posed.cells = count_of p h kept s.sizes in
+    let len : length before ≡ difference_base p = length-values_before p h counters kept s.sizes in
+    let counts : AllCount p before (length p.posed.cells) p.demands.bounds = subst (λ base. AllCount p before base p.demands.bounds) count counters.counts in
+    satisfies-bounds_clauses p h (before ++ more) has (length p.posed.cells) (omega arith) p.demands.bounds fit
+    (AllCount-append p kept before more (omega (arith, len)) (length p.posed.cells) p.demands.bounds fit (omega (arith, len)) counts) s.populated
+
 -- the theorem
-satisfies-formula_of : (p : PosedProblem) (h : History) → IsPosed p.posed → AreFitting p.posed p.demands → IsSolution p h → satisfies (values_of p h) (formula_of p).clauses ≡ true
+satisfies-formula_of : (p : PosedProblem) (h : History) (counters : HasCounters p (cells_of h) p.demands.bounds) → IsPosed p.posed → AreFitting p.posed p.demands → IsSolution p h
+    → satisfies (values_of p h counters) (formula_of p).clauses ≡ true
 unfolding formula_of
-satisfies-formula_of p h kept fitting s =
-    let values : List Bool = values_of p h in
-    let has : HasCells p values h = HasCells-behind p h _ kept s.sizes in
-    satisfies-append values (front_part p ++ transition_part p) (difference_part p (length p.posed.cells))
+satisfies-formula_of p h counters kept fitting s =
+    let before : List Bool = values_before p h counters in
+    let values : List Bool = values_of p h counters in
+    let count : length (cells_of h) ≡ length p.posed.cells = count_of p h kept s.sizes in
+    let len : length before ≡ difference_base p = length-values_before p h counters kept s.sizes in
+    let has_before : HasCells p before h = HasCells-append p h (cells_of h) counters.more (HasCells-cells_of p h kept s.sizes) (omega (arith, count)) in
+    let has : HasCells p values h = HasCells-append p h before (marks_where p before p.demands.differ) has_before (omega (arith, len)) in
+    let difference : satisfies values (difference_part p (difference_base p)) ≡ true =
+    ap (λ base. satisfies values (difference_part p base)) (sym len) ∙ satisfies-difference_part p h before has_before (omega (arith, len)) fitting s.differ in
+    satisfies-append values (front_part p ++ transition_part p ++ bounds_part p (length p.posed.cells)) (difference_part p (difference_base p))
+    ∙ and_from _ _ (satisfies-append values (front_part p ++ transition_part p) (bounds_part p (length p.posed.cells))
     ∙ and_from _ _ (satisfies-append values (front_part p) (transition_part p)
     ∙ and_from _ _ (satisfies-front_part p h values has fitting s) (satisfies-transition_part p h values has s.rule))
-    (satisfies-difference_part p h kept s.sizes fitting s.differ)
+    (satisfies-bounds_part p h counters (marks_where p before p.demands.differ) kept fitting s has))
+    difference
 
 -- a value for each variable
-length-values_of : (p : PosedProblem) (h : History) → IsPosed p.posed → HasSizes p.posed.generations p.posed.height p.posed.width h → length (values_of p h) ≡ (formula_of p).vars
+length-values_of : (p : PosedProblem) (h : History) (counters : HasCounters p (cells_of h) p.demands.bounds) → IsPosed p.posed → HasSizes p.posed.generations p.posed.height p.posed.width h
+    → length (values_of p h counters) ≡ (formula_of p).vars
 unfolding formula_of
-length-values_of p h kept sizes =
-    let cells : List Bool = cells_of h in
-    length-append cells (marks_where p cells p.demands.differ) ∙ ap (λ n. n + length (marks_where p cells p.demands.differ)) (count_of p h kept sizes)
-    ∙ ap (λ n. length p.posed.cells + n) (length-marks_where p cells)
+length-values_of p h counters kept sizes =
+    let before : List Bool = values_before p h counters in
+    length-append before (marks_where p before p.demands.differ)
+    ∙ ap (λ n. n + length (marks_where p before p.demands.differ)) (length-values_before p h counters kept sizes)
+    ∙ ap (λ n. difference_base p + n) (length-marks_where p before)
 
 pub HasAssignment-values_of : (p : PosedProblem) → IsPosed p.posed → AreFitting p.posed p.demands → (history : History) → IsSolution p history → HasAssignment (formula_of p) history
 HasAssignment-values_of p kept fitting history solution =
+    let cells : List Bool = cells_of history in
+    let count : length cells ≡ length p.posed.cells = count_of p history kept solution.sizes in
+    let counters : HasCounters p cells p.demands.bounds = has_counters p kept p.demands.bounds (AreBounds-fitting p fitting) cells (omega (arith, count)) in
+    let marks : List Bool = marks_where p (cells ++ counters.more) p.demands.differ in
     record {
-      values = values_of p history;
-      count = length-values_of p history kept solution.sizes;
-      cells = take-append_seam (cells_of history) (marks_where p (cells_of history) p.demands.differ);
-      satisfied = satisfies-formula_of p history kept fitting solution;
+      values = values_of p history counters;
+      count = length-values_of p history counters kept solution.sizes;
+      cells = ap (take (length cells)) (append_assoc cells counters.more marks) ∙ take-append_seam cells (counters.more ++ marks);
+      satisfied = satisfies-formula_of p history counters kept fitting solution;
     }
 
 -- a formula that nothing satisfies has no solution

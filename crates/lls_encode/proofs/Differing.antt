@@ -154,10 +154,6 @@ marks_of p cells pair =
 abbrev pub marks_where : PosedProblem → List Bool → Option (ℕ × ℕ) → List Bool
 marks_where p cells asked = option_map_or (marks_of p cells) asked []
 
--- the values of a solution's assignment: the cells, and where generations have to differ, the cells in which they do
-abbrev pub values_of : PosedProblem → History → List Bool
-values_of p h = cells_of h ++ marks_where p (cells_of h) p.demands.differ
-
 length-marks : (p : PosedProblem) (cells : List Bool) (asked : Option (ℕ × ℕ)) → length (marks_where p cells asked) ≡ option_map_or (λ pair. generation_size p) asked 0
 length-marks p cells None = refl
 length-marks p cells (Some pair) = length-map-range_with_len _ 0 (generation_size p)
@@ -169,31 +165,29 @@ length-marks_where p cells = length-marks p cells p.demands.differ
 pub count_of : (p : PosedProblem) (h : History) → IsPosed p.posed → HasSizes p.posed.generations p.posed.height p.posed.width h → length (cells_of h) ≡ length p.posed.cells
 count_of p h kept sizes = length-cells_of p.posed.generations p.posed.height p.posed.width h sizes ∙ sym kept.count
 
-pub HasCells-behind : (p : PosedProblem) (h : History) (more : List Bool) → IsPosed p.posed → HasSizes p.posed.generations p.posed.height p.posed.width h → HasCells p (cells_of h ++ more) h
-HasCells-behind p h more kept sizes = record {
-  kept = kept;
-  sizes = sizes;
-  cells = λ k k_in. get_or_append_left (cells_of h) more false k (omega (arith, count_of p h kept sizes));
+-- further values change no cell
+pub HasCells-append : (p : PosedProblem) (h : History) (before more : List Bool) → HasCells p before h → length p.posed.cells ≤ length before → HasCells p (before ++ more) h
+HasCells-append p h before more has enough = record {
+  kept = has.kept;
+  sizes = has.sizes;
+  cells = λ k k_in. get_or_append_left before more false k (omega (arith, k_in, enough)) ∙ has.cells k k_in;
 }
 
--- the value of a variable of the difference
-mark_value : (p : PosedProblem) (h : History) (pair : ℕ × ℕ) → IsPosed p.posed → HasSizes p.posed.generations p.posed.height p.posed.width h → pair.0 < p.posed.generations → pair.1 < p.posed.generations
+-- the value of a variable of the difference, which stand behind others
+mark_value : (p : PosedProblem) (h : History) (before : List Bool) (pair : ℕ × ℕ) → HasCells p before h → length p.posed.cells ≤ length before → pair.0 < p.posed.generations → pair.1 < p.posed.generations
     → (k : ℕ) → k < generation_size p
-    → is_true (cells_of h ++ marks_of p (cells_of h) pair) (difference_variable (length p.posed.cells) k)
-    ≡ differ (is_true (cells_of h ++ marks_of p (cells_of h) pair) (cell_of_generation p pair.0 k)) (is_true (cells_of h ++ marks_of p (cells_of h) pair) (cell_of_generation p pair.1 k))
-mark_value p h pair kept sizes first second k k_in =
-    let cells : List Bool = cells_of h in
-    let marks : List Bool = marks_of p cells pair in
-    let count : length cells ≡ length p.posed.cells = count_of p h kept sizes in
-    let value : (t : ℕ) → t < p.posed.generations → get_or cells (k + generation_size p * t) false ≡ is_true (cells ++ marks) (cell_of_generation p t k) = λ t t_in.
-    sym (is_true-cell (cells ++ marks) (k + generation_size p * t)
-    ∙ get_or_append_left cells marks false (k + generation_size p * t) (omega (arith, count, cell_in_order p kept t k t_in k_in))) in
-    is_true-cell (cells ++ marks) (length p.posed.cells + k)
-    ∙ ap (λ base. get_or (cells ++ marks) (base + k) false) (sym count)
-    ∙ get_or-append-add cells marks k false
+    → is_true (before ++ marks_of p before pair) (difference_variable (length before) k)
+    ≡ differ (is_true (before ++ marks_of p before pair) (cell_of_generation p pair.0 k)) (is_true (before ++ marks_of p before pair) (cell_of_generation p pair.1 k))
+mark_value p h before pair has enough first second k k_in =
+    let marks : List Bool = marks_of p before pair in
+    let value : (t : ℕ) → t < p.posed.generations → get_or before (k + generation_size p * t) false ≡ is_true (before ++ marks) (cell_of_generation p t k) = λ t t_in.
+    sym (is_true-cell (before ++ marks) (k + generation_size p * t)
+    ∙ get_or_append_left before marks false (k + generation_size p * t) (omega (arith, enough, cell_in_order p has.kept t k t_in k_in))) in
+    is_true-cell (before ++ marks) (length before + k)
+    ∙ get_or-append-add before marks k false
     ∙ get_or-map-range_with_len _ 0 (generation_size p) k k false k_in (omega arith)
-    ∙ ap (λ a. differ a (get_or cells (k + generation_size p * pair.1) false)) (value pair.0 first)
-    ∙ ap (differ (is_true (cells ++ marks) (cell_of_generation p pair.0 k))) (value pair.1 second)
+    ∙ ap (λ a. differ a (get_or before (k + generation_size p * pair.1) false)) (value pair.0 first)
+    ∙ ap (differ (is_true (before ++ marks) (cell_of_generation p pair.0 k))) (value pair.1 second)
 
 -- a cell of the grid has a number
 number_in : (p : PosedProblem) (y x : ℕ) → y < p.posed.height → x < p.posed.width → x + p.posed.width * y < generation_size p
@@ -201,34 +195,34 @@ number_in p y x row column =
     let last : p.posed.width * (y + 1) ≤ p.posed.width * p.posed.height = mul-le-mul_left p.posed.width (omega arith) in
     omega (arith, last)
 
-satisfies-differing_clauses : (p : PosedProblem) (h : History) (pair : ℕ × ℕ) → IsPosed p.posed → HasSizes p.posed.generations p.posed.height p.posed.width h
+satisfies-differing_clauses : (p : PosedProblem) (h : History) (before : List Bool) (pair : ℕ × ℕ) → HasCells p before h → length p.posed.cells ≤ length before
     → pair.0 < p.posed.generations → pair.1 < p.posed.generations → (y : ℕ) × ((x : ℕ) × IsDifference p h pair.0 pair.1 y x)
-    → satisfies (cells_of h ++ marks_of p (cells_of h) pair) (differing_clauses p (length p.posed.cells) pair) ≡ true
-satisfies-differing_clauses p h pair kept sizes first second (y, (x, difference)) =
+    → satisfies (before ++ marks_of p before pair) (differing_clauses p (length before) pair) ≡ true
+satisfies-differing_clauses p h before pair before_has enough first second (y, (x, difference)) =
     let size : ℕ = generation_size p in
-    let base : ℕ = length p.posed.cells in
-    let values : List Bool = cells_of h ++ marks_of p (cells_of h) pair in
-    let has : HasCells p values h = HasCells-behind p h (marks_of p (cells_of h) pair) kept sizes in
+    let base : ℕ = length before in
+    let values : List Bool = before ++ marks_of p before pair in
+    let has : HasCells p values h = HasCells-append p h before (marks_of p before pair) before_has enough in
     let k : ℕ = x + p.posed.width * y in
     let k_in : k < size = number_in p y x difference.row difference.column in
     let each : satisfies values (flat_map (cell_difference p base pair) (range_with_len 0 size)) ≡ true =
     satisfies-range values (cell_difference p base pair) 0 size (λ i low high.
     satisfies-cell_difference p values base pair i
-    ∙ told (is_true values (difference_variable base i)) (is_true values (cell_of_generation p pair.0 i)) (is_true values (cell_of_generation p pair.1 i)) (mark_value p h pair kept sizes first second i (omega arith))) in
+    ∙ told (is_true values (difference_variable base i)) (is_true values (cell_of_generation p pair.0 i)) (is_true values (cell_of_generation p pair.1 i)) (mark_value p h before pair before_has enough first second i (omega arith))) in
     let unequal : is_true values (cell_of_generation p pair.0 k) ≡ is_true values (cell_of_generation p pair.1 k) → ⊥ = λ same.
     difference.differs (sym (is_true-cell_of_generation p h values has pair.0 y x first difference.row difference.column) ∙ same
     ∙ is_true-cell_of_generation p h values has pair.1 y x second difference.row difference.column) in
-    let mark : is_true values (difference_variable base k) ≡ true = mark_value p h pair kept sizes first second k k_in ∙ differ-unequal (is_true values (cell_of_generation p pair.0 k)) (is_true values (cell_of_generation p pair.1 k)) unequal in
+    let mark : is_true values (difference_variable base k) ≡ true = mark_value p h before pair before_has enough first second k k_in ∙ differ-unequal (is_true values (cell_of_generation p pair.0 k)) (is_true values (cell_of_generation p pair.1 k)) unequal in
     satisfies-append values (flat_map (cell_difference p base pair) (range_with_len 0 size)) (map (difference_variable base) (range_with_len 0 size) ∷ [])
     ∙ and_from _ _ each (and_from _ _ (any_true values base 0 size k (omega arith) (omega (arith, k_in)) mark) refl)
 
-where_asked : (p : PosedProblem) (h : History) → IsPosed p.posed → HasSizes p.posed.generations p.posed.height p.posed.width h → AreFitting p.posed p.demands → Differs p h
+where_asked : (p : PosedProblem) (h : History) (before : List Bool) → HasCells p before h → length p.posed.cells ≤ length before → AreFitting p.posed p.demands → Differs p h
     → (asked : Option (ℕ × ℕ)) → p.demands.differ ≡ asked
-    → satisfies (cells_of h ++ marks_where p (cells_of h) asked) (option_map_or (differing_clauses p (length p.posed.cells)) asked []) ≡ true
-where_asked p h kept sizes fitting differs None is = refl
-where_asked p h kept sizes fitting differs (Some pair) is =
-    satisfies-differing_clauses p h pair kept sizes (fitting.named pair is).0 (fitting.named pair is).1 (differs pair is)
+    → satisfies (before ++ marks_where p before asked) (option_map_or (differing_clauses p (length before)) asked []) ≡ true
+where_asked p h before has enough fitting differs None is = refl
+where_asked p h before has enough fitting differs (Some pair) is =
+    satisfies-differing_clauses p h before pair has enough (fitting.named pair is).0 (fitting.named pair is).1 (differs pair is)
 
-pub satisfies-difference_part : (p : PosedProblem) (h : History) → IsPosed p.posed → HasSizes p.posed.generations p.posed.height p.posed.width h → AreFitting p.posed p.demands → Differs p h
-    → satisfies (values_of p h) (difference_part p (length p.posed.cells)) ≡ true
-satisfies-difference_part p h kept sizes fitting differs = where_asked p h kept sizes fitting differs p.demands.differ refl
+pub satisfies-difference_part : (p : PosedProblem) (h : History) (before : List Bool) → HasCells p before h → length p.posed.cells ≤ length before → AreFitting p.posed p.demands → Differs p h
+    → satisfies (before ++ marks_where p before p.demands.differ) (difference_part p (length before)) ≡ true
+satisfies-difference_part p h before has enough fitting differs = where_asked p h before has enough fitting differs p.demands.differ refl

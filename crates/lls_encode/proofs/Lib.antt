@@ -15,4 +15,9 @@ pub mod Mirrored
 pub mod Returned
 pub mod Differences
 pub mod Differing
+pub mod LiveCells
+pub mod Ends
+pub mod OneBound
+pub mod AllBounds
+pub mod Counters
 pub mod Made

@@ -1,5 +1,5 @@
 -- The formula from its parts: what the pushes make of a new formula, the room that each leaves, and how many clauses there are.
-use Rattle.std.proofs.Common.{◌≡◌, ◌<◌, ◌≤◌, ℕ, ◌-◌, List, [], ◌∷◌, ◌++◌, map, length, refl, ap, ◌∙◌, arith, length-append, Option, None, Some}
+use Rattle.std.proofs.Common.{◌≡◌, ◌<◌, ◌≤◌, ℕ, ◌+◌, ◌-◌, List, [], ◌∷◌, ◌++◌, map, length, refl, ap, ◌∙◌, arith, length-append, Option, None, Some}
 use Rattle.std.specs.Option.{option_map_or}
 use Rattle.std.specs.List.{flat_map, range_with_len}
 use Rattle.lls_lit.specs.Formula.{Clause, Cnf}
@@ -8,12 +8,13 @@ use Rattle.lls_problem.specs.declared.demands.Period.{Period}
 use Rattle.lls_problem.specs.Problem.{PosedProblem, AreFitting}
 use Rattle.lls_problem.specs.Solution.{cell_number}
 use Rattle.lls_transition.specs.Clause.{with_clauses}
-use Rattle.lls_encode.specs.Formula.{fixed_clauses, name_clauses, generation_clauses, generation_size, period_clauses, difference_variable, cell_difference, differing_clauses, fixed_part, name_part, symmetry_part, period_part, front_part, transition_part, difference_part, difference_vars, formula_of}
+use Rattle.lls_encode.specs.Formula.{fixed_clauses, name_clauses, generation_clauses, generation_size, period_clauses, difference_variable, cell_difference, differing_clauses, fixed_part, name_part, symmetry_part, period_part, front_part, transition_part, bounds_part, bounds_vars, difference_base, difference_part, difference_vars, formula_of}
 use Rattle.lls_encode.specs.Room.{HasRoom, with_more}
 use Rattle.lls_encode.proofs.Steps.{length-flat_map_most, HasRoom-behind, with_clauses-append}
 use Rattle.lls_encode.proofs.Bounds.{length-fixed_clauses, length-generation_clauses, length-symmetry_part, length-period_clauses}
 use Rattle.lls_encode.proofs.Firsts.{length-name_clauses}
 use Rattle.lls_encode.proofs.Differences.{generation_few}
+use Rattle.lls_encode.proofs.Counters.{length-bounds_clauses}
 
 -- how many clauses each part has
 length-fixed_part : (p : PosedProblem) → IsPosed p.posed → length (fixed_part p) ≤ 8192
@@ -61,17 +62,22 @@ length-difference p kept base (Some pair) =
 length-difference_part : (p : PosedProblem) → IsPosed p.posed → (base : ℕ) → length (difference_part p base) ≤ 8193
 length-difference_part p kept base = length-difference p kept base p.demands.differ
 
+length-bounds_part : (p : PosedProblem) → IsPosed p.posed → AreFitting p.posed p.demands → (base : ℕ) → length (bounds_part p base) ≤ 6000000
+length-bounds_part p kept fitting base = omega (arith, length-bounds_clauses p kept base p.demands.bounds, fitting.counters)
+
 -- all clauses together are few
 pub few_clauses : (p : PosedProblem) → IsPosed p.posed → AreFitting p.posed p.demands → length (formula_of p).clauses < 200000000
 unfolding formula_of
 few_clauses p kept fitting =
     omega (
       arith,
-      length-append (front_part p ++ transition_part p) (difference_part p (length p.posed.cells)),
+      length-append (front_part p ++ transition_part p ++ bounds_part p (length p.posed.cells)) (difference_part p (difference_base p)),
+      length-append (front_part p ++ transition_part p) (bounds_part p (length p.posed.cells)),
       length-append (front_part p) (transition_part p),
       length-front_part p kept fitting,
       length-transition_part p kept,
-      length-difference_part p kept (length p.posed.cells),
+      length-bounds_part p kept fitting (length p.posed.cells),
+      length-difference_part p kept (difference_base p),
     )
 
 -- the front from its four parts
@@ -94,22 +100,30 @@ room_for_symmetry p fixed names kept has is = HasRoom-behind fixed names (name_p
 pub room_for_period : (p : PosedProblem) (names symmetric : Cnf) → IsPosed p.posed → HasRoom names 2080831 → symmetric ≡ with_clauses names (symmetry_part p) → HasRoom symmetric 1032255
 room_for_period p names symmetric kept has is = HasRoom-behind names symmetric (symmetry_part p) 2080831 1032255 is (omega (arith, length-symmetry_part p kept)) has
 
--- the formula from the front, the transitions and the difference
+-- the formula from the front, the transitions, the bounds and the difference
 abbrev pub empty_of : PosedProblem → Cnf
 empty_of p = record { vars = length p.posed.cells; clauses = [] }
 
-pub made : (p : PosedProblem) (empty front transitions all : Cnf) → empty ≡ empty_of p → front ≡ with_clauses empty (front_part p) → transitions ≡ with_clauses front (transition_part p)
-    → all ≡ with_more transitions (difference_vars p) (difference_part p transitions.vars) → all ≡ formula_of p
+pub made : (p : PosedProblem) (empty front transitions bounded all : Cnf) → empty ≡ empty_of p → front ≡ with_clauses empty (front_part p) → transitions ≡ with_clauses front (transition_part p)
+    → bounded ≡ with_more transitions (bounds_vars p) (bounds_part p transitions.vars) → all ≡ with_more bounded (difference_vars p) (difference_part p bounded.vars) → all ≡ formula_of p
 unfolding formula_of
-made p empty front transitions all none one two three =
-    three ∙ ap (λ (f : Cnf). with_more f (difference_vars p) (difference_part p f.vars))
-    (two ∙ ap (λ f. with_clauses f (transition_part p)) (one ∙ ap (λ f. with_clauses f (front_part p)) none))
+made p empty front transitions bounded all none one two three four =
+    four ∙ ap (λ (f : Cnf). with_more f (difference_vars p) (difference_part p f.vars))
+    (three ∙ ap (λ (f : Cnf). with_more f (bounds_vars p) (bounds_part p f.vars))
+    (two ∙ ap (λ f. with_clauses f (transition_part p)) (one ∙ ap (λ f. with_clauses f (front_part p)) none)))
 
--- the room that is left for the transitions, and for the difference
+-- the room that is left for the transitions, for the bounds and for the difference
 pub room_for_transitions : (p : PosedProblem) (empty front : Cnf) → IsPosed p.posed → AreFitting p.posed p.demands → empty ≡ empty_of p → front ≡ with_clauses empty (front_part p) → HasRoom front 900000000
 room_for_transitions p empty front kept fitting is made =
     let none : length empty.clauses ≡ 0 = ap (λ (f : Cnf). length f.clauses) is in
     HasRoom-behind empty front (front_part p) 1000000000 900000000 made (omega (arith, length-front_part p kept fitting)) (omega (arith, none))
 
-pub room_for_difference : (p : PosedProblem) (front transitions : Cnf) → IsPosed p.posed → HasRoom front 900000000 → transitions ≡ with_clauses front (transition_part p) → HasRoom transitions 16385
-room_for_difference p front transitions kept has is = HasRoom-behind front transitions (transition_part p) 900000000 16385 is (omega (arith, length-transition_part p kept)) has
+pub room_for_bounds : (p : PosedProblem) (front transitions : Cnf) → IsPosed p.posed → HasRoom front 900000000 → transitions ≡ with_clauses front (transition_part p) → HasRoom transitions 700000000
+room_for_bounds p front transitions kept has is = HasRoom-behind front transitions (transition_part p) 900000000 700000000 is (omega (arith, length-transition_part p kept)) has
+
+pub room_for_difference : (p : PosedProblem) (transitions bounded : Cnf) → IsPosed p.posed → AreFitting p.posed p.demands → HasRoom transitions 700000000
+    → bounded ≡ with_more transitions (bounds_vars p) (bounds_part p transitions.vars) → HasRoom bounded 16385
+room_for_difference p transitions bounded kept fitting has is =
+    let count : length bounded.clauses ≡ length transitions.clauses + length (bounds_part p transitions.vars) =
+    ap (λ (f : Cnf). length f.clauses) is ∙ length-append transitions.clauses (bounds_part p transitions.vars) in
+    omega (arith, count, has, length-bounds_part p kept fitting transitions.vars)

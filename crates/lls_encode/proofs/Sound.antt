@@ -12,17 +12,18 @@ use Rattle.lls_grid.proofs.Chunks.{folded-chunked, joined-chunked, length-chunke
 use Rattle.lls_search_file.specs.Posed.{IsPosed}
 use Rattle.lls_problem.specs.Problem.{PosedProblem, AreFitting}
 use Rattle.lls_problem.specs.Solution.{is_marked, Obeys, IsSolution, IsAbsent}
-use Rattle.lls_encode.specs.Formula.{place_clauses, line_clauses, generation_clauses, fixed_part, name_part, symmetry_part, period_part, front_part, transition_part, difference_part, formula_of}
+use Rattle.lls_encode.specs.Formula.{place_clauses, line_clauses, generation_clauses, fixed_part, name_part, symmetry_part, period_part, front_part, transition_part, bounds_part, difference_base, difference_part, formula_of}
 use Rattle.lls_encode.specs.History.{history_of}
 use Rattle.lls_encode.proofs.Framed.{framed_row, framed_column}
 use Rattle.lls_encode.proofs.Values.{HasCells}
-use Rattle.lls_encode.proofs.Complete.{MeetsCells-same}
+use Rattle.lls_encode.proofs.Complete.{MeetsCells-same, AreBounds-fitting}
 use Rattle.lls_encode.proofs.Parts.{satisfies-append, satisfied_in_range, satisfied_framed}
 use Rattle.lls_encode.proofs.Obeyed.{successor-by_clauses}
 use Rattle.lls_encode.proofs.Agree.{MeetsCells-by_clauses}
 use Rattle.lls_encode.proofs.Mirrored.{AreSymmetric-by_clauses}
 use Rattle.lls_encode.proofs.Returned.{Returns-by_clauses}
 use Rattle.lls_encode.proofs.Differing.{Differs-by_clauses}
+use Rattle.lls_encode.proofs.AllBounds.{All-by_clauses}
 
 -- the cells of a history that is folded from its cells
 joined_twice : (history : History) → cells_of history ≡ flat_map (λ row. row) (flat_map (λ rows. rows) history)
@@ -84,17 +85,19 @@ record SatisfiesParts (p : PosedProblem) (values : List Bool) : Type 0 where
   symmetry : satisfies values (symmetry_part p) ≡ true
   period : satisfies values (period_part p) ≡ true
   transitions : satisfies values (transition_part p) ≡ true
-  difference : satisfies values (difference_part p (length p.posed.cells)) ≡ true
+  bounds : satisfies values (bounds_part p (length p.posed.cells)) ≡ true
+  difference : satisfies values (difference_part p (difference_base p)) ≡ true
 
 parts_of : (p : PosedProblem) (values : List Bool) → satisfies values (formula_of p).clauses ≡ true → SatisfiesParts p values
 unfolding formula_of
 parts_of p values satisfied =
-    let all = and_parts _ _ (sym (satisfies-append values (front_part p ++ transition_part p) (difference_part p (length p.posed.cells))) ∙ satisfied) in
-    let body = and_parts _ _ (sym (satisfies-append values (front_part p) (transition_part p)) ∙ all.0) in
+    let all = and_parts _ _ (sym (satisfies-append values (front_part p ++ transition_part p ++ bounds_part p (length p.posed.cells)) (difference_part p (difference_base p))) ∙ satisfied) in
+    let most = and_parts _ _ (sym (satisfies-append values (front_part p ++ transition_part p) (bounds_part p (length p.posed.cells))) ∙ all.0) in
+    let body = and_parts _ _ (sym (satisfies-append values (front_part p) (transition_part p)) ∙ most.0) in
     let front = and_parts _ _ (sym (satisfies-append values (fixed_part p ++ name_part p ++ symmetry_part p) (period_part p)) ∙ body.0) in
     let still = and_parts _ _ (sym (satisfies-append values (fixed_part p ++ name_part p) (symmetry_part p)) ∙ front.0) in
     let cells = and_parts _ _ (sym (satisfies-append values (fixed_part p) (name_part p)) ∙ still.0) in
-    record { fixed = cells.0; names = cells.1; symmetry = still.1; period = front.1; transitions = body.1; difference = all.1 }
+    record { fixed = cells.0; names = cells.1; symmetry = still.1; period = front.1; transitions = body.1; bounds = most.1; difference = all.1 }
 
 -- a value for each cell at least
 enough_values : (p : PosedProblem) (values : List Bool) → length values ≡ (formula_of p).vars → length p.posed.cells ≤ length values
@@ -114,7 +117,8 @@ IsSolution-history_of p kept fitting values len satisfied =
       symmetric = AreSymmetric-by_clauses p h values has fitting parts.symmetry;
       moved = Returns-by_clauses p h values has parts.period;
       rule = Obeys-by_clauses p h values has parts.transitions;
-      differ = Differs-by_clauses p h values has fitting (length p.posed.cells) parts.difference;
+      populated = All-by_clauses p h values has (length p.posed.cells) (omega arith) p.demands.bounds (AreBounds-fitting p fitting) parts.bounds;
+      differ = Differs-by_clauses p h values has fitting (difference_base p) parts.difference;
     }
 
 -- so where there is no solution nothing satisfies the formula

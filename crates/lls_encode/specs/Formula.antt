@@ -1,5 +1,6 @@
--- The formula of a problem, by its parts: fixed cells, names, symmetry, period, transitions, differing generations.
-use Rattle.std.specs.Prelude.{ℕ, ◌+◌, ◌-◌, ◌*◌, ℤ, pos, negsuc, ◌-ℤ◌, Bool, true, false, ◌==◌, List, [], ◌∷◌, ◌++◌, map, length, Option, None, Some, if◌then◌else◌}
+-- The formula of a problem, by its parts: fixed cells, names, symmetry, period, transitions, bounds on live cells, differing
+-- generations.
+use Rattle.std.specs.Prelude.{ℕ, ◌+◌, ◌-◌, ◌*◌, ℤ, pos, negsuc, ◌-ℤ◌, Bool, true, false, ◌==◌, nat_le, List, [], ◌∷◌, ◌++◌, map, length, Option, None, Some, if◌then◌else◌}
 use Rattle.std.specs.Option.{option_map_or, option_to_list}
 use Rattle.std.specs.List.{flat_map, range_with_len, position_from}
 use Rattle.lls_lit.specs.Literal.{negation}
@@ -18,6 +19,8 @@ use Rattle.lls_symmetry.specs.Moved.{generation_moved}
 use Rattle.lls_problem.specs.declared.demands.Edge.{Edge}
 use Rattle.lls_problem.specs.declared.demands.Edge.TheVariants.{Framed, Bare}
 use Rattle.lls_problem.specs.declared.demands.Period.{Period}
+use Rattle.lls_problem.specs.declared.bounds.Bound.{Bound}
+use Rattle.lls_problem.specs.Bounds.{top_end, counter_top, counter_vars, all_counter_vars}
 use Rattle.lls_problem.specs.Problem.{PosedProblem}
 use Rattle.lls_problem.specs.Solution.{cell_number, is_marked}
 use Rattle.lls_problem.specs.Unlike.{differ}
@@ -25,6 +28,7 @@ use Rattle.lls_problem.specs.Losses.{course_of}
 use Rattle.lls_transition.specs.declared.place.Place.{Place}
 use Rattle.lls_transition.specs.Clause.{differing, clause_of}
 use Rattle.lls_transition.specs.Transition.{transition_clauses}
+use Rattle.lls_cardinality.specs.Counter.{at_least, counter_clauses}
 use Rattle.lls_encode.specs.Place.{place_at, inputs_at}
 
 -- The kth cell has the variable k + 1. A fixed cell gives it, or its negation.
@@ -125,6 +129,34 @@ generation_size p = p.posed.width * p.posed.height
 abbrev pub cell_of_generation : PosedProblem → ℕ → ℕ → ℤ
 cell_of_generation p t k = pos (k + generation_size p * t + 1)
 
+-- the variables of all cells of generation t
+abbrev pub generation_cells : PosedProblem → ℕ → List ℤ
+generation_cells p t = map (cell_of_generation p t) (range_with_len 0 (generation_size p))
+
+-- Of a counter of `size` cells: at least `low` are live. At least none says nothing.
+abbrev pub low_clauses : ℕ → ℕ → ℕ → ℕ → List Clause
+low_clauses base top size low = if low == 0 then [] else (at_least base top (size - 1) (low - 1) ∷ []) ∷ []
+
+-- not more than `top_end` are. Not more than all says nothing.
+abbrev pub high_clauses : ℕ → ℕ → ℕ → ℕ → List Clause
+high_clauses base top size end = if nat_le size end then [] else (negation (at_least base top (size - 1) end) ∷ []) ∷ []
+
+-- the counter of the cells of a bound's generation, whose variables stand behind the first `base`, and what it says of them
+abbrev pub counted_clauses : PosedProblem → ℕ → Bound → List Clause
+counted_clauses p base bound =
+    let size = generation_size p in
+    let top = counter_top size bound in
+    counter_clauses base top (generation_cells p bound.generation) ++ (low_clauses base top size bound.low ++ high_clauses base top size (top_end size bound))
+
+-- a bound that needs no counter gives nothing
+abbrev pub bound_clauses : PosedProblem → ℕ → Bound → List Clause
+bound_clauses p base bound = if counter_top (generation_size p) bound == 0 then [] else counted_clauses p base bound
+
+-- bounds one after another, each with variables of its own
+abbrev pub bounds_clauses : PosedProblem → ℕ → List Bound → List Clause
+bounds_clauses p base [] = []
+bounds_clauses p base (bound ∷ bounds) = bound_clauses p base bound ++ bounds_clauses p (base + counter_vars (generation_size p) bound) bounds
+
 -- where d is true, a and b differ
 abbrev pub difference_clauses : ℤ → ℤ → ℤ → List Clause
 difference_clauses d a b = (negation d ∷ a ∷ b ∷ []) ∷ (negation d ∷ negation a ∷ negation b ∷ []) ∷ []
@@ -159,10 +191,17 @@ period_part p = option_map_or (period_clauses p) p.demands.period []
 abbrev pub transition_part : PosedProblem → List Clause
 transition_part p = flat_map (generation_clauses p) (range_with_len 0 (p.posed.generations - 1))
 
+abbrev pub bounds_part : PosedProblem → ℕ → List Clause
+bounds_part p base = bounds_clauses p base p.demands.bounds
+
+-- how many variables that part has of its own
+abbrev pub bounds_vars : PosedProblem → ℕ
+bounds_vars p = all_counter_vars (generation_size p) p.demands.bounds
+
 abbrev pub difference_part : PosedProblem → ℕ → List Clause
 difference_part p base = option_map_or (differing_clauses p base) p.demands.differ []
 
--- how many variables that part has of its own
+-- and how many that has
 abbrev pub difference_vars : PosedProblem → ℕ
 difference_vars p = option_map_or (λ pair. generation_size p) p.demands.differ 0
 
@@ -170,9 +209,13 @@ difference_vars p = option_map_or (λ pair. generation_size p) p.demands.differ 
 abbrev pub front_part : PosedProblem → List Clause
 front_part p = fixed_part p ++ name_part p ++ symmetry_part p ++ period_part p
 
--- one variable a cell, and behind these the variables of the difference
+-- the variables before those of the difference: one a cell, and those of the counters
+abbrev pub difference_base : PosedProblem → ℕ
+difference_base p = length p.posed.cells + bounds_vars p
+
+-- one variable a cell, and behind these the variables of the counters and of the difference
 unfoldable pub formula_of : PosedProblem → Cnf
 formula_of p = record {
-  vars = length p.posed.cells + difference_vars p;
-  clauses = front_part p ++ transition_part p ++ difference_part p (length p.posed.cells);
+  vars = difference_base p + difference_vars p;
+  clauses = front_part p ++ transition_part p ++ bounds_part p (length p.posed.cells) ++ difference_part p (difference_base p);
 }

@@ -1,11 +1,11 @@
 // The clauses of two generations that differ.
 ghost use Rattle.std.specs.Prelude.{◌≡◌, ◌<◌, ◌≤◌, ◌+◌, ◌*◌, ℤ, pos, [], ◌∷◌, length, true, OnOk};
-ghost use Rattle.lls_lit.specs.Formula.{is_literal_of, is_within};
+ghost use Rattle.lls_lit.specs.Formula.{is_within};
 ghost use Rattle.lls_transition.specs.Clause.{with_clauses};
-ghost use Rattle.lls_encode.specs.Formula.{generation_size, cell_of_generation, difference_clauses, difference_variable, differing_clauses, difference_part, difference_vars};
+ghost use Rattle.lls_encode.specs.Formula.{generation_size, difference_clauses, difference_variable, differing_clauses, difference_part, difference_vars};
 ghost use Rattle.lls_encode.specs.Room.{HasRoom, with_more};
 
-use crate::cells::cell_literal;
+use crate::generation::{cell_of_generation, generation_size};
 use lls_base::Memory;
 use lls_cnf::Formula;
 use lls_grid::History;
@@ -15,27 +15,6 @@ use std::alloc::Global;
 
 /// Two clauses a cell, and one that some cell differs.
 pub const MOST_CLAUSES_DIFFERENCE: usize = 2 * History::MOST_CELLS as usize + 1;
-
-/// How many cells a generation has.
-fn generation_size(problem: &Problem) -> u32
-    ensures size { result ≡ generation_size problem.now }
-    ensures most { result ≤ History.MOST_HEIGHT * History.MOST_WIDTH }
-{
-    let posed = problem.posed();
-    posed.width * posed.height
-}
-
-/// The literal of the kth cell of a generation.
-fn cell_of_generation(problem: &Problem, t: u32, k: u32) -> Lit
-    requires generation { t < problem.now.posed.generations }
-    requires cell { k < generation_size problem.now }
-    ensures literal { result ≡ cell_of_generation problem.now t k }
-    ensures within { is_literal_of (length problem.now.posed.cells) result ≡ true }
-{
-    // The limits of the file's sizes are known from here on.
-    let _posed = problem.posed();
-    cell_literal((k + generation_size(problem) * t) as usize)
-}
 
 /// The literal of the kth variable behind the first `base`.
 fn difference_variable(base: u32, k: u32) -> Lit

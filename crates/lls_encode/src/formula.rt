@@ -11,6 +11,7 @@ ghost use Rattle.lls_encode.specs.Room.{HasRoom};
 use crate::cells::{push_fixed, push_names};
 use crate::difference::push_difference;
 use crate::period::{MOST_CLAUSES_PERIOD, push_period};
+use crate::population::push_bounds;
 use crate::symmetry::{MOST_CLAUSES_SYMMETRY, push_symmetry};
 use crate::transition::push_transitions;
 use lls_base::Memory;
@@ -41,9 +42,10 @@ fn push_front(alloc: Global, formula: &mut Formula, problem: &Problem) -> Result
     push_period(formula, problem)
 }
 
-/// The formula of a problem, with one variable a cell in the order generation, row, column. Where two generations have
-/// to differ, it has one variable more for each cell of the grid, behind all others.
-/// The clauses come in this order: fixed cells, names, symmetry, period, transitions, differing generations.
+/// The formula of a problem, with one variable a cell in the order generation, row, column. Behind them stand the variables
+/// of the counters that bounds on live cells need. Where two generations have to differ, it has one variable more for each
+/// cell of the grid, behind all others.
+/// The clauses come in this order: fixed cells, names, symmetry, period, transitions, bounds, differing generations.
 pub fn encode(alloc: Global, problem: &Problem) -> Result<Formula, Memory>
     ensures formula { IfOk result (λ formula. formula ≡ formula_of problem.now) }
     ensures few { IfOk result (λ formula. length formula.clauses < CLAUSES_BELOW) }
@@ -68,6 +70,7 @@ pub fn encode(alloc: Global, problem: &Problem) -> Result<Formula, Memory>
     let mut formula = Formula::new(alloc, cells as u32);
     push_front(alloc, &mut formula, problem)?;
     push_transitions(alloc, &mut formula, problem)?;
+    push_bounds(alloc, &mut formula, problem)?;
     push_difference(alloc, &mut formula, problem)?;
     Ok(formula)
 }

@@ -6,8 +6,10 @@ mod decoding;
 mod difference;
 mod equal;
 mod formula;
+mod generation;
 mod period;
 mod place;
+mod population;
 mod symmetry;
 #[cfg(test)]
 mod tests;

@@ -1,11 +1,13 @@
 // Formulas of search files, as DIMACS writes clauses, worked out by hand and by an independent script.
+ghost use Rattle.std.specs.Prelude.{◌↔◌, All, IfOk, IsTrue};
 ghost use Rattle.std.specs.Option.{ForSome};
+ghost use Rattle.lls_problem.specs.Bounds.{HasEnds};
 ghost use Rattle.lls_problem.specs.Problem.{IsPeriod};
 
 use crate::{decode, encode};
 use lls_cnf::{Assignment, Formula};
 use lls_grid::print_history;
-use lls_problem::{Demands, Edge, Period, make_problem};
+use lls_problem::{Bound, Bounds, Demands, Edge, Period, make_problem};
 use lls_rule::Rule;
 use lls_search_file::read_posed;
 use lls_symmetry::Symmetry;
@@ -27,7 +29,8 @@ fn clauses(alloc: Global, formula: &Formula) -> Result<String, AllocError> {
 
 // The formula of a search file under a rule and demands.
 fn encoded(alloc: Global, file: &[u8], rule: Rule, demands: Demands) -> Result<Formula, Fail>
-    requires { ForSome demands.period IsPeriod }
+    requires period { ForSome demands.period IsPeriod }
+    requires bounds { All HasEnds demands.bounds }
 {
     let problem = make_problem(read_posed(alloc, file)?, rule, demands)?;
     Ok(encode(alloc, &problem)?)
@@ -102,7 +105,7 @@ fn formulas_of_search_files(rt: HostRuntime) -> Result<(), Fail> {
         (b"* *\n* *", life, Edge::Framed, 4, ""),
     ];
     for (file, rule, edge, vars, text) in rows {
-        let formula = encoded(alloc, file, rule, Demands::new(edge))?;
+        let formula = encoded(alloc, file, rule, Demands::new(alloc, edge))?;
         let found = clauses(alloc, &formula)?;
         assert_eq!(rt; formula.vars(), vars);
         assert_eq!(rt; found.as_str(), text);
@@ -113,14 +116,16 @@ fn formulas_of_search_files(rt: HostRuntime) -> Result<(), Fail> {
 // The demands of a row, where its period is within the limits.
 fn demanded(
     rt: &impl Abort,
+    alloc: Global,
     edge: Edge,
     symmetry: Symmetry,
     period: Option<Period>,
     differ: Option<(u32, u32)>,
 ) -> Demands
-    ensures { ForSome result.period IsPeriod }
+    ensures period { ForSome result.period IsPeriod }
+    ensures bounds { All HasEnds result.bounds }
 {
-    let mut demands = Demands::new(edge);
+    let mut demands = Demands::new(alloc, edge);
     demands.symmetry = symmetry;
     demands.differ = differ;
     if let Some(period) = period {
@@ -284,8 +289,98 @@ fn formulas_of_demands(rt: HostRuntime) -> Result<(), Fail> {
         ),
     ];
     for (file, rule, edge, symmetry, period, differ, vars, text) in rows {
-        let demands = demanded(&rt, edge, symmetry, period, differ);
+        let demands = demanded(&rt, alloc, edge, symmetry, period, differ);
         let formula = encoded(alloc, file, rule, demands)?;
+        let found = clauses(alloc, &formula)?;
+        assert_eq!(rt; formula.vars(), vars);
+        assert_eq!(rt; found.as_str(), text);
+    }
+    Ok(())
+}
+
+// Whether the ends of a bound are within the limit.
+fn has_ends(bound: Bound) -> bool
+    ensures { IsTrue result ↔ HasEnds bound }
+{
+    if bound.low > Bound::MOST {
+        return false;
+    }
+    match bound.high {
+        Some(high) => high <= Bound::MOST,
+        None => true,
+    }
+}
+
+// The demands of two bounds.
+fn bounded(alloc: Global, edge: Edge, first: Bound, second: Bound) -> Result<Demands, AllocError>
+    requires first { HasEnds first }
+    requires second { HasEnds second }
+    ensures period { IfOk result (λ demands. ForSome demands.period IsPeriod) }
+    ensures bounds { IfOk result (λ demands. All HasEnds demands.bounds) }
+{
+    let mut bounds = Vec::new(alloc);
+    bounds.push(first)?;
+    bounds.push(second)?;
+    let mut demands = Demands::new(alloc, edge);
+    demands.bounds = Bounds::new(bounds);
+    Ok(demands)
+}
+
+// At least `low` and at most `high` live cells in generation t.
+fn bound(t: u32, low: u32, high: Option<u32>) -> Bound {
+    Bound {
+        generation: t,
+        low,
+        high,
+    }
+}
+
+// Bounds with no counter, with one end and with both, one behind another, and before two generations that differ.
+#[test]
+fn formulas_of_bounds(rt: HostRuntime) -> Result<(), Fail> {
+    let alloc = rt.alloc();
+    let one_born = Rule::from_counts(0b0_0000_0010, 0);
+    let any = bound(0, 0, Some(8192));
+    let rows: [(&[u8], Bound, Bound, Option<(u32, u32)>, u32, &str); 5] = [
+        (b"*", any, bound(0, 0, None), None, 1, ""),
+        (
+            b"*",
+            bound(0, 1, None),
+            any,
+            None,
+            2,
+            "-1 2 0\n-2 1 0\n2 0\n",
+        ),
+        (
+            b"a -a a",
+            any,
+            bound(0, 0, Some(1)),
+            None,
+            9,
+            "-1 -2 0\n1 2 0\n-1 3 0\n1 -3 0\n-1 4 0\n-4 1 0\n-5 1 0\n-5 0\n-4 6 0\n-2 6 0\n-6 4 2 0\n-5 7 0\n-2 -4 7 0\n-7 5 2 0\n-7 5 4 0\n-6 8 0\n-3 8 0\n-8 6 3 0\n-7 9 0\n-3 -6 9 0\n-9 7 3 0\n-9 7 6 0\n-9 0\n",
+        ),
+        (
+            b"* *",
+            bound(0, 1, Some(1)),
+            bound(0, 2, Some(2)),
+            None,
+            10,
+            "-1 3 0\n-3 1 0\n-4 1 0\n-4 0\n-3 5 0\n-2 5 0\n-5 3 2 0\n-4 6 0\n-2 -3 6 0\n-6 4 2 0\n-6 4 3 0\n5 0\n-6 0\n-1 7 0\n-7 1 0\n-8 1 0\n-8 0\n-7 9 0\n-2 9 0\n-9 7 2 0\n-8 10 0\n-2 -7 10 0\n-10 8 2 0\n-10 8 7 0\n10 0\n",
+        ),
+        (
+            b"* *\n\n*' *'",
+            bound(1, 1, Some(1)),
+            bound(0, 0, Some(0)),
+            Some((0, 1)),
+            12,
+            "-3 5 0\n-5 3 0\n-6 3 0\n-6 0\n-5 7 0\n-4 7 0\n-7 5 4 0\n-6 8 0\n-4 -5 8 0\n-8 6 4 0\n-8 6 5 0\n7 0\n-8 0\n-1 9 0\n-9 1 0\n-9 10 0\n-2 10 0\n-10 9 2 0\n-10 0\n-11 1 3 0\n-11 -1 -3 0\n-12 2 4 0\n-12 -2 -4 0\n11 12 0\n",
+        ),
+    ];
+    for (file, first, second, differ, vars, text) in rows {
+        assert!(rt; has_ends(first) && has_ends(second));
+        let mut demands = bounded(alloc, Edge::Bare, first, second)?;
+        demands.differ = differ;
+        let formula = encoded(alloc, file, one_born, demands)?;
         let found = clauses(alloc, &formula)?;
         assert_eq!(rt; formula.vars(), vars);
         assert_eq!(rt; found.as_str(), text);
@@ -299,7 +394,7 @@ fn assignments_are_histories(rt: HostRuntime) -> Result<(), Fail> {
     let alloc = rt.alloc();
     let life = Rule::from_counts(0b0_0000_1000, 0b0_0000_1100);
     let posed = read_posed(alloc, b"* * *\n* * *\n\n* * *\n* * *")?;
-    let problem = make_problem(posed, life, Demands::new(Edge::Framed))?;
+    let problem = make_problem(posed, life, Demands::new(alloc, Edge::Framed))?;
     let values = "0110010010111".bytes().map(|byte| byte == b'1');
     let assignment = Assignment::new(values.collect::<Vec<bool>>(alloc)?);
     assert!(rt; problem.posed().cells.items().len() <= assignment.values().len());

@@ -2,6 +2,9 @@ pub mod Places
 pub mod NameValues
 pub mod Sides
 pub mod Order
+pub mod Found
+pub mod Populated
+pub mod Fitting
 pub mod OneJudgement
 pub mod FirstOf
 pub mod Lost

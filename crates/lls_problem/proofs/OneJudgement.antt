@@ -10,18 +10,20 @@ use Rattle.lls_problem.specs.declared.judgement.Judgement.{Judgement}
 use Rattle.lls_problem.specs.declared.judgement.Judgement.TheVariants.{Meets, Size, Cell, Name, Symmetry, Background, Moved, Rule, Population, Same}
 use Rattle.lls_problem.specs.declared.losses.Loss.{Loss}
 use Rattle.lls_problem.specs.declared.losses.Loss.TheVariants.{OfBackground, OfPlace}
+use Rattle.lls_problem.specs.declared.population.Count.{Count}
 use Rattle.lls_problem.specs.Problem.{PosedProblem, AreFitting}
 use Rattle.lls_problem.specs.Solution.{IsSolution}
 use Rattle.lls_problem.specs.Firsts.{Place, first}
 use Rattle.lls_problem.specs.Unlike.{unlike_cells}
 use Rattle.lls_problem.specs.Losses.{losses}
-use Rattle.lls_problem.specs.Judgement.{Demand, size, cell, name, symmetry, period, rule, same, rank, Keeps, KeepsBefore, IsFirstCell, IsJudgement, judgement_of}
+use Rattle.lls_problem.specs.Judgement.{Demand, size, cell, name, symmetry, period, rule, population, same, rank, Keeps, KeepsBefore, IsFirstCell, IsJudgement, judgement_of}
 use Rattle.lls_problem.proofs.Places.{index_of-lt}
 use Rattle.lls_problem.proofs.Sides.{Succeeds-by_obeys}
 use Rattle.lls_problem.proofs.NameValues.{MeetsCells-by_firsts}
 use Rattle.lls_problem.proofs.Order.{IsFirstBroken-one, IsFirstCell-one}
 use Rattle.lls_problem.proofs.Symmetric.{unlike_cells-symmetric}
 use Rattle.lls_problem.proofs.Returned.{losses-returned}
+use Rattle.lls_problem.proofs.Populated.{first_outside-populated}
 
 -- the demand at a place of the order
 demand_at : ℕ → Demand
@@ -31,7 +33,8 @@ demand_at (suc (suc zero)) = name
 demand_at (suc (suc (suc zero))) = symmetry
 demand_at (suc (suc (suc (suc zero)))) = period
 demand_at (suc (suc (suc (suc (suc zero))))) = rule
-demand_at (suc (suc (suc (suc (suc (suc n)))))) = same
+demand_at (suc (suc (suc (suc (suc (suc zero)))))) = population
+demand_at (suc (suc (suc (suc (suc (suc (suc n))))))) = same
 
 demand_at-rank : (demand : Demand) → demand_at (rank demand) ≡ demand
 unfolding demand_at
@@ -41,6 +44,7 @@ demand_at-rank name = refl
 demand_at-rank symmetry = refl
 demand_at-rank period = refl
 demand_at-rank rule = refl
+demand_at-rank population = refl
 demand_at-rank same = refl
 
 -- nothing comes before the sizes
@@ -65,6 +69,7 @@ Keeps-by_solution p h solution name = λ k within n first named is. solution.cel
 Keeps-by_solution p h solution symmetry = solution.symmetric
 Keeps-by_solution p h solution period = solution.moved
 Keeps-by_solution p h solution rule = solution.rule
+Keeps-by_solution p h solution population = solution.populated
 Keeps-by_solution p h solution same = solution.differ
 
 -- and what keeps them all is a solution
@@ -75,6 +80,7 @@ IsSolution-by_demands p h before differ = record {
   symmetric = before symmetry (lit< tt);
   moved = before period (lit< tt);
   rule = before rule (lit< tt);
+  populated = before population (lit< tt);
   differ = differ;
 }
 
@@ -88,7 +94,7 @@ broken_at Meets = rank same + 1
 broken_at (Symmetry t y x) = rank symmetry
 broken_at (Background t) = rank period
 broken_at (Moved t y x) = rank period
-broken_at (Population t n) = 0
+broken_at (Population t n) = rank population
 broken_at Same = rank same
 
 broken_at-le : (j : Judgement) → broken_at j ≤ rank same + 1
@@ -115,7 +121,7 @@ kept_before p h (Rule t y x) fits demand less = fits.kept demand less
 kept_before p h (Symmetry t y x) fits demand less = fits.kept demand less
 kept_before p h (Background t) fits demand less = fits.kept demand less
 kept_before p h (Moved t y x) fits demand less = fits.kept demand less
-kept_before p h (Population t n) fits demand less = absurd fits
+kept_before p h (Population t n) fits demand less = fits.kept demand less
 kept_before p h Same fits demand less = fits.kept demand less
 
 -- it is not kept
@@ -144,13 +150,11 @@ not_earlier p h (Rule t y x) k posed fitting fits other less =
     fits.first.broken (Succeeds-by_obeys p h (record { t = t; y = y; x = x }) (kept_before p h k other rule less) fits.first.demanded)
 not_earlier p h Same k posed fitting fits other less = fits.first (kept_before p h k other same less)
 not_earlier p h Meets k posed fitting fits other less = omega (arith, less, broken_at-le k)
-not_earlier p h (Population t n) k posed fitting fits other less = fits
+not_earlier p h (Population t n) k posed fitting fits other less = first_outside-populated p h _ fits.first (kept_before p h k other population less)
 
 -- judgements of one demand are one
 same_demand : (p : PosedProblem) (h : History) (j k : Judgement) → IsJudgement p h j → IsJudgement p h k → broken_at j ≡ broken_at k → j ≡ k
 unfolding broken_at
-same_demand p h (Population t n) k fits other one = absurd fits
-same_demand p h j (Population t n) fits other one = absurd other
 same_demand p h Meets Meets fits other one = refl
 same_demand p h Size Size fits other one = refl
 same_demand p h (Cell t y x) (Cell t' y' x') fits other one = ap (λ c. Cell c.t c.y c.x) (IsFirstCell-one p.posed _ (record { t = t; y = y; x = x }) (record { t = t'; y = y'; x = x' }) fits.first other.first)
@@ -164,6 +168,8 @@ same_demand p h (Moved t y x) (Moved t' y' x') fits other one = ap (λ found. op
 same_demand p h (Rule t y x) (Rule t' y' x') fits other one =
     let place : record { t = t; y = y; x = x } ≡ record { t = t'; y = y'; x = x' } = IsFirstBroken-one _ _ _ _ fits.first other.first in
     ap (λ (place : Place). Rule place.t place.y place.x) place
+same_demand p h (Population t n) (Population t' n') fits other one =
+    ap (λ found. option_map_or (λ (c : Count). Population c.t c.live) found Meets) (sym fits.first ∙ other.first)
 same_demand p h Same Same fits other one = refl
 same_demand p h j k fits other one = absurd (omega (arith, one))
 

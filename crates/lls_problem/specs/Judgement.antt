@@ -9,13 +9,14 @@ use Rattle.lls_search_file.specs.Posed.{PosedFile, sizes_of, name_of}
 use Rattle.lls_problem.specs.declared.judgement.Judgement.{Judgement}
 use Rattle.lls_problem.specs.declared.judgement.Judgement.TheVariants as judgement
 use Rattle.lls_problem.specs.Problem.{PosedProblem}
-use Rattle.lls_problem.specs.Solution.{cell_number, HasItsBit, AreTied, IsFramed, is_marked, AreSymmetric, Returns, Obeys, Differs, IsSolution}
+use Rattle.lls_problem.specs.Solution.{cell_number, HasItsBit, AreTied, IsFramed, is_marked, AreSymmetric, Returns, Obeys, IsPopulated, Differs, IsSolution}
 use Rattle.lls_symmetry.specs.Moved.{spot}
 use Rattle.lls_problem.specs.declared.losses.Loss.{Loss}
 use Rattle.lls_problem.specs.declared.losses.Loss.TheVariants.{OfBackground, OfPlace}
 use Rattle.lls_problem.specs.Firsts.{Place, of_cell, IsBefore, IsFirstBroken, first}
 use Rattle.lls_problem.specs.Unlike.{unlike_cells}
 use Rattle.lls_problem.specs.Losses.{losses}
+use Rattle.lls_problem.specs.Outside.{first_outside}
 
 -- the sizes are the file's
 abbrev pub HasItsSizes : PosedProblem → History → Type 0
@@ -74,6 +75,7 @@ pub data Demand : Type 0 where
   symmetry : Demand
   period : Demand
   rule : Demand
+  population : Demand
   same : Demand
 
 abbrev pub rank : Demand → ℕ
@@ -83,7 +85,8 @@ rank name = 2
 rank symmetry = 3
 rank period = 4
 rank rule = 5
-rank same = 6
+rank population = 6
+rank same = 7
 
 abbrev pub Keeps : PosedProblem → History → Demand → Type 0
 Keeps problem history size = HasItsSizes problem history
@@ -92,6 +95,7 @@ Keeps problem history name = AllAgree problem history
 Keeps problem history symmetry = AreSymmetric problem history
 Keeps problem history period = Returns problem history
 Keeps problem history rule = Obeys problem history
+Keeps problem history population = IsPopulated problem history
 Keeps problem history same = Differs problem history
 
 -- every demand before that one is kept
@@ -108,7 +112,7 @@ abbrev pub judgement_of : Loss → Judgement
 judgement_of (OfBackground t) = judgement.Background t
 judgement_of (OfPlace spot) = judgement.Moved spot.t spot.y spot.x
 
--- The history is a solution, or this is its first fault. No bound is demanded, so its answer says nothing that can hold.
+-- the history is a solution, or this is its first fault
 abbrev pub IsJudgement : PosedProblem → History → Judgement → Type 0
 IsJudgement p h judgement.Meets = IsSolution p h
 IsJudgement p h judgement.Size = IsFault p h size (HasItsSizes p h → ⊥)
@@ -118,5 +122,5 @@ IsJudgement p h (judgement.Symmetry t y x) = IsFault p h symmetry (first (unlike
 IsJudgement p h (judgement.Background t) = IsFault p h period (first (losses p h) ≡ Some (OfBackground t))
 IsJudgement p h (judgement.Moved t y x) = IsFault p h period (first (losses p h) ≡ Some (OfPlace (spot t y x)))
 IsJudgement p h (judgement.Rule t y x) = IsFault p h rule (IsFirstTransition p h (record { t = t; y = y; x = x }))
-IsJudgement p h (judgement.Population t n) = ⊥
+IsJudgement p h (judgement.Population t n) = IsFault p h population (first_outside p h ≡ Some (record { t = t; live = n }))
 IsJudgement p h judgement.Same = IsFault p h same (Differs p h → ⊥)

@@ -1,9 +1,11 @@
 pub mod Problem
+pub mod Bounds
 pub mod Solution
 pub mod Firsts
 pub mod Named
 pub mod Unlike
 pub mod Losses
+pub mod Outside
 pub mod Judgement
 pub mod Texts
 pub mod Transitions

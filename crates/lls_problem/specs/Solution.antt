@@ -1,10 +1,11 @@
 -- What a solution of a problem is. It is said of whole histories, by reading cells and comparing them.
-use Rattle.std.specs.Prelude.{◌≡◌, ◌≢◌, ◌<◌, ℕ, ◌+◌, ℤ, pos, negsuc, ◌≤ℤ◌, ◌<ℤ◌, Bool, true, false, not, List, Option, None, Some, length, slice_index_or}
+use Rattle.std.specs.Prelude.{◌≡◌, ◌≢◌, ◌<◌, ℕ, ◌+◌, ℤ, pos, negsuc, ◌≤ℤ◌, ◌<ℤ◌, Bool, true, false, not, List, Option, None, Some, length, slice_index_or, All}
 use Rattle.std.specs.Option.{ForSome}
 use Rattle.lls_rule.specs.Rule.{successor}
 use Rattle.lls_grid.specs.Sizes.{index_of}
 use Rattle.lls_grid.specs.Place.{inside}
 use Rattle.lls_grid.specs.History.{History, HasSizes, at, nine, cells_of}
+use Rattle.lls_grid.specs.Changes.{population}
 use Rattle.lls_search_file.specs.declared.cell.Cell.{Cell}
 use Rattle.lls_search_file.specs.declared.cell.Kind.{Kind}
 use Rattle.lls_search_file.specs.declared.cell.Kind.TheVariants.{Dead, Live, Free, Named, Negated}
@@ -13,6 +14,7 @@ use Rattle.lls_symmetry.specs.Symmetry.{IsSymmetric}
 use Rattle.lls_symmetry.specs.Moved.{IsMoved}
 use Rattle.lls_problem.specs.declared.demands.Edge.{Edge}
 use Rattle.lls_problem.specs.declared.demands.Edge.TheVariants.{Framed, Bare}
+use Rattle.lls_problem.specs.Bounds.{Allows}
 use Rattle.lls_problem.specs.Problem.{PosedProblem}
 
 -- the cell at a place of the order generation, row, column; past the end a dead one
@@ -86,6 +88,10 @@ pub record IsDifference (problem : PosedProblem) (history : History) (s t y x : 
 abbrev pub Differs : PosedProblem → History → Type 0
 Differs problem history = ForSome problem.demands.differ (λ pair. (y : ℕ) × ((x : ℕ) × IsDifference problem history pair.0 pair.1 y x))
 
+-- the live cells of the generation of each bound are within its ends
+abbrev pub IsPopulated : PosedProblem → History → Type 0
+IsPopulated problem history = All (λ bound. Allows bound (population history bound.generation)) problem.demands.bounds
+
 -- the history meets the file and every demand
 pub record IsSolution (problem : PosedProblem) (history : History) : Type 0 where
   pub sizes : HasSizes problem.posed.generations problem.posed.height problem.posed.width history
@@ -93,6 +99,7 @@ pub record IsSolution (problem : PosedProblem) (history : History) : Type 0 wher
   pub symmetric : AreSymmetric problem history
   pub moved : Returns problem history
   pub rule : Obeys problem history
+  pub populated : IsPopulated problem history
   pub differ : Differs problem history
 
 -- no history is a solution

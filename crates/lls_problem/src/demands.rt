@@ -2,7 +2,9 @@
 ghost use Rattle.std.specs.Prelude.{◌≡◌};
 ghost use Rattle.lls_problem.specs.Problem.{edge_alone};
 
+use crate::Bounds;
 use lls_symmetry::Symmetry;
+use std::alloc::Global;
 use std::error::Error;
 use std::fmt;
 
@@ -24,24 +26,26 @@ pub struct Period {
 }
 
 /// What is demanded of a pattern.
-#[derive(Debug, PartialEq, Eq, Drop)]
+#[derive(Debug, Drop)]
 pub struct Demands {
     pub edge: Edge,
     pub symmetry: Symmetry,
     pub period: Option<Period>,
+    pub bounds: Bounds,
     /// Two generations that have to differ in some cell.
     pub differ: Option<(u32, u32)>,
 }
 
 impl Demands {
     /// The edge, and nothing else.
-    pub fn new(edge: Edge) -> Demands
+    pub fn new(alloc: Global, edge: Edge) -> Demands
         ensures { result ≡ edge_alone edge }
     {
         Demands {
             edge,
             symmetry: Symmetry::C1,
             period: None,
+            bounds: Bounds::new(Vec::new(alloc)),
             differ: None,
         }
     }

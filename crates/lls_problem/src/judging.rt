@@ -8,6 +8,7 @@ ghost use Rattle.lls_problem.specs.declared.judgement.Judgement.{Judgement};
 use crate::cells::{first_disagreement, first_misfit};
 use crate::differences::differs;
 use crate::losses::first_loss;
+use crate::population::first_outside;
 use crate::transitions::first_transition;
 use crate::unlike::first_unlike;
 use crate::{Judgement, Problem};
@@ -48,6 +49,9 @@ pub fn judge(problem: &Problem, history: &History) -> Judgement
     }
     if let Some(place) = first_transition(problem, history) {
         return Judgement::Rule(place.t, place.y, place.x);
+    }
+    if let Some(count) = first_outside(problem, history) {
+        return Judgement::Population(count.t, count.live);
     }
     if !differs(problem, history) {
         return Judgement::Same;

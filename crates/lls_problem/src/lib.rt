@@ -1,18 +1,21 @@
 //! Problems: a posed file with a rule and demands, the meaning of a solution, and the judging of histories.
 #![tactic(auto)]
 
+mod bounds;
 mod cells;
 mod demands;
 mod differences;
 mod judgement;
 mod judging;
 mod losses;
+mod population;
 mod problem;
 #[cfg(test)]
 mod tests;
 mod transitions;
 mod unlike;
 
+pub use bounds::{Bound, Bounds};
 pub use demands::{DemandError, Demands, Edge, Period};
 pub use judgement::Judgement;
 pub use judging::judge;

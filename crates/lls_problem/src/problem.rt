@@ -1,13 +1,14 @@
 // A problem.
-ghost use Rattle.std.specs.Prelude.{◌≡◌, ◌<◌, length};
-ghost use Rattle.std.specs.Option.{ForSome};
+ghost use Rattle.std.specs.Prelude.{◌≡◌, ◌<◌, ◌≤◌, ◌*◌, [], ◌∷◌, length, All, find, nat_le, map};
+ghost use Rattle.std.specs.Option.{ForSome, option_map_or};
 ghost use Rattle.lls_grid.specs.Sizes.{IsInside};
 ghost use Rattle.lls_search_file.specs.Posed.{IsPosed, sizes_of};
-ghost use Rattle.lls_problem.specs.Problem.{problem_made, missing_generation, too_long, IsPeriod, AreFitting};
+ghost use Rattle.lls_problem.specs.Problem.{problem_made, missing_generation, crossing, too_long, too_many, IsPeriod, AreFitting};
+ghost use Rattle.lls_problem.specs.Bounds.{HasEnds, grid_size, all_counter_vars};
 ghost use Rattle.lls_problem.specs.Solution.{is_marked, place_of};
 
-use crate::{DemandError, Demands, Edge};
-use lls_grid::{GridPlace, index_within};
+use crate::{Bound, Bounds, DemandError, Demands, Edge};
+use lls_grid::{GridPlace, History, index_within};
 use lls_rule::Rule;
 use lls_search_file::Posed;
 use lls_symmetry::fits;
@@ -34,7 +35,8 @@ impl Model for Problem {
 /// Puts the three together, or answers the first demand that doesn't fit the file. It takes no memory; after a refusal
 /// the three are given up.
 pub fn make_problem(posed: Posed, rule: Rule, demands: Demands) -> Result<Problem, DemandError>
-    requires { ForSome demands.period IsPeriod }
+    requires period { ForSome demands.period IsPeriod }
+    requires bounds { All HasEnds demands.bounds }
     ensures { result ≡ problem_made posed rule demands }
 {
     if !fits(demands.symmetry, posed.height, posed.width) {
@@ -43,8 +45,14 @@ pub fn make_problem(posed: Posed, rule: Rule, demands: Demands) -> Result<Proble
     if let Some(t) = missing_generation(&posed, &demands) {
         return Err(DemandError::NoGeneration(t as u64));
     }
+    if let Some(t) = crossing(&posed, &demands) {
+        return Err(DemandError::BoundsCross(t as u64));
+    }
     if let Some(length) = too_long(&posed, &demands) {
         return Err(DemandError::PeriodTooLong(length as u64));
+    }
+    if let Some(count) = too_many(&posed, &demands) {
+        return Err(DemandError::Counters(count));
     }
     Ok(Problem {
         posed,
@@ -53,18 +61,86 @@ pub fn make_problem(posed: Posed, rule: Rule, demands: Demands) -> Result<Proble
     })
 }
 
-/// The first generation that the demands name and the file hasn't.
-fn missing_generation(posed: &Posed, demands: &Demands) -> Option<u32>
-    ensures { result ≡ missing_generation posed.now demands.now }
+/// The first generation of a bound that isn't below that number.
+fn missing_bound(generations: u32, bounds: &[Bound]) -> Option<u32>
+    ensures { result ≡ find (nat_le generations) (map (λ bound. bound.generation) bounds.now) }
 {
-    let (first, second) = demands.differ?;
-    if posed.generations <= first {
+    bounds
+        .iter()
+        .map(|bound| bound.generation)
+        .find(|t| generations <= *t)
+}
+
+/// The first generation of two that have to differ that isn't below that number.
+fn missing_of_two(generations: u32, differ: Option<(u32, u32)>) -> Option<u32>
+    ensures { result ≡ find (nat_le generations) (option_map_or (λ pair. pair.0 ∷ pair.1 ∷ []) differ []) }
+{
+    let (first, second) = differ?;
+    if generations <= first {
         Some(first)
-    } else if posed.generations <= second {
+    } else if generations <= second {
         Some(second)
     } else {
         None
     }
+}
+
+/// The first generation that the demands name and the file hasn't.
+fn missing_generation(posed: &Posed, demands: &Demands) -> Option<u32>
+    ensures { result ≡ missing_generation posed.now demands.now }
+{
+    match missing_bound(posed.generations, demands.bounds.items()) {
+        Some(t) => Some(t),
+        None => missing_of_two(posed.generations, demands.differ),
+    }
+}
+
+/// How many cells each generation has.
+fn grid_size(posed: &Posed) -> u32
+    ensures size { result ≡ grid_size posed.now }
+    ensures some { 1 ≤ result }
+    ensures most { result ≤ History.MOST_HEIGHT * History.MOST_WIDTH }
+{
+    posed.width * posed.height
+}
+
+/// The generation of the first bound that has nothing between its ends.
+fn crossing(posed: &Posed, demands: &Demands) -> Option<u32>
+    ensures { result ≡ crossing posed.now demands.now }
+{
+    let size = grid_size(posed);
+    demands
+        .bounds
+        .items()
+        .iter()
+        .find(|bound| bound.crosses(size))
+        .map(|bound| bound.generation)
+}
+
+/// How many variables the counters of all bounds have, where that is too many.
+fn too_many(posed: &Posed, demands: &Demands) -> Option<u128>
+    requires { All HasEnds demands.now.bounds }
+    ensures { result ≡ too_many posed.now demands.now }
+{
+    let count = counters(grid_size(posed), demands.bounds.items());
+    if count > Bounds::MOST_COUNTERS as u128 {
+        Some(count)
+    } else {
+        None
+    }
+}
+
+/// How many variables the counters of those bounds have.
+fn counters(size: u32, bounds: &[Bound]) -> u128
+    requires size { size ≤ History.MOST_CELLS }
+    requires ends { All HasEnds bounds.now }
+    ensures { result ≡ all_counter_vars size bounds.now }
+{
+    let mut count = 0u128;
+    for bound in bounds {
+        count += bound.counter_vars(size) as u128;
+    }
+    count
 }
 
 /// The length of the period, where it isn't less than the number of generations.

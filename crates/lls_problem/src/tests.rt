@@ -1,13 +1,15 @@
 // Histories judged by problems, with answers worked out by hand.
+ghost use Rattle.std.specs.Prelude.{◌≤◌, ◌↔◌, All, IfOk, IsTrue};
 ghost use Rattle.std.specs.Option.{ForSome};
+ghost use Rattle.lls_problem.specs.Bounds.{HasEnds};
 ghost use Rattle.lls_problem.specs.Problem.{IsPeriod};
 
-use crate::{DemandError, Demands, Edge, Judgement, Period, judge, make_problem};
+use crate::{Bound, Bounds, DemandError, Demands, Edge, Judgement, Period, judge, make_problem};
 use lls_grid::History;
 use lls_rule::Rule;
 use lls_search_file::{read_history, read_posed};
 use lls_symmetry::Symmetry;
-use std::alloc::Global;
+use std::alloc::{AllocError, Global};
 use std::test::Fail;
 
 // What `judge` says of a file, a rule, demands and a pattern.
@@ -18,7 +20,8 @@ fn judged(
     demands: Demands,
     pattern: &[u8],
 ) -> Result<Judgement, Fail>
-    requires { ForSome demands.period IsPeriod }
+    requires period { ForSome demands.period IsPeriod }
+    requires bounds { All HasEnds demands.bounds }
 {
     let problem = make_problem(read_posed(alloc, file)?, rule, demands)?;
     Ok(judge(&problem, &read_history(alloc, pattern)?))
@@ -26,6 +29,7 @@ fn judged(
 
 #[test]
 fn files_of_one_row(rt: HostRuntime) -> Result<(), Fail> {
+    let alloc = rt.alloc();
     let life = Rule::from_counts(0b0_0000_1000, 0b0_0000_1100);
     let rows: [(&[u8], &[u8], Edge, Judgement); 18] = [
         (b"1\n\n1", b"1\n\n1", Edge::Framed, Judgement::Rule(1, 0, 0)),
@@ -84,7 +88,7 @@ fn files_of_one_row(rt: HostRuntime) -> Result<(), Fail> {
     ];
     for (file, pattern, edge, answer) in rows {
         assert_eq!(rt;
-            judged(rt.alloc(), file, life, Demands::new(edge), pattern)?,
+            judged(alloc, file, life, Demands::new(alloc, edge), pattern)?,
             answer
         );
     }
@@ -164,11 +168,17 @@ fn blinkers_blocks_and_gliders(rt: HostRuntime) -> Result<(), Fail> {
     ];
     for (file, pattern, closed, open) in rows {
         assert_eq!(rt;
-            judged(alloc, file, life, Demands::new(Edge::Framed), pattern)?,
+            judged(
+                alloc,
+                file,
+                life,
+                Demands::new(alloc, Edge::Framed),
+                pattern
+            )?,
             closed
         );
         assert_eq!(rt;
-            judged(alloc, file, life, Demands::new(Edge::Bare), pattern)?,
+            judged(alloc, file, life, Demands::new(alloc, Edge::Bare), pattern)?,
             open
         );
     }
@@ -178,6 +188,7 @@ fn blinkers_blocks_and_gliders(rt: HostRuntime) -> Result<(), Fail> {
 // A dead cell without live neighbours is born, and every cell dies: outside the grid the background blinks.
 #[test]
 fn blinking_background(rt: HostRuntime) -> Result<(), Fail> {
+    let alloc = rt.alloc();
     let blinking = Rule::from_counts(1, 0);
     let rows: [(&[u8], Judgement); 4] = [
         (b"0\n\n1\n\n0", Judgement::Meets),
@@ -188,10 +199,10 @@ fn blinking_background(rt: HostRuntime) -> Result<(), Fail> {
     for (pattern, answer) in rows {
         assert_eq!(rt;
             judged(
-                rt.alloc(),
+                alloc,
                 b"*\n\n*\n\n*",
                 blinking,
-                Demands::new(Edge::Framed),
+                Demands::new(alloc, Edge::Framed),
                 pattern
             )?,
             answer
@@ -203,6 +214,7 @@ fn blinking_background(rt: HostRuntime) -> Result<(), Fail> {
 // One live cell, and four that a quarter turn takes to one another, under each symmetry.
 #[test]
 fn symmetries(rt: HostRuntime) -> Result<(), Fail> {
+    let alloc = rt.alloc();
     let life = Rule::from_counts(0b0_0000_1000, 0b0_0000_1100);
     let file: &[u8] = b"* * * *\n* * * *\n* * * *\n* * * *";
     let one: &[u8] = b"0 0 0 0\n0 0 0 0\n0 1 0 0\n0 0 0 0";
@@ -249,20 +261,21 @@ fn symmetries(rt: HostRuntime) -> Result<(), Fail> {
     ];
     for (symmetry, of_one, of_rotor) in rows {
         for (pattern, answer) in [(one, of_one), (rotor, of_rotor)] {
-            let mut demands = Demands::new(Edge::Framed);
+            let mut demands = Demands::new(alloc, Edge::Framed);
             demands.symmetry = symmetry;
-            assert_eq!(rt; judged(rt.alloc(), file, life, demands, pattern)?, answer);
+            assert_eq!(rt; judged(alloc, file, life, demands, pattern)?, answer);
         }
     }
     Ok(())
 }
 
 // The demands of a period and a shift, under the closed edge.
-fn moved(length: u32, dx: i32, dy: i32) -> Demands
+fn moved(alloc: Global, length: u32, dx: i32, dy: i32) -> Demands
     requires { IsPeriod (record { length = length; dx = dx; dy = dy }) }
-    ensures { ForSome result.period IsPeriod }
+    ensures period { ForSome result.period IsPeriod }
+    ensures bounds { All HasEnds result.bounds }
 {
-    let mut demands = Demands::new(Edge::Framed);
+    let mut demands = Demands::new(alloc, Edge::Framed);
     demands.period = Some(Period { length, dx, dy });
     demands
 }
@@ -271,6 +284,7 @@ fn moved(length: u32, dx: i32, dy: i32) -> Demands
 // into the grid and out of it.
 #[test]
 fn periods_and_shifts(rt: HostRuntime) -> Result<(), Fail> {
+    let alloc = rt.alloc();
     let life = Rule::from_counts(0b0_0000_1000, 0b0_0000_1100);
     let free: &[u8] =
         b"* * * *\n* * * *\n* * * *\n* * * *\n\n* * * *\n* * * *\n* * * *\n* * * *\n\n* * * *\n* * * *\n* * * *\n* * * *\n\n* * * *\n* * * *\n* * * *\n* * * *\n\n* * * *\n* * * *\n* * * *\n* * * *";
@@ -297,7 +311,7 @@ fn periods_and_shifts(rt: HostRuntime) -> Result<(), Fail> {
     for (file, pattern, length, dx, dy, answer) in rows {
         assert!(rt; 1 <= length && length <= 63 && -64 <= dx && dx <= 64 && -64 <= dy && dy <= 64);
         assert_eq!(rt;
-            judged(rt.alloc(), file, life, moved(length, dx, dy), pattern)?,
+            judged(alloc, file, life, moved(alloc, length, dx, dy), pattern)?,
             answer
         );
     }
@@ -307,6 +321,7 @@ fn periods_and_shifts(rt: HostRuntime) -> Result<(), Fail> {
 // Where the background blinks it is there again after two generations and not after one.
 #[test]
 fn periods_of_a_blinking_background(rt: HostRuntime) -> Result<(), Fail> {
+    let alloc = rt.alloc();
     let blinking = Rule::from_counts(1, 0);
     let file: &[u8] = b"*\n\n*\n\n*";
     let rows: [(&[u8], u32, i32, Judgement); 6] = [
@@ -320,7 +335,7 @@ fn periods_of_a_blinking_background(rt: HostRuntime) -> Result<(), Fail> {
     for (pattern, length, dx, answer) in rows {
         assert!(rt; 1 <= length && length <= 63 && -64 <= dx && dx <= 64);
         assert_eq!(rt;
-            judged(rt.alloc(), file, blinking, moved(length, dx, 0), pattern)?,
+            judged(alloc, file, blinking, moved(alloc, length, dx, 0), pattern)?,
             answer
         );
     }
@@ -329,6 +344,7 @@ fn periods_of_a_blinking_background(rt: HostRuntime) -> Result<(), Fail> {
 
 #[test]
 fn differing_generations(rt: HostRuntime) -> Result<(), Fail> {
+    let alloc = rt.alloc();
     let life = Rule::from_counts(0b0_0000_1000, 0b0_0000_1100);
     let three: &[u8] = b"* * *\n* * *\n* * *\n\n* * *\n* * *\n* * *";
     let free: &[u8] = b"* *\n* *\n\n*' *'\n*' *'";
@@ -348,16 +364,167 @@ fn differing_generations(rt: HostRuntime) -> Result<(), Fail> {
         (free, b"0 0\n0 0\n\n0 0\n0 0", (0, 1), Judgement::Same),
     ];
     for (file, pattern, pair, answer) in rows {
-        let mut demands = Demands::new(Edge::Framed);
+        let mut demands = Demands::new(alloc, Edge::Framed);
         demands.differ = Some(pair);
-        assert_eq!(rt; judged(rt.alloc(), file, life, demands, pattern)?, answer);
+        assert_eq!(rt; judged(alloc, file, life, demands, pattern)?, answer);
     }
+    Ok(())
+}
+
+// Whether the ends of a bound are within the limit.
+fn has_ends(bound: Bound) -> bool
+    ensures { IsTrue result ↔ HasEnds bound }
+{
+    if bound.low > Bound::MOST {
+        return false;
+    }
+    match bound.high {
+        Some(high) => high <= Bound::MOST,
+        None => true,
+    }
+}
+
+// The demands of two bounds, under the closed edge.
+fn bounded(alloc: Global, first: Bound, second: Bound) -> Result<Demands, AllocError>
+    requires first { HasEnds first }
+    requires second { HasEnds second }
+    ensures period { IfOk result (λ demands. ForSome demands.period IsPeriod) }
+    ensures bounds { IfOk result (λ demands. All HasEnds demands.bounds) }
+{
+    let mut bounds = Vec::new(alloc);
+    bounds.push(first)?;
+    bounds.push(second)?;
+    let mut demands = Demands::new(alloc, Edge::Framed);
+    demands.bounds = Bounds::new(bounds);
+    Ok(demands)
+}
+
+// At least `low` and at most `high` live cells in generation t.
+fn bound(t: u32, low: u32, high: Option<u32>) -> Bound {
+    Bound {
+        generation: t,
+        low,
+        high,
+    }
+}
+
+#[test]
+fn populations(rt: HostRuntime) -> Result<(), Fail> {
+    let alloc = rt.alloc();
+    let life = Rule::from_counts(0b0_0000_1000, 0b0_0000_1100);
+    let row: &[u8] = b"* * *";
+    let two: &[u8] = b"* * *\n* * *\n\n*' *' *'\n*' *' *'";
+    let both: &[u8] = b"1 0 0\n0 0 1\n\n0 0 0\n0 1 0";
+    let any = bound(0, 0, None);
+    let rows: [(&[u8], &[u8], Bound, Bound, Judgement); 13] = [
+        (
+            row,
+            b"0 0 0",
+            bound(0, 1, None),
+            any,
+            Judgement::Population(0, 0),
+        ),
+        (row, b"0 1 0", bound(0, 1, None), any, Judgement::Meets),
+        (
+            row,
+            b"1 1 1",
+            bound(0, 0, Some(2)),
+            any,
+            Judgement::Population(0, 3),
+        ),
+        (row, b"1 0 1", bound(0, 0, Some(2)), any, Judgement::Meets),
+        (
+            row,
+            b"1 1 1",
+            bound(0, 3, Some(8192)),
+            any,
+            Judgement::Meets,
+        ),
+        (
+            row,
+            b"0 0 1",
+            bound(0, 0, Some(0)),
+            any,
+            Judgement::Population(0, 1),
+        ),
+        (
+            b"a -a a",
+            b"1 0 1",
+            bound(0, 0, Some(1)),
+            any,
+            Judgement::Population(0, 2),
+        ),
+        (
+            two,
+            both,
+            bound(0, 2, Some(2)),
+            bound(1, 1, Some(1)),
+            Judgement::Meets,
+        ),
+        (
+            two,
+            both,
+            bound(0, 2, Some(2)),
+            bound(1, 2, None),
+            Judgement::Population(1, 1),
+        ),
+        (
+            two,
+            both,
+            bound(1, 2, None),
+            bound(0, 0, Some(1)),
+            Judgement::Population(1, 1),
+        ),
+        (
+            two,
+            both,
+            bound(0, 1, Some(3)),
+            bound(0, 0, Some(1)),
+            Judgement::Population(0, 2),
+        ),
+        (
+            two,
+            both,
+            bound(0, 0, Some(1)),
+            bound(0, 3, None),
+            Judgement::Population(0, 2),
+        ),
+        (
+            b"*\n\n*",
+            b"1\n\n1",
+            bound(0, 0, Some(0)),
+            any,
+            Judgement::Rule(1, 0, 0),
+        ),
+    ];
+    for (file, pattern, first, second, answer) in rows {
+        assert!(rt; has_ends(first) && has_ends(second));
+        let demands = bounded(alloc, first, second)?;
+        assert_eq!(rt; judged(alloc, file, life, demands, pattern)?, answer);
+    }
+    Ok(())
+}
+
+// A bound comes before two generations that have to differ.
+#[test]
+fn population_before_difference(rt: HostRuntime) -> Result<(), Fail> {
+    let alloc = rt.alloc();
+    let life = Rule::from_counts(0b0_0000_1000, 0b0_0000_1100);
+    let (some, any) = (bound(1, 1, None), bound(0, 0, None));
+    assert!(rt; has_ends(some) && has_ends(any));
+    let mut demands = bounded(alloc, some, any)?;
+    demands.differ = Some((0, 1));
+    assert_eq!(rt;
+        judged(alloc, b"*\n\n*", life, demands, b"0\n\n0")?,
+        Judgement::Population(1, 0)
+    );
     Ok(())
 }
 
 // Of several broken demands the first in their order is answered.
 #[test]
 fn order_of_demands(rt: HostRuntime) -> Result<(), Fail> {
+    let alloc = rt.alloc();
     let life = Rule::from_counts(0b0_0000_1000, 0b0_0000_1100);
     let rows: [(&[u8], &[u8], Judgement); 4] = [
         (b"a -a\n\n* *", b"1 1\n\n0 0", Judgement::Name(0, 0, 1)),
@@ -366,10 +533,10 @@ fn order_of_demands(rt: HostRuntime) -> Result<(), Fail> {
         (b"* *\n\n* *", b"0 0\n\n0 0", Judgement::Same),
     ];
     for (file, pattern, answer) in rows {
-        let mut demands = moved(1, 0, 0);
+        let mut demands = moved(alloc, 1, 0, 0);
         demands.symmetry = Symmetry::C2;
         demands.differ = Some((0, 1));
-        assert_eq!(rt; judged(rt.alloc(), file, life, demands, pattern)?, answer);
+        assert_eq!(rt; judged(alloc, file, life, demands, pattern)?, answer);
     }
     Ok(())
 }
@@ -377,6 +544,7 @@ fn order_of_demands(rt: HostRuntime) -> Result<(), Fail> {
 // Demands that don't fit the file.
 #[test]
 fn demands_refused(rt: HostRuntime) -> Result<(), Fail> {
+    let alloc = rt.alloc();
     let life = Rule::from_counts(0b0_0000_1000, 0b0_0000_1100);
     let rows: [(&[u8], Symmetry, u32, (u32, u32), DemandError); 7] = [
         (
@@ -425,11 +593,162 @@ fn demands_refused(rt: HostRuntime) -> Result<(), Fail> {
     ];
     for (file, symmetry, length, pair, fault) in rows {
         assert!(rt; 1 <= length && length <= 63);
-        let mut demands = moved(length, 0, 0);
+        let mut demands = moved(alloc, length, 0, 0);
         demands.symmetry = symmetry;
         demands.differ = Some(pair);
-        let problem = make_problem(read_posed(rt.alloc(), file)?, life, demands);
+        let problem = make_problem(read_posed(alloc, file)?, life, demands);
         assert_eq!(rt; problem.err(), Some(fault));
+    }
+    Ok(())
+}
+
+// The demands with a period of that length, where it isn't 0.
+fn with_length(demands: Demands, length: u32) -> Demands
+    requires length { length ≤ 63 }
+    requires period { ForSome demands.period IsPeriod }
+    requires bounds { All HasEnds demands.bounds }
+    ensures period { ForSome result.period IsPeriod }
+    ensures bounds { All HasEnds result.bounds }
+{
+    if length == 0 {
+        return demands;
+    }
+    let mut demands = demands;
+    demands.period = Some(Period {
+        length,
+        dx: 0,
+        dy: 0,
+    });
+    demands
+}
+
+// One generation of 64 by 64 free cells.
+fn large_file(alloc: Global) -> Result<Vec<u8>, AllocError> {
+    let mut text = Vec::new(alloc);
+    for _row in 0..64 {
+        for _column in 0..64 {
+            text.extend_from_slice(b"* ")?;
+        }
+        text.push(b'\n')?;
+    }
+    Ok(text)
+}
+
+// Bounds that don't fit the file, beside a period and two generations that have to differ.
+#[test]
+fn bounds_refused(rt: HostRuntime) -> Result<(), Fail> {
+    let alloc = rt.alloc();
+    let life = Rule::from_counts(0b0_0000_1000, 0b0_0000_1100);
+    let large = large_file(alloc)?;
+    let one: &[u8] = b"*";
+    let two: &[u8] = b"* *\n\n* *";
+    let any = bound(0, 0, None);
+    let rows: [(&[u8], Bound, Bound, u32, (u32, u32), Option<DemandError>); 14] = [
+        (
+            two,
+            bound(2, 0, None),
+            any,
+            1,
+            (3, 3),
+            Some(DemandError::NoGeneration(2)),
+        ),
+        (
+            two,
+            any,
+            bound(4, 0, None),
+            1,
+            (3, 3),
+            Some(DemandError::NoGeneration(4)),
+        ),
+        (
+            two,
+            bound(1, 0, None),
+            any,
+            1,
+            (3, 3),
+            Some(DemandError::NoGeneration(3)),
+        ),
+        (
+            two,
+            bound(0, 2, Some(1)),
+            bound(2, 0, None),
+            1,
+            (0, 1),
+            Some(DemandError::NoGeneration(2)),
+        ),
+        (
+            two,
+            bound(0, 2, Some(1)),
+            any,
+            1,
+            (0, 2),
+            Some(DemandError::NoGeneration(2)),
+        ),
+        (
+            one,
+            bound(0, 3, Some(1)),
+            any,
+            1,
+            (0, 0),
+            Some(DemandError::BoundsCross(0)),
+        ),
+        (
+            two,
+            any,
+            bound(1, 3, None),
+            1,
+            (0, 1),
+            Some(DemandError::BoundsCross(1)),
+        ),
+        (
+            two,
+            bound(1, 3, Some(8192)),
+            bound(0, 2, Some(1)),
+            2,
+            (0, 1),
+            Some(DemandError::BoundsCross(1)),
+        ),
+        (two, bound(1, 2, Some(2)), any, 1, (0, 1), None),
+        (
+            &large,
+            bound(0, 0, Some(300)),
+            any,
+            1,
+            (0, 0),
+            Some(DemandError::PeriodTooLong(1)),
+        ),
+        (
+            &large,
+            bound(0, 0, Some(300)),
+            any,
+            0,
+            (0, 0),
+            Some(DemandError::Counters(1_232_896)),
+        ),
+        (&large, bound(0, 0, Some(243)), any, 0, (0, 0), None),
+        (
+            &large,
+            bound(0, 244, None),
+            bound(0, 0, Some(0)),
+            0,
+            (0, 0),
+            Some(DemandError::Counters(1_003_520)),
+        ),
+        (
+            &large,
+            bound(0, 245, Some(8192)),
+            any,
+            0,
+            (0, 0),
+            Some(DemandError::Counters(1_003_520)),
+        ),
+    ];
+    for (file, first, second, length, pair, fault) in rows {
+        assert!(rt; has_ends(first) && has_ends(second) && length <= 63);
+        let mut demands = with_length(bounded(alloc, first, second)?, length);
+        demands.differ = Some(pair);
+        let problem = make_problem(read_posed(alloc, file)?, life, demands);
+        assert_eq!(rt; problem.err(), fault);
     }
     Ok(())
 }
@@ -446,7 +765,7 @@ fn largest_file(rt: HostRuntime) -> Result<(), Fail> {
         text.extend_from_slice(if row == 63 { b"\n\n" } else { b"\n" })?;
     }
     let life = Rule::from_counts(0b0_0000_1000, 0b0_0000_1100);
-    let demands = Demands::new(Edge::Framed);
+    let demands = Demands::new(alloc, Edge::Framed);
     let problem = make_problem(read_posed(alloc, &text)?, life, demands)?;
     let history = History::new(alloc, 2, 64, 64)?;
     assert_eq!(rt; judge(&problem, &history), Judgement::Meets);

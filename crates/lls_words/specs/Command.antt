@@ -21,6 +21,7 @@ setting_of name =
     if bytes_eq name (codes "edge") then Some settings.Edge else
     if bytes_eq name (codes "symmetry") then Some settings.Symmetry else
     if bytes_eq name (codes "period") then Some settings.Period else
+    if bytes_eq name (codes "live") then Some settings.Live else
     if bytes_eq name (codes "differ") then Some settings.Differ else None
 
 abbrev pub operand_count : Command → ℕ
@@ -32,7 +33,7 @@ operand_count commands.Rule = 1
 
 -- the rule and the demands of a problem
 abbrev pub problem_options : List Setting
-problem_options = settings.Rule ∷ settings.Edge ∷ settings.Symmetry ∷ settings.Period ∷ settings.Differ ∷ []
+problem_options = settings.Rule ∷ settings.Edge ∷ settings.Symmetry ∷ settings.Period ∷ settings.Live ∷ settings.Differ ∷ []
 
 -- the options that a command takes
 abbrev pub options_of : Command → List Setting
@@ -48,7 +49,8 @@ table_place settings.Rule = 0
 table_place settings.Edge = 1
 table_place settings.Symmetry = 2
 table_place settings.Period = 3
-table_place settings.Differ = 4
+table_place settings.Live = 4
+table_place settings.Differ = 5
 
 abbrev pub same_setting : Setting → Setting → Bool
 same_setting a b = table_place a == table_place b

@@ -1,5 +1,5 @@
 -- The job of a command line, or its first fault.
-use Rattle.std.specs.Prelude.{ℕ, Bool, List, [], ◌∷◌, length, Option, None, Some, Result, Ok, Err}
+use Rattle.std.specs.Prelude.{ℕ, Bool, List, [], ◌∷◌, length, All, Option, None, Some, Result, Ok, Err}
 use Rattle.std.specs.Option.{ForSome}
 use Rattle.lls_rule.specs.Rule.{table_of, by_counts}
 use Rattle.lls_hensel.specs.declared.read.RuleError.{RuleError}
@@ -9,6 +9,7 @@ use Rattle.lls_hensel.specs.Entries.{next_of}
 use Rattle.lls_symmetry.specs.Symmetry.{symmetry_of}
 use Rattle.lls_problem.specs.declared.demands.Edge.TheVariants.{Framed}
 use Rattle.lls_problem.specs.declared.demands.Demands.{Demands}
+use Rattle.lls_problem.specs.Bounds.{HasEnds}
 use Rattle.lls_problem.specs.Problem.{edge_alone, IsPeriod}
 use Rattle.lls_words.specs.declared.command.Command.{Command}
 use Rattle.lls_words.specs.declared.command.Command.TheVariants as commands
@@ -22,7 +23,7 @@ use Rattle.lls_words.specs.declared.error.WordsError.TheVariants.{NoCommand, Unk
 use Rattle.lls_words.specs.Command.{command_of, operand_count}
 use Rattle.lls_base.specs.Results.{and_then}
 use Rattle.lls_words.specs.Scan.{Operand, Given, scan}
-use Rattle.lls_words.specs.Values.{edge_in, period_in, generations_in}
+use Rattle.lls_words.specs.Values.{edge_in, period_in, bounds_in, generations_in}
 
 -- a rule text at a place
 abbrev pub rule_or : ℕ → Result (List Bool) RuleError → Result (List Bool) WordsError
@@ -52,6 +53,8 @@ setting_value s place text settings.Symmetry =
     and_then (value_or place (symmetry_of text)) (λ symmetry. Ok (with_demands s (record s.demands { symmetry = symmetry })))
 setting_value s place text settings.Period =
     and_then (value_or place (period_in text)) (λ period. Ok (with_demands s (record s.demands { period = Some period })))
+setting_value s place text settings.Live =
+    and_then (value_or place (bounds_in text)) (λ bounds. Ok (with_demands s (record s.demands { bounds = bounds })))
 setting_value s place text settings.Differ =
     and_then (value_or place (generations_in text)) (λ pair. Ok (with_demands s (record s.demands { differ = Some pair })))
 
@@ -90,10 +93,15 @@ abbrev pub job_of : List (List ℕ) → Result Job WordsError
 job_of [] = Err NoCommand
 job_of (name ∷ words) = job_of_command (command_of name) words
 
--- what the words keep: a period is within the limits, and a rule that is to be printed is isotropic
+-- a period and bounds within the limits
+pub record AreWithinLimits (demands : Demands) : Type 0 where
+  pub period : ForSome demands.period IsPeriod
+  pub bounds : All HasEnds demands.bounds
+
+-- what the words keep: demands are within the limits, and a rule that is to be printed is isotropic
 abbrev pub KeepsLimits : Job → Type 0
-KeepsLimits (jobs.Check search_file proof rule demands) = ForSome demands.period IsPeriod
-KeepsLimits (jobs.Judge search_file pattern rule demands) = ForSome demands.period IsPeriod
-KeepsLimits (jobs.Cnf search_file rule demands) = ForSome demands.period IsPeriod
+KeepsLimits (jobs.Check search_file proof rule demands) = AreWithinLimits demands
+KeepsLimits (jobs.Judge search_file pattern rule demands) = AreWithinLimits demands
+KeepsLimits (jobs.Cnf search_file rule demands) = AreWithinLimits demands
 KeepsLimits (jobs.Lrat formula proof) = Unit {0}
 KeepsLimits (jobs.Rule rule) = IsIsotropic rule

@@ -1,11 +1,14 @@
 -- The values of options.
 use Rattle.std.specs.Prelude.{ℕ, ◌+◌, ◌-◌, ℤ, pos, ◌-ℤ◌, ◌==◌, ◌&&◌, nat_le, Bool, List, [], ◌∷◌, length, take, drop, position, codes, Option, None, Some, if◌then◌else◌}
 use Rattle.std.specs.Option.{option_map, option_and_then}
+use Rattle.std.specs.List.{slice_split}
 use Rattle.std.specs.Str.{bytes_eq}
 use Rattle.std.specs.Str.Parse.{digits_value}
 use Rattle.lls_text.specs.Digits.{is_digits}
 use Rattle.lls_grid.specs.declared.history.TheConstants.History.{MOST_GENERATIONS}
 use Rattle.lls_symmetry.specs.declared.moved.TheConstants.{MOST_SHIFT, MOST_PERIOD}
+use Rattle.lls_problem.specs.declared.bounds.Bound.{Bound}
+use Rattle.lls_problem.specs.declared.bounds.TheConstants.Bound.{MOST}
 use Rattle.lls_problem.specs.declared.demands.Edge.{Edge}
 use Rattle.lls_problem.specs.declared.demands.Edge.TheVariants.{Framed, Bare}
 use Rattle.lls_problem.specs.declared.demands.Period.{Period}
@@ -17,12 +20,19 @@ edge_in text =
     if bytes_eq text (codes "closed") then Some Framed else
     if bytes_eq text (codes "open") then Some Bare else None
 
-abbrev pub is_comma : ℕ → Bool
-is_comma byte = byte == 44
+-- what separates the parts of a value
+abbrev pub comma : ℕ
+comma = 44
 
--- what stands before the first comma of a text, and behind it
-abbrev pub cut_at_comma : List ℕ → Option (List ℕ × List ℕ)
-cut_at_comma text = option_map (λ at. (take at text, drop (at + 1) text)) (position is_comma text)
+abbrev pub colon : ℕ
+colon = 58
+
+abbrev pub dash : ℕ
+dash = 45
+
+-- what stands before the first such byte of a text, and behind it
+abbrev pub cut_at : ℕ → List ℕ → Option (List ℕ × List ℕ)
+cut_at byte text = option_map (λ at. (take at text, drop (at + 1) text)) (position (λ b. b == byte) text)
 
 -- digits alone, at least one and not too many
 abbrev pub natural_in : List ℕ → Option ℕ
@@ -52,10 +62,10 @@ shifted length shifts = option_and_then (λ dx. option_map (period_of length dx)
 abbrev pub period_cut : List ℕ → Option (List ℕ × List ℕ) → Option Period
 period_cut text None = option_map (λ length. period_of length (pos 0) (pos 0)) (number_in 1 MOST_PERIOD text)
 period_cut text (Some parts) =
-    option_and_then (λ length. option_and_then (shifted length) (cut_at_comma parts.1)) (number_in 1 MOST_PERIOD parts.0)
+    option_and_then (λ length. option_and_then (shifted length) (cut_at comma parts.1)) (number_in 1 MOST_PERIOD parts.0)
 
 abbrev pub period_in : List ℕ → Option Period
-period_in text = period_cut text (cut_at_comma text)
+period_in text = period_cut text (cut_at comma text)
 
 -- a generation that some file may have
 abbrev pub generation_in : List ℕ → Option ℕ
@@ -65,4 +75,35 @@ abbrev pub both_generations : List ℕ × List ℕ → Option (ℕ × ℕ)
 both_generations parts = option_and_then (λ first. option_map (λ second. (first, second)) (generation_in parts.1)) (generation_in parts.0)
 
 abbrev pub generations_in : List ℕ → Option (ℕ × ℕ)
-generations_in text = option_and_then both_generations (cut_at_comma text)
+generations_in text = option_and_then both_generations (cut_at comma text)
+
+-- the ends of a bound: no low end is 0, and no high end is none
+abbrev pub low_in : List ℕ → Option ℕ
+low_in [] = Some 0
+low_in (b ∷ bs) = number_in 0 MOST (b ∷ bs)
+
+abbrev pub high_in : List ℕ → Option (Option ℕ)
+high_in [] = Some None
+high_in (b ∷ bs) = option_map (λ high. Some high) (number_in 0 MOST (b ∷ bs))
+
+abbrev pub bound_of : ℕ → ℕ → Option ℕ → Bound
+bound_of t low high = record { generation = t; low = low; high = high }
+
+abbrev pub ends_in : ℕ → List ℕ × List ℕ → Option Bound
+ends_in t parts = option_and_then (λ low. option_map (bound_of t low) (high_in parts.1)) (low_in parts.0)
+
+abbrev pub bound_cut : List ℕ × List ℕ → Option Bound
+bound_cut parts = option_and_then (λ t. option_and_then (ends_in t) (cut_at dash parts.1)) (generation_in parts.0)
+
+-- a generation, a colon, and two ends with a dash between them
+abbrev pub bound_in : List ℕ → Option Bound
+bound_in text = option_and_then bound_cut (cut_at colon text)
+
+-- what each text writes, where each writes something
+abbrev pub all_in : {X : Type 0} → (List ℕ → Option X) → List (List ℕ) → Option (List X)
+all_in read [] = Some []
+all_in read (text ∷ texts) = option_and_then (λ value. option_map (λ values. value ∷ values) (all_in read texts)) (read text)
+
+-- bounds, separated by commas
+abbrev pub bounds_in : List ℕ → Option (List Bound)
+bounds_in text = all_in bound_in (slice_split (λ b. b == comma) text)

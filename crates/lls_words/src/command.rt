@@ -19,6 +19,7 @@ pub enum Setting {
     Edge,
     Symmetry,
     Period,
+    Live,
     Differ,
 }
 
@@ -62,6 +63,7 @@ impl Command {
                 Setting::Edge,
                 Setting::Symmetry,
                 Setting::Period,
+                Setting::Live,
                 Setting::Differ,
             ],
             Command::Lrat | Command::Rule => &[],
@@ -89,6 +91,8 @@ impl Setting {
             Some(Setting::Symmetry)
         } else if name == b"period".as_slice() {
             Some(Setting::Period)
+        } else if name == b"live".as_slice() {
+            Some(Setting::Live)
         } else if name == b"differ".as_slice() {
             Some(Setting::Differ)
         } else {

@@ -1,20 +1,22 @@
 // The values of a command's options.
-ghost use Rattle.std.specs.Prelude.{◌≡◌, map, IfOk};
+ghost use Rattle.std.specs.Prelude.{◌≡◌, map, All, IfOk};
+ghost use Rattle.lls_base.specs.Results.{Gives};
 ghost use Rattle.lls_hensel.specs.Isotropy.{IsIsotropic};
-ghost use Rattle.std.specs.Option.{ForSome};
+ghost use Rattle.lls_problem.specs.Bounds.{HasEnds};
 ghost use Rattle.lls_problem.specs.Problem.{IsPeriod};
-ghost use Rattle.lls_words.specs.Job.{rule_at, value_or, with_value, settled, defaults};
-ghost use Rattle.lls_words.specs.Values.{period_in};
+ghost use Rattle.lls_words.specs.Job.{rule_at, value_or, with_value, settled, defaults, AreWithinLimits};
+ghost use Rattle.lls_words.specs.Values.{period_in, bounds_in};
 ghost use Rattle.lls_words.specs.Seen.{seen_given};
 
 use crate::command::Setting;
 use crate::error::WordsError;
 use crate::scan::Given;
-use crate::values::{edge_in, generations_in, period_in};
+use crate::values::{bounds_in, edge_in, generations_in, period_in};
 use lls_hensel::read_rule;
-use lls_problem::{Demands, Edge, Period};
+use lls_problem::{Bounds, Demands, Edge, Period};
 use lls_rule::Rule;
 use lls_symmetry::read_symmetry;
+use std::alloc::Global;
 
 /// The values of all options.
 #[derive(Drop)]
@@ -25,20 +27,20 @@ pub struct Settings {
 
 impl Settings {
     /// Life, `B3/S23`, under a closed edge.
-    fn default_values() -> Settings
+    fn default_values(alloc: Global) -> Settings
         ensures { result ≡ defaults }
     {
         Settings {
             rule: Rule::from_counts(8, 12),
-            demands: Demands::new(Edge::Framed),
+            demands: Demands::new(alloc, Edge::Framed),
         }
     }
 
     /// The settings with the value of one option.
-    fn with_value(self, given: &Given) -> Result<Settings, WordsError>
-        requires { ForSome self.demands.period IsPeriod }
-        ensures value { result ≡ with_value self (seen_given given.now) }
-        ensures period { IfOk result (λ s. ForSome s.demands.period IsPeriod) }
+    fn with_value(self, alloc: Global, given: &Given) -> Result<Settings, WordsError>
+        requires { AreWithinLimits self.demands }
+        ensures value { Gives WordsError.Memory (λ s. s) result (with_value self (seen_given given.now)) }
+        ensures limits { IfOk result (λ s. AreWithinLimits s.demands) }
     {
         let mut settings = self;
         let fault = WordsError::BadValue(given.place);
@@ -49,6 +51,9 @@ impl Settings {
                 fault,
             )?,
             Setting::Period => settings.demands.period = Some(period_at(given.place, given.value)?),
+            Setting::Live => {
+                settings.demands.bounds = bounds_at(alloc, given.place, given.value)?;
+            }
             Setting::Differ => {
                 settings.demands.differ = Some(generations_in(given.value).ok_or(fault)?);
             }
@@ -79,14 +84,25 @@ fn period_at(place: u64, text: &[u8]) -> Result<Period, WordsError>
     }
 }
 
-/// The settings of a command's options, in their order.
-pub fn settle(givens: &[Given]) -> Result<Settings, WordsError>
-    ensures settings { result ≡ settled defaults (map seen_given givens.now) }
-    ensures period { IfOk result (λ s. ForSome s.demands.period IsPeriod) }
+/// The bounds of a text; the place is its option's.
+fn bounds_at(alloc: Global, place: u64, text: &[u8]) -> Result<Bounds, WordsError>
+    ensures value { Gives WordsError.Memory (λ bounds. bounds) result (value_or place (bounds_in text.now)) }
+    ensures ends { IfOk result (All HasEnds) }
 {
-    let mut settings = Settings::default_values();
+    match bounds_in(alloc, text)? {
+        Some(bounds) => Ok(bounds),
+        None => Err(WordsError::BadValue(place)),
+    }
+}
+
+/// The settings of a command's options, in their order.
+pub fn settle(alloc: Global, givens: &[Given]) -> Result<Settings, WordsError>
+    ensures settings { Gives WordsError.Memory (λ s. s) result (settled defaults (map seen_given givens.now)) }
+    ensures limits { IfOk result (λ s. AreWithinLimits s.demands) }
+{
+    let mut settings = Settings::default_values(alloc);
     for given in givens {
-        settings = settings.with_value(given)?;
+        settings = settings.with_value(alloc, given)?;
     }
     Ok(settings)
 }

@@ -1,6 +1,6 @@
 // Command lines and the jobs or faults that they are read as.
 use crate::{Job, WordsError, read_job};
-use lls_problem::{Edge, Period};
+use lls_problem::{Bound, Demands, Edge, Period};
 use lls_symmetry::Symmetry;
 use std::alloc::{AllocError, Global};
 use std::test::Fail;
@@ -52,6 +52,24 @@ fn faults_are_named_by_their_place(rt: HostRuntime) -> Result<(), Fail> {
         ("judge f p --period 4,+1,0", "BadValue 4"),
         ("judge f p --period 000000000000000000004", "BadValue 4"),
         ("judge f p --period -4", "MissingValue 4"),
+        ("judge f p --live 0", "BadValue 4"),
+        ("judge f p --live 0:", "BadValue 4"),
+        ("judge f p --live 0:1", "BadValue 4"),
+        ("judge f p --live 1-2", "BadValue 4"),
+        ("judge f p --live :1-2", "BadValue 4"),
+        ("judge f p --live 64:1-2", "BadValue 4"),
+        ("judge f p --live 0:8193-", "BadValue 4"),
+        ("judge f p --live 0:-8193", "BadValue 4"),
+        ("judge f p --live 0:1-2-3", "BadValue 4"),
+        ("judge f p --live 0:1:-2", "BadValue 4"),
+        ("judge f p --live 0:--1", "BadValue 4"),
+        ("judge f p --live 0:1-2,", "BadValue 4"),
+        ("judge f p --live ,0:1-2", "BadValue 4"),
+        ("judge f p --live 0:1-2,,1:1-2", "BadValue 4"),
+        ("judge f p --live 0:000000000000000000001-", "BadValue 4"),
+        ("judge f p --live -0:1-2", "MissingValue 4"),
+        ("judge f p --live 0:- --live 0:-", "RepeatedOption 6"),
+        ("lrat f p --live 0:-", "UnknownOption 4"),
         ("judge f p --differ 0", "BadValue 4"),
         ("judge f p --differ 0,64", "BadValue 4"),
         ("judge f p --differ 0,1,2", "BadValue 4"),
@@ -104,27 +122,47 @@ fn options_and_operands_stand_in_any_order(rt: HostRuntime) -> Result<(), Fail> 
     Ok(())
 }
 
+// The demands of a job that has some.
+fn demands_of(job: Job) -> Result<Demands, Fail> {
+    match job {
+        Job::Check { demands, .. } => Ok(demands),
+        Job::Judge { demands, .. } => Ok(demands),
+        Job::Cnf { demands, .. } => Ok(demands),
+        Job::Lrat { .. } | Job::Rule { .. } => Err(Fail::from("a job with demands")),
+    }
+}
+
 #[test]
 fn demands_of_a_problem(rt: HostRuntime) -> Result<(), Fail> {
     let alloc = rt.alloc();
     let rows = [
-        "judge f --symmetry D2/ --period 07,-64,064 p --differ=63,0",
-        "check --differ 63,0 f --period=7,-64,64 --symmetry D2/ p",
-        "cnf --symmetry D2/ --differ 063,00 --period 7,-64,64 f",
+        "judge f --symmetry D2/ --period 07,-64,064 p --live 0:1-,063:-08192 --differ=63,0",
+        "check --live=000:0001-,63:0-8192 --differ 63,0 f --period=7,-64,64 --symmetry D2/ p",
+        "cnf --symmetry D2/ --differ 063,00 --live 0:1-,63:-8192 --period 7,-64,64 f",
     ];
     let period = Period {
         length: 7,
         dx: -64,
         dy: 64,
     };
+    let bounds = [
+        Bound {
+            generation: 0,
+            low: 1,
+            high: None,
+        },
+        Bound {
+            generation: 63,
+            low: 0,
+            high: Some(8192),
+        },
+    ];
     for line in rows {
         let words = words_of(alloc, line)?;
-        let Ok(Job::Judge { demands, .. } | Job::Check { demands, .. } | Job::Cnf { demands, .. }) =
-            read_job(alloc, &words) else {
-            return Err(Fail::from("a job with demands"));
-        };
+        let demands = demands_of(read_job(alloc, &words)?)?;
         assert_eq!(rt; demands.symmetry, Symmetry::D2Up, "at {line:?}");
         assert_eq!(rt; demands.period, Some(period), "at {line:?}");
+        assert!(rt; demands.bounds.items() == bounds.as_slice(), "at {line:?}");
         assert_eq!(rt; demands.differ, Some((63, 0)), "at {line:?}");
     }
     Ok(())

@@ -1,15 +1,17 @@
 // The values of options.
-ghost use Rattle.std.specs.Prelude.{◌≡◌, ◌≤◌, position, IfSome};
-ghost use Rattle.std.specs.Option.{option_map};
+ghost use Rattle.std.specs.Prelude.{◌≡◌, ◌≤◌, ◌==◌, position, All, IfOk, IfSome};
+ghost use Rattle.std.specs.Option.{ForSome, option_map};
 ghost use Rattle.lls_grid.specs.Place.{IsWithin};
+ghost use Rattle.lls_problem.specs.Bounds.{HasEnds};
 ghost use Rattle.lls_problem.specs.Problem.{IsPeriod};
-ghost use Rattle.lls_words.specs.Values.{edge_in, is_comma, cut_at_comma, number_in, shift_in, period_in, generation_in, generations_in};
+ghost use Rattle.lls_words.specs.Values.{edge_in, cut_at, number_in, shift_in, period_in, generation_in, generations_in, low_in, high_in, bound_in, bounds_in};
 ghost use Rattle.lls_words.specs.Seen.{seen_pair};
 
 use lls_grid::History;
-use lls_problem::{Edge, Period};
+use lls_problem::{Bound, Bounds, Edge, Period};
 use lls_symmetry::{MOST_PERIOD, MOST_SHIFT};
 use lls_text::digits_number;
+use std::alloc::{AllocError, Global};
 
 /// The greatest number of digits of a number.
 const MOST_DIGITS: usize = 20;
@@ -32,7 +34,7 @@ pub fn period_in(text: &[u8]) -> Option<Period>
     ensures period { result ≡ period_in text.now }
     ensures within { IfSome result IsPeriod }
 {
-    let Some((length, shifts)) = cut_at_comma(text) else {
+    let Some((length, shifts)) = cut_at(text, b',') else {
         let length = number_in(text, 1, MOST_PERIOD)?;
         return Some(Period {
             length,
@@ -41,7 +43,7 @@ pub fn period_in(text: &[u8]) -> Option<Period>
         });
     };
     let length = number_in(length, 1, MOST_PERIOD)?;
-    let (dx, dy) = cut_at_comma(shifts)?;
+    let (dx, dy) = cut_at(shifts, b',')?;
     let dx = shift_in(dx)?;
     let dy = shift_in(dy)?;
     Some(Period { length, dx, dy })
@@ -51,7 +53,7 @@ pub fn period_in(text: &[u8]) -> Option<Period>
 pub fn generations_in(text: &[u8]) -> Option<(u32, u32)>
     ensures { result ≡ generations_in text.now }
 {
-    let (first, second) = cut_at_comma(text)?;
+    let (first, second) = cut_at(text, b',')?;
     let first = generation_in(first)?;
     let second = generation_in(second)?;
     Some((first, second))
@@ -63,21 +65,82 @@ fn generation_in(text: &[u8]) -> Option<u32>
     number_in(text, 0, History::MOST_GENERATIONS - 1)
 }
 
-/// What stands before the first comma of a text, and behind it.
-fn cut_at_comma(text: &[u8]) -> Option<(&[u8], &[u8])>
-    ensures { option_map seen_pair result ≡ cut_at_comma text.now }
+/// The bounds of a text, separated by commas.
+pub fn bounds_in(alloc: Global, text: &[u8]) -> Result<Option<Bounds>, AllocError>
+    ensures bounds { IfOk result (λ bounds. bounds ≡ bounds_in text.now) }
+    ensures ends { IfOk result (λ bounds. IfSome bounds (All HasEnds)) }
 {
-    match first_comma(text) {
+    let mut bounds = Vec::new(alloc);
+    let mut rest = text;
+    while let Some((entry, behind)) = cut_at(rest, b',') {
+        let Some(bound) = bound_in(entry) else {
+            return Ok(None);
+        };
+        bounds.push(bound)?;
+        rest = behind;
+    }
+    let Some(last) = bound_in(rest) else {
+        return Ok(None);
+    };
+    bounds.push(last)?;
+    Ok(Some(Bounds::new(bounds)))
+}
+
+/// The bound of a text: a generation, `:`, the low end if any, `-`, and the high end if any.
+fn bound_in(text: &[u8]) -> Option<Bound>
+    ensures bound { result ≡ bound_in text.now }
+    ensures ends { IfSome result HasEnds }
+{
+    let (generation, ends) = cut_at(text, b':')?;
+    let generation = generation_in(generation)?;
+    let (low, high) = cut_at(ends, b'-')?;
+    let low = low_in(low)?;
+    let high = high_in(high)?;
+    Some(Bound {
+        generation,
+        low,
+        high,
+    })
+}
+
+/// The low end of a bound, 0 where there is none.
+fn low_in(text: &[u8]) -> Option<u32>
+    ensures low { result ≡ low_in text.now }
+    ensures within { IfSome result (λ low. low ≤ Bound.MOST) }
+{
+    if text.is_empty() {
+        return Some(0);
+    }
+    number_in(text, 0, Bound::MOST)
+}
+
+/// The high end of a bound, where there is one.
+fn high_in(text: &[u8]) -> Option<Option<u32>>
+    ensures high { result ≡ high_in text.now }
+    ensures within { IfSome result (λ high. ForSome high (λ most. most ≤ Bound.MOST)) }
+{
+    if text.is_empty() {
+        return Some(None);
+    }
+    let high = number_in(text, 0, Bound::MOST)?;
+    Some(Some(high))
+}
+
+/// What stands before the first such byte of a text, and behind it.
+fn cut_at(text: &[u8], byte: u8) -> Option<(&[u8], &[u8])>
+    ensures { option_map seen_pair result ≡ cut_at byte text.now }
+{
+    match first_of(text, byte) {
         None => None,
         Some(at) => Some((&text[..at], &text[at + 1..])),
     }
 }
 
-/// Where the first comma of a text stands.
-fn first_comma(text: &[u8]) -> Option<usize>
-    ensures { result ≡ position is_comma text.now }
+/// Where the first such byte of a text stands.
+fn first_of(text: &[u8], wanted: u8) -> Option<usize>
+    ensures { result ≡ position (λ b. b == wanted) text.now }
 {
-    text.iter().position(|byte| *byte == b',')
+    text.iter().position(|byte| *byte == wanted)
 }
 
 /// The number of columns or rows that a text writes, with `-` before it where it goes left or up.

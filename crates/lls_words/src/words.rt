@@ -1,9 +1,7 @@
 // The job of a command line.
 ghost use Rattle.std.specs.Prelude.{◌≡◌, Ok, map, string_bytes, IfOk};
-ghost use Rattle.std.specs.Option.{ForSome};
 ghost use Rattle.lls_base.specs.Results.{and_then, Gives};
-ghost use Rattle.lls_problem.specs.Problem.{IsPeriod};
-ghost use Rattle.lls_words.specs.Job.{defaults, job_with, job_of, settled, KeepsLimits};
+ghost use Rattle.lls_words.specs.Job.{defaults, job_with, job_of, settled, AreWithinLimits, KeepsLimits};
 ghost use Rattle.lls_words.specs.Seen.{seen_given, seen_scan};
 
 use crate::command::Command;
@@ -31,9 +29,9 @@ fn posing(
 ) -> Result<(Name, Name, Settings), WordsError>
     ensures posed { Gives WordsError.Memory (λ posed. posed) result
         (and_then (settled defaults (map seen_given givens.now)) (λ settings. Ok (first.now.word.now, second.now.word.now, settings))) }
-    ensures period { IfOk result (λ posed. ForSome posed.2.demands.period IsPeriod) }
+    ensures limits { IfOk result (λ posed. AreWithinLimits posed.2.demands) }
 {
-    let settings = settle(givens)?;
+    let settings = settle(alloc, givens)?;
     Ok((name_of(alloc, first)?, name_of(alloc, second)?, settings))
 }
 
@@ -65,7 +63,7 @@ fn job_with(alloc: Global, command: Command, scan: &Scan) -> Result<Job, WordsEr
             })
         }
         (Command::Cnf, [search]) => {
-            let Settings { rule, demands } = settle(&scan.givens)?;
+            let Settings { rule, demands } = settle(alloc, &scan.givens)?;
             let search = name_of(alloc, search)?;
             Ok(Job::Cnf {
                 search,

@@ -1,13 +1,13 @@
-// The judging of demands: symmetry, a period with a shift, differing generations.
+// The judging of demands: symmetry, a period with a shift, bounds on live cells, differing generations.
 use super::faults::faults;
-use super::{Row, answers};
+use super::{NOTHING, Row, answers, is_fault, run_over, words_of};
 use crate::status::Status;
 use std::test::Fail;
 
 // Each answer was worked out by a script that shares nothing with the program, and checked by hand.
 #[test]
 fn demands_are_judged(rt: HostRuntime) -> Result<(), Fail> {
-    let rows: [Row; 35] = [
+    let rows: [Row; 44] = [
         (
             "judge f p --symmetry C2",
             "* *\n* *\n",
@@ -253,6 +253,69 @@ fn demands_are_judged(rt: HostRuntime) -> Result<(), Fail> {
             Status::Refused,
             "broken: Same\n",
         ),
+        (
+            "judge f p --live 0:1-",
+            "*\n",
+            "0\n",
+            Status::Refused,
+            "broken: Population 0 0\n",
+        ),
+        (
+            "judge f p --live 0:1-",
+            "*\n",
+            "1\n",
+            Status::Done,
+            "meets\n",
+        ),
+        (
+            "judge f p --live 0:2-2,1:1-8192",
+            "* * *\n\n*' *' *'\n",
+            "1 0 1\n\n0 1 0\n",
+            Status::Done,
+            "meets\n",
+        ),
+        (
+            "judge f p --live 0:-2,1:2-",
+            "* * *\n\n*' *' *'\n",
+            "1 0 1\n\n0 1 0\n",
+            Status::Refused,
+            "broken: Population 1 1\n",
+        ),
+        (
+            "judge f p --live 0:1-,0:-1",
+            "* * *\n\n*' *' *'\n",
+            "1 0 1\n\n0 1 0\n",
+            Status::Refused,
+            "broken: Population 0 2\n",
+        ),
+        (
+            "judge f p --live 1:1- --differ 0,1",
+            "*\n\n*\n",
+            "0\n\n0\n",
+            Status::Refused,
+            "broken: Population 1 0\n",
+        ),
+        (
+            "judge f p --live 0:-0",
+            "*\n\n*\n",
+            "1\n\n1\n",
+            Status::Refused,
+            "broken: Rule 1 0 0\n",
+        ),
+        (
+            "check f p --symmetry D2| --live 0:1-1",
+            "* *\n",
+            "18 -1 0 1 5 13 17 0\n19 1 0 2 6 11 16 0\n20 0 18 19 0\n",
+            Status::Done,
+            "accepted\n",
+        ),
+        (
+            "check f p --symmetry D2| --live 0:1-2",
+            "* *\n",
+            "18 -1 0 1 5 13 17 0\n19 1 0 2 6 11 16 0\n20 0 18 19 0\n",
+            Status::Refused,
+            "refused: NoClause 1 13\n",
+        ),
     ];
     for row in rows {
         answers(&rt, rt.alloc(), row)?;
@@ -263,7 +326,7 @@ fn demands_are_judged(rt: HostRuntime) -> Result<(), Fail> {
 // What doesn't fit the search file is refused before the pattern is looked for.
 #[test]
 fn demands_that_do_not_fit(rt: HostRuntime) -> Result<(), Fail> {
-    let rows: [Row; 5] = [
+    let rows: [Row; 8] = [
         (
             "judge f q --differ 0,2",
             "*\n\n*\n",
@@ -299,9 +362,46 @@ fn demands_that_do_not_fit(rt: HostRuntime) -> Result<(), Fail> {
             Status::Content,
             "content: NoGeneration 2",
         ),
+        (
+            "judge f q --live 0:3-1",
+            "*\n",
+            "",
+            Status::Content,
+            "content: BoundsCross 0",
+        ),
+        (
+            "judge f q --live 0:0-1,2:0-,0:2-1 --differ 3,0 --period 2",
+            "* *\n\n* *\n",
+            "",
+            Status::Content,
+            "content: NoGeneration 2",
+        ),
+        (
+            "judge f q --live 0:-,1:3- --period 2",
+            "* *\n\n* *\n",
+            "",
+            Status::Content,
+            "content: BoundsCross 1",
+        ),
     ];
     for row in rows {
         faults(&rt, rt.alloc(), row)?;
     }
     Ok(())
+}
+
+// A counter of 64 by 64 cells that counts up to 301 is too large.
+#[test]
+fn too_many_counters(rt: HostRuntime) -> Result<(), Fail> {
+    let alloc = rt.alloc();
+    let mut file = String::new(alloc);
+    for _row in 0..64 {
+        for _column in 0..64 {
+            file.push_str("* ")?;
+        }
+        file.push_str("\n")?;
+    }
+    let words = words_of(alloc, "judge f q --live 0:-300")?;
+    let ended = run_over(alloc, &words, file.as_bytes(), b"", NOTHING)?;
+    is_fault(&rt, alloc, &ended, Status::Limit, "limit: Counters 1232896")
 }

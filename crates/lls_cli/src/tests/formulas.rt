@@ -7,7 +7,7 @@ use std::test::Fail;
 // The texts are those that the script in tools/ makes, which shares nothing with the program.
 #[test]
 fn formulas_of_an_independent_script(rt: HostRuntime) -> Result<(), Fail> {
-    let rows: [Row; 24] = [
+    let rows: [Row; 26] = [
         (
             "cnf f --differ 0,1",
             "*\n\n*\n",
@@ -35,6 +35,20 @@ fn formulas_of_an_independent_script(rt: HostRuntime) -> Result<(), Fail> {
             "",
             Status::Done,
             "p cnf 64 0\n",
+        ),
+        (
+            "cnf f --live 0:1-",
+            "*\n",
+            "",
+            Status::Done,
+            "p cnf 2 3\n-1 2 0\n-2 1 0\n2 0\n",
+        ),
+        (
+            "cnf f --live 0:-1",
+            "a -a a\n",
+            "",
+            Status::Done,
+            "p cnf 9 23\n-1 -2 0\n1 2 0\n-1 3 0\n1 -3 0\n-1 4 0\n-4 1 0\n-5 1 0\n-5 0\n-4 6 0\n-2 6 0\n-6 4 2 0\n-5 7 0\n-2 -4 7 0\n-7 5 2 0\n-7 5 4 0\n-6 8 0\n-3 8 0\n-8 6 3 0\n-7 9 0\n-3 -6 9 0\n-9 7 3 0\n-9 7 6 0\n-9 0\n",
         ),
         (
             "cnf f --rule B3/S23 --edge open",

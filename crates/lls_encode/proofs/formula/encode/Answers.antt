@@ -4,7 +4,7 @@ use Rattle.lls_lit.specs.Formula.{Cnf, satisfies, IsUnsatisfiable}
 use Rattle.lls_encode.specs.History.{HasAssignment}
 use Rattle.lls_encode.proofs.Complete.{HasAssignment-values_of, absent_from}
 use Rattle.lls_encode.proofs.Sound.{IsSolution-history_of, unsatisfiable_from}
-use Rattle.lls_encode.proofs.Made.{empty_of, few_clauses, made, room_for_transitions, room_for_difference}
+use Rattle.lls_encode.proofs.Made.{empty_of, few_clauses, made, room_for_transitions, room_for_bounds, room_for_difference}
 use Rattle.lls_encode.proofs.formula.encode.Goals as goal
 
 abbrev with_vars : ℕ → Cnf
@@ -18,22 +18,33 @@ push_transitions-requires-clause-room c =
     let room = room_for_transitions p c.new-formula.result c.push_front.new.formula c.posed.ensures.kept c.demands-demands.ensures.kept empty c.in_ok-push_front.ensures in
     omega (arith, room)
 
+pub push_bounds-requires-clause-room : goal.push_bounds-requires-clause-room
+push_bounds-requires-clause-room c =
+    let p = c.args.problem.now in
+    let cells : length c.items-cells.result.now ≡ length p.posed.cells = ap length (c.items-cells.ensures ∙ ap (λ f. f.cells) (c.behind-problem.view_is ∙ c.posed.ensures.value)) in
+    let empty : c.new-formula.result ≡ empty_of p = c.new-formula.ensures ∙ ap with_vars cells in
+    let room = room_for_bounds p c.push_front.new.formula c.push_transitions.new.formula c.posed.ensures.kept
+    (room_for_transitions p c.new-formula.result c.push_front.new.formula c.posed.ensures.kept c.demands-demands.ensures.kept empty c.in_ok-push_front.ensures)
+    c.in_ok-push_transitions.ensures in
+    omega (arith, room)
+
 pub push_difference-requires-clause-room : goal.push_difference-requires-clause-room
 push_difference-requires-clause-room c =
     let p = c.args.problem.now in
     let cells : length c.items-cells.result.now ≡ length p.posed.cells = ap length (c.items-cells.ensures ∙ ap (λ f. f.cells) (c.behind-problem.view_is ∙ c.posed.ensures.value)) in
     let empty : c.new-formula.result ≡ empty_of p = c.new-formula.ensures ∙ ap with_vars cells in
-    room_for_difference p c.push_front.new.formula c.push_transitions.new.formula c.posed.ensures.kept
+    let room = room_for_bounds p c.push_front.new.formula c.push_transitions.new.formula c.posed.ensures.kept
     (room_for_transitions p c.new-formula.result c.push_front.new.formula c.posed.ensures.kept c.demands-demands.ensures.kept empty c.in_ok-push_front.ensures)
-    c.in_ok-push_transitions.ensures
+    c.in_ok-push_transitions.ensures in
+    room_for_difference p c.push_transitions.new.formula c.push_bounds.new.formula c.posed.ensures.kept c.demands-demands.ensures.kept room c.in_ok-push_bounds.ensures
 
 pub returns-clause-formula : goal.returns-clause-formula
 returns-clause-formula c =
     let p = c.args.problem.now in
     let cells : length c.items-cells.result.now ≡ length p.posed.cells = ap length (c.items-cells.ensures ∙ ap (λ f. f.cells) (c.behind-problem.view_is ∙ c.posed.ensures.value)) in
     let empty : c.new-formula.result ≡ empty_of p = c.new-formula.ensures ∙ ap with_vars cells in
-    made p c.new-formula.result c.push_front.new.formula c.push_transitions.new.formula c.push_difference.new.formula empty
-    c.in_ok-push_front.ensures c.in_ok-push_transitions.ensures c.in_ok-push_difference.ensures
+    made p c.new-formula.result c.push_front.new.formula c.push_transitions.new.formula c.push_bounds.new.formula c.push_difference.new.formula empty
+    c.in_ok-push_front.ensures c.in_ok-push_transitions.ensures c.in_ok-push_bounds.ensures c.in_ok-push_difference.ensures
 
 pub returns-clause-few : goal.returns-clause-few
 returns-clause-few c =

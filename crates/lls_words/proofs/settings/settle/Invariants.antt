@@ -1,7 +1,5 @@
 use Rattle.std.proofs.Common.{◌≡◌, map, drop}
-use Rattle.std.specs.Option.{ForSome}
-use Rattle.lls_problem.specs.Problem.{IsPeriod}
-use Rattle.lls_words.specs.Job.{settled, defaults}
+use Rattle.lls_words.specs.Job.{settled, defaults, AreWithinLimits}
 use Rattle.lls_words.specs.Seen.{seen_given}
 use Rattle.lls_words.proofs.settings.settle.Given as goal
 
@@ -9,5 +7,5 @@ use Rattle.lls_words.proofs.settings.settle.Given as goal
 abbrev pub invariant-loop-given : goal.invariant-loop-given
 invariant-loop-given l = record {
   settings : settled l.settings (map seen_given (drop l.given-index l.givens)) ≡ settled defaults (map seen_given l.givens);
-  period : ForSome l.settings.demands.period IsPeriod;
+  limits : AreWithinLimits l.settings.demands;
 }
