@@ -4,8 +4,8 @@
     formula.py SEARCH BIRTHS SURVIVALS closed|open [--symmetry NAME] [--period N] [--shift DX,DY] [--live T:LOW-HIGH,..]
         [--differ A,B]
 
-BIRTHS and SURVIVALS are digits, or `-` for none. LOW and HIGH may be left out. The clauses are made by refute.py beside this file, which shares nothing
-with the crates.
+BIRTHS and SURVIVALS are digits, or `-` for none. LOW and HIGH may be left out. The clauses are made by refute.py beside this
+file, which shares nothing with the crates.
 """
 from refute import formula_of_words
 

@@ -21,6 +21,12 @@ def cell(names):
     return word + random.choice(["", "", "", "'"])
 
 
+def bound(generations, size):
+    low = random.choice(["", str(random.randint(0, size))])
+    high = random.choice(["", str(random.randint(int(low or 0), size + 2))])
+    return f"{random.randrange(generations)}:{low}-{high}"
+
+
 def problem():
     generations, height = random.randint(1, 4), random.randint(1, 3)
     width = height if random.random() < 0.5 else random.randint(1, 3)
@@ -40,6 +46,10 @@ def problem():
         period, shift = random.randint(1, generations - 1), (random.randint(-2, 2), random.randint(-2, 2))
         words.append(f"--period={period},{shift[0]},{shift[1]}")
         script += [f"--period={period}", f"--shift={shift[0]},{shift[1]}"]
+    if random.random() < 0.6:
+        bounds = ",".join(bound(generations, height * width) for _ in range(random.randint(1, 3)))
+        words.append(f"--live={bounds}")
+        script.append(f"--live={bounds}")
     if random.random() < 0.6:
         pair = (random.randrange(generations), random.randrange(generations))
         words.append(f"--differ={pair[0]},{pair[1]}")
