@@ -14,3 +14,5 @@ pub mod Learning
 pub mod Learned
 pub mod Steps
 pub mod FreshLearnt
+pub mod Grown
+pub mod Minimising

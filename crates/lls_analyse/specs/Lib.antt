@@ -4,4 +4,5 @@ pub mod Hinted
 pub mod Visited
 pub mod Marked
 pub mod Gathered
+pub mod Minimised
 pub mod Analysis

@@ -8,6 +8,7 @@ ghost use Rattle.lls_analyse.specs.Analysis.{IsAnalysis, IsRefutation};
 
 use crate::clause::gather_clause;
 use crate::hints::gather_hints;
+use crate::minimise::minimise;
 use crate::resolve::resolve;
 use crate::visited::Visited;
 use lls_lit::Lit;
@@ -22,7 +23,7 @@ fn clear(visited: &mut Visited)
     }
 }
 
-// Goes back from a conflict to one literal of the current level, and gathers the clause and its hints.
+// Goes back from a conflict to one literal of the current level, minimises the clause, and gathers it and its hints.
 pub(crate) fn analyse<S: Store>(
     visited: &mut Visited,
     trail: &Trail,
@@ -49,6 +50,7 @@ pub(crate) fn analyse<S: Store>(
     ensures room_for_hints { vec_capacity hints.new ≡ vec_capacity hints.old }
 {
     resolve(visited, trail, store, conflict, 1);
+    minimise(visited, trail, store);
     places.clear();
     hints.clear();
     gather_hints(visited, trail, store, conflict, places, hints);

@@ -80,6 +80,18 @@ impl Visited {
         self.seen[place_of(var)]
     }
 
+    // Whether something is known of a variable.
+    pub(crate) fn is_seen(&self, var: Var) -> bool
+        requires { var ≤ self.now.vars }
+        ensures is_seen { result ≡ is_seen (status_of self.now.seen var) }
+        ensures visited { AreVisited self.now }
+    {
+        match self.seen[place_of(var)] {
+            Seen::No => false,
+            Seen::Open | Seen::Kept | Seen::Followed => true,
+        }
+    }
+
     // Whether the variable's false literal is of the clause, and of the current level.
     pub(crate) fn is_open(&self, var: Var) -> bool
         requires { var ≤ self.now.vars }
@@ -125,6 +137,24 @@ impl Visited {
     {
         self.seen[place_of(var)] = Seen::Followed;
         self.opens -= 1;
+    }
+
+    // A literal that is kept gives way to others.
+    pub(crate) fn release(&mut self, var: Var)
+        requires within { var ≤ self.old.vars }
+        requires is_kept { status_of self.old.seen var ≡ Seen.Kept }
+        ensures { self.new ≡ record self.old { seen = slice_set self.old.seen (var - 1) Seen.Followed } }
+    {
+        self.seen[place_of(var)] = Seen::Followed;
+    }
+
+    // A literal that gave way is kept after all.
+    pub(crate) fn keep(&mut self, var: Var)
+        requires within { var ≤ self.old.vars }
+        requires is_followed { status_of self.old.seen var ≡ Seen.Followed }
+        ensures { self.new ≡ record self.old { seen = slice_set self.old.seen (var - 1) Seen.Kept } }
+    {
+        self.seen[place_of(var)] = Seen::Kept;
     }
 
     // Forgets the last literal that was visited.
