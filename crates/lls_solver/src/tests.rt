@@ -3,7 +3,7 @@ ghost use Rattle.std.specs.Prelude.{◌≡◌, []};
 
 use crate::*;
 use lls_cnf::{Formula, MOST_DIMACS_BYTES, holds, read_dimacs};
-use lls_prooflog::Log;
+use lls_prooflog::{Log, print_log};
 use std::alloc::Global;
 use std::process::Abort;
 use std::test::Fail;
@@ -15,6 +15,11 @@ const PIGEONS: &[u8] =
       -10 0 -6 -14 0 -6 -18 0 -10 -14 0 -10 -18 0 -14 -18 0 -3 -7 0 -3 -11 0 -3 -15 0 -3 -19 0 -7 -11 0 -7 \
       -15 0 -7 -19 0 -11 -15 0 -11 -19 0 -15 -19 0 -4 -8 0 -4 -12 0 -4 -16 0 -4 -20 0 -8 -12 0 -8 -16 0 -8 \
       -20 0 -12 -16 0 -12 -20 0 -16 -20 0";
+
+// With 1 and then 3 false, 5 stands at level 0, 2 at level 1, and 4 and 6 at level 2, where the fifth clause is false. Back
+// from it 6 gives way, which brings 1; then -4 alone is of the current level. The others imply -5, by the first clause, and -2,
+// by the second: -4 1 is left.
+const WORKED: &[u8] = b"p cnf 6 5\n5 0 1 2 0 3 -5 4 0 -4 -2 1 6 0 -6 -4 -5 -2 0";
 
 // What a search comes to, in a word.
 fn found(
@@ -150,6 +155,26 @@ fn budgets_are_kept_to(rt: HostRuntime) -> Result<(), Fail> {
         if want == "undecided" {
             assert_eq!(rt; learnt, u64::from(budget));
         }
+    }
+    Ok(())
+}
+
+#[test]
+fn logs_are_as_worked(rt: HostRuntime) -> Result<(), Fail> {
+    let rows = [
+        (WORKED, "satisfiable", "6 -4 1 0 1 2 4 5 0\n"),
+        (
+            b"p cnf 2 3\n1 0 -1 2 0 -2 -1 0".as_slice(),
+            "unsatisfiable",
+            "4 0 1 2 3 0\n",
+        ),
+    ];
+    for (text, want, steps) in rows {
+        assert!(rt; text.len() <= MOST_DIMACS_BYTES);
+        let formula = read_dimacs(rt.alloc(), text)?;
+        let mut log = Log::new(rt.alloc());
+        assert_eq!(rt; found(&rt, rt.alloc(), &formula, 10, &mut log)?, want);
+        assert_eq!(rt; print_log(rt.alloc(), &log)?.as_slice(), steps.as_bytes());
     }
     Ok(())
 }
