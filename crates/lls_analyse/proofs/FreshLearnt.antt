@@ -50,7 +50,7 @@ pub record IsEarly (p : Entry → Bool) (es : List Entry) (l : ℤ) : Type 0 whe
   pub same : entry.lit ≡ l
   pub passes : p entry ≡ true
 
-early : (p : Entry → Bool) (es : List Entry) (l : ℤ) → has (take_while p es) l ≡ true → IsEarly p es l
+pub early : (p : Entry → Bool) (es : List Entry) (l : ℤ) → has (take_while p es) l ≡ true → IsEarly p es l
 early p [] l is = absurd cc
 early p (x ∷ xs) l is = by_test (p x) refl is (early p xs l) where
   by_lit : (t : Bool) → int_eq x.lit l ≡ t → p x ≡ true → (t || has (take_while p xs) l) ≡ true → (has (take_while p xs) l ≡ true → IsEarly p xs l) → IsEarly p (x ∷ xs) l

@@ -9,7 +9,7 @@ use Rattle.std.proofs.lemmas.List.{length_push, get_or-map, length-map, map-appe
 use Rattle.std.proofs.lemmas.Option.{same_Some}
 use Rattle.std.proofs.lemmas.List.FromFn.{length-range_with_len, get_or-range_with_len, length-enumerate_from}
 use Rattle.lls_lit.specs.Formula.{Clause, Cnf}
-use Rattle.lls_prooflog.specs.UnitWalk.{Live, numbered}
+use Rattle.lls_prooflog.specs.UnitWalk.{Live}
 use Rattle.lls_store.specs.declared.store.TheConstants.{MOST_ID}
 use Rattle.lls_store.specs.Clauses.{LiveClause, clause_numbered}
 use Rattle.lls_store.proofs.Live.{clause_numbered-contained}
@@ -19,10 +19,10 @@ use Rattle.lls_store.specs.Sound.{IsSound}
 use Rattle.lls_store.specs.Changes.{empty_trail}
 use Rattle.lls_analyse.specs.Spelled.{Spells}
 use Rattle.lls_prooflog.specs.Steps.{after}
-use Rattle.lls_prooflog.specs.Spent.{is_addition}
+use Rattle.lls_prooflog.specs.Spent.{LogState, log_start, log_after, live_after, is_addition}
 use Rattle.lls_prooflog.specs.declared.step.Step.{Step}
 use Rattle.lls_prooflog.specs.declared.step.Step.TheVariants.{Add, Del}
-use Rattle.lls_solver.specs.Searching.{HoldsClauses, ids_of, live_after}
+use Rattle.lls_solver.specs.Searching.{HoldsClauses, ids_of}
 
 pub spells_push : (live : List LiveClause) (pairs : Live) (number id : ℕ) (lits : List ℤ) → Spells live pairs → Spells (live ++ record { number = number; id = id; lits = set.from_list lits } ∷ []) (pairs ++ (id, lits) ∷ [])
 spells_push [] [] number id lits h = (refl, (refl, tt))
@@ -97,12 +97,12 @@ holds_sealed store vars pairs id lits h is =
 
 -- as many as the formula's clauses and the additions are live
 pub length-live_after : (formula : Cnf) (steps : List Step) → list_all is_addition steps ≡ true → length (live_after formula steps) ≡ length formula.clauses + length steps
-length-live_after formula steps all = from (numbered formula.clauses) steps all ∙ ap (λ n. n + length steps) (length-enumerate_from 1 formula.clauses) where
-  from : (live : Live) (rest : List Step) → list_all is_addition rest ≡ true → length (fold after live rest) ≡ length live + length rest
-  from live [] all = omega arith
-  from live (Del ids ∷ rest) all = absurd cc
-  from live (Add id lits hints ∷ rest) all =
-      from (live ++ (id, lits) ∷ []) rest (and_parts true (list_all is_addition rest) all).1 ∙ omega (arith, length_push live (id, lits))
+length-live_after formula steps all = from (log_start formula) steps all ∙ ap (λ n. n + length steps) (length-enumerate_from 1 formula.clauses) where
+  from : (state : LogState) (rest : List Step) → list_all is_addition rest ≡ true → length (fold log_after state rest).live ≡ length state.live + length rest
+  from state [] all = omega arith
+  from state (Del ids ∷ rest) all = absurd cc
+  from state (Add id lits hints ∷ rest) all =
+      from (log_after state (Add id lits hints)) rest (and_parts true (list_all is_addition rest) all).1 ∙ omega (arith, length_push state.live (id, lits))
 
 pub count-additions : (steps : List Step) → list_all is_addition steps ≡ true → count_by is_addition steps ≡ length steps
 count-additions [] all = refl

@@ -5,10 +5,11 @@ use Rattle.lls_store.specs.Sound.{IsSound}
 use Rattle.lls_store.specs.Store.{StoreState, IsConflict}
 use Rattle.lls_store.specs.Closed.{IsClosed}
 use Rattle.lls_lit.specs.Formula.{Cnf}
+use Rattle.lls_prooflog.specs.Spent.{live_after}
 use Rattle.lls_prooflog.specs.declared.step.Step.{Step}
 use Rattle.lls_order.specs.Order.{OrderState}
-use Rattle.lls_solver.specs.Course.{IsCourse}
-use Rattle.lls_solver.specs.Searching.{HoldsClauses, IsSearching, live_after}
+use Rattle.lls_solver.specs.Course.{IsCourse, AreClosedBelow}
+use Rattle.lls_solver.specs.Searching.{HoldsClauses, IsSearching}
 
 pub sound_kept : (s t : StoreState) (trail : TrailState) → s ≡ t → IsSound s.live trail → IsSound t.live trail
 sound_kept s t trail same sound = subst (λ (x : StoreState). IsSound x.live trail) same sound
@@ -25,11 +26,18 @@ closed_moved s old new same closed = subst (λ (x : TrailState). IsClosed s.live
 pub conflict_kept : (s t : StoreState) (trail : TrailState) (c : ℕ) → s ≡ t → IsConflict s.live trail c → IsConflict t.live trail c
 conflict_kept s t trail c same conflict = subst (λ (x : StoreState). IsConflict x.live trail c) same conflict
 
+pub closed_below_kept : (s t : StoreState) (trail : TrailState) → s ≡ t → AreClosedBelow s.live trail → AreClosedBelow t.live trail
+closed_below_kept s t trail same closed = subst (λ (x : StoreState). AreClosedBelow x.live trail) same closed
+
+pub closed_below_moved : (s : StoreState) (old new : TrailState) → old ≡ new → AreClosedBelow s.live old → AreClosedBelow s.live new
+closed_below_moved s old new same closed = subst (λ (x : TrailState). AreClosedBelow s.live x) same closed
+
 -- a search goes on over the same clauses with another trail
-pub searching_kept : (formula : Cnf) (steps : List Step) (s t : StoreState) (old new : TrailState) (before after : OrderState) (phases more : ℕ) → IsSearching formula steps s old before phases → t ≡ s → IsCourse s.vars new after more → IsSound s.live new → IsSearching formula steps t new after more
-searching_kept formula steps s t old new before after phases more h same course sound = record {
+pub searching_kept : (formula : Cnf) (steps : List Step) (s t : StoreState) (old new : TrailState) (before after : OrderState) (phases more : ℕ) → IsSearching formula steps s old before phases → t ≡ s → IsCourse s.vars new after more → IsSound s.live new → AreClosedBelow s.live new → IsSearching formula steps t new after more
+searching_kept formula steps s t old new before after phases more h same course sound closed = record {
   holds = subst (λ (x : StoreState). HoldsClauses x formula.vars (live_after formula steps)) (sym same) h.holds;
   log = h.log;
   course = subst (λ (x : StoreState). IsCourse x.vars new after more) (sym same) course;
-  sound = subst (λ (x : StoreState). IsSound x.live new) (sym same) sound;
+  sound = sound_kept s t new (sym same) sound;
+  closed_below = closed_below_kept s t new (sym same) closed;
 }

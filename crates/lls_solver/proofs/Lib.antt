@@ -6,3 +6,4 @@ pub mod Clauses
 pub mod Satisfied
 pub mod Logs
 pub mod Learning
+pub mod Below

@@ -1,10 +1,11 @@
 -- Values of variables, and an order that has the variables without one.
-use Rattle.std.specs.Prelude.{◌≡◌, ◌≢◌, ℕ, ℤ, true, List}
+use Rattle.std.specs.Prelude.{◌≡◌, ◌≢◌, ◌≤◌, ℕ, ℤ, true, List}
 use Rattle.lls_lit.specs.Literal.{variable_of}
 use Rattle.lls_lit.specs.Formula.{is_literal_of}
 use Rattle.lls_store.specs.Trail.{Entry, TrailState, IsTrail, IsUnset}
 use Rattle.lls_store.specs.Changes.{decided}
-use Rattle.lls_store.specs.Closed.{IsClosed}
+use Rattle.lls_store.specs.Clauses.{LiveClause}
+use Rattle.lls_store.specs.Closed.{IsClosed, AreSettled, entries_below}
 use Rattle.lls_store.specs.Store.{StoreState}
 use Rattle.lls_order.specs.Order.{OrderState, is_in}
 
@@ -40,6 +41,10 @@ pub record IsDecision (old new : TrailState) : Type 0 where
   pub literal : ℤ
   pub unset : IsUnset old.entries literal
   pub is_decided : new ≡ decided old literal
+
+-- before each level began, propagation had nothing to do
+abbrev pub AreClosedBelow : List LiveClause → TrailState → Type 0
+AreClosedBelow live trail = (level : ℕ) → 1 ≤ level → level ≤ trail.current → AreSettled live (entries_below level trail.entries)
 
 -- nothing is left to decide or to propagate
 pub record IsComplete (store : StoreState) (trail : TrailState) : Type 0 where

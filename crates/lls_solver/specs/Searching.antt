@@ -1,22 +1,18 @@
 -- A search under way: what holds of its clauses and of its log.
-use Rattle.std.specs.Prelude.{◌≡◌, ℕ, ◌+◌, Bool, true, not, List, [], ◌∷◌, ◌++◌, map, length, fold, count_by}
+use Rattle.std.specs.Prelude.{◌≡◌, ℕ, ◌+◌, Bool, true, not, List, [], ◌∷◌, ◌++◌, map, length}
 use Rattle.std.specs.List.{list_all, range_with_len}
 use Rattle.lls_lit.specs.Formula.{Cnf, satisfies}
 use Rattle.lls_prooflog.specs.UnitWalk.{Live, numbered}
-use Rattle.lls_prooflog.specs.Steps.{after, are_accepted, is_empty_addition}
-use Rattle.lls_prooflog.specs.Spent.{EachStep, IsGood, log_start, is_addition}
+use Rattle.lls_prooflog.specs.Steps.{are_accepted, is_empty_addition}
+use Rattle.lls_prooflog.specs.Spent.{EachStep, IsGood, IsFreshAddition, IsSpent, log_start, is_addition, live_after}
 use Rattle.lls_prooflog.specs.declared.step.Step.{Step}
 use Rattle.lls_prooflog.specs.declared.step.Step.TheVariants.{Add, Del}
 use Rattle.lls_store.specs.Trail.{TrailState}
 use Rattle.lls_store.specs.Sound.{IsSound}
 use Rattle.lls_store.specs.Store.{StoreState}
 use Rattle.lls_order.specs.Order.{OrderState}
-use Rattle.lls_solver.specs.Course.{IsCourse}
+use Rattle.lls_solver.specs.Course.{IsCourse, AreClosedBelow}
 use Rattle.lls_analyse.specs.Spelled.{Spells}
-
--- the clauses that are live after the steps
-abbrev pub live_after : Cnf → List Step → Live
-live_after formula steps = fold after (numbered formula.clauses) steps
 
 abbrev pub ids_of : Live → List ℕ
 ids_of live = map (λ pair. pair.0) live
@@ -34,9 +30,10 @@ AreNumberedFrom n [] = Unit {0}
 AreNumberedFrom n (Add id lits hints ∷ steps) = (id ≡ n) × AreNumberedFrom (n + 1) steps
 AreNumberedFrom n (Del ids ∷ steps) = ⊥
 
--- additions that are good in their turn, none of which is empty, with the ids behind those of the formula's clauses
+-- additions that are good and fresh in their turn, none of which is empty, with the ids behind those of the formula's clauses
 pub record IsGoodLog (formula : Cnf) (steps : List Step) : Type 0 where
   pub good : EachStep IsGood (log_start formula) steps
+  pub fresh : EachStep (IsFreshAddition formula.vars) (log_start formula) steps
   pub numbered_on : AreNumberedFrom (length formula.clauses + 1) steps
   pub additions : list_all is_addition steps ≡ true
   pub none_empty : list_all (λ step. not (is_empty_addition step)) steps ≡ true
@@ -47,6 +44,7 @@ pub record IsSearching (formula : Cnf) (steps : List Step) (store : StoreState) 
   pub log : IsGoodLog formula steps
   pub course : IsCourse store.vars trail order phases
   pub sound : IsSound store.live trail
+  pub closed_below : AreClosedBelow store.live trail
 
 -- an assignment of the formula's variables that satisfies it
 pub record IsModel (formula : Cnf) (values : List Bool) : Type 0 where
@@ -58,10 +56,10 @@ pub record IsRefutation (formula : Cnf) (steps : List Step) : Type 0 where
   pub accepted : are_accepted (numbered formula.clauses) steps ≡ true
   pub numbered_on : AreNumberedFrom (length formula.clauses + 1) steps
 
--- good additions, as many as the budget allows
+-- good additions, as many as the budget allows, and the search wasn't done
 pub record IsExhausted (formula : Cnf) (budget : ℕ) (steps : List Step) : Type 0 where
   pub log : IsGoodLog formula steps
-  pub spent : count_by is_addition steps ≡ budget
+  pub spent : IsSpent formula steps budget
 
 -- the formula's clauses are among those of a store
 pub record HoldsFormula (formula : Cnf) (store : StoreState) : Type 0 where

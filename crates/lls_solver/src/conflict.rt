@@ -6,7 +6,7 @@ ghost use Rattle.lls_lit.specs.Formula.{is_within};
 ghost use Rattle.lls_store.specs.Trail.{IsTrail, level_of};
 ghost use Rattle.lls_store.specs.Sound.{IsSound};
 ghost use Rattle.lls_store.specs.Store.{IsConflict};
-ghost use Rattle.lls_solver.specs.Course.{IsCourse};
+ghost use Rattle.lls_solver.specs.Course.{IsCourse, AreClosedBelow};
 ghost use Rattle.lls_solver.specs.Conflict.{IsHighest};
 ghost use Rattle.lls_analyse.specs.Learnt.{IsCurrentConflict};
 
@@ -20,6 +20,7 @@ pub(crate) fn go_to_conflict<S: Store>(store: &mut S, course: &mut Course, confl
     requires course { IsCourse (S.state store.old).vars course.old.trail course.old.order (length course.old.phases.items) }
     requires tracked { S.tracks store.old course.old.trail }
     requires sound { IsSound (S.state store.old).live course.old.trail }
+    requires closed_below { AreClosedBelow (S.state store.old).live course.old.trail }
     ensures level { course.new.trail.current ≡ result }
     ensures conflict { IsConflict (S.state store.old).live course.new.trail conflict }
     ensures current { 0 < result → IsCurrentConflict (S.state store.old).live course.new.trail conflict }
@@ -27,6 +28,7 @@ pub(crate) fn go_to_conflict<S: Store>(store: &mut S, course: &mut Course, confl
     ensures state { S.state store.new ≡ S.state store.old }
     ensures tracked { S.tracks store.new course.new.trail }
     ensures sound { IsSound (S.state store.old).live course.new.trail }
+    ensures closed_below { AreClosedBelow (S.state store.old).live course.new.trail }
 {
     // What holds of all live clauses is known from here on.
     let _count = store.count();

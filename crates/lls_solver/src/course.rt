@@ -10,7 +10,7 @@ ghost use Rattle.lls_store.specs.Store.{IsConflict};
 ghost use Rattle.lls_store.specs.Changes.{cut_to, decided, empty_trail};
 ghost use Rattle.lls_order.specs.Changes.{put_in};
 ghost use Rattle.lls_order.specs.Order.{is_in};
-ghost use Rattle.lls_solver.specs.Course.{IsCourse, IsDecision, IsNext, AreWaiting, AllSet};
+ghost use Rattle.lls_solver.specs.Course.{IsCourse, IsDecision, IsNext, AreClosedBelow, AreWaiting, AllSet};
 
 use lls_base::Memory;
 use lls_lit::{Lit, Var};
@@ -48,6 +48,7 @@ impl Course {
         requires course { IsCourse (S.state store.old).vars self.old.trail self.old.order (length self.old.phases.items) }
         requires tracked { S.tracks store.old self.old.trail }
         requires sound { IsSound (S.state store.old).live self.old.trail }
+        requires closed_below { AreClosedBelow (S.state store.old).live self.old.trail }
         ensures conflict { IfSome result (IsConflict (S.state store.old).live self.new.trail) }
         ensures closed { IfNone result (IsClosed (S.state store.old).live self.new.trail) }
         ensures settled { IfNone result (S.settled store.new self.new.trail) }
@@ -56,6 +57,7 @@ impl Course {
         ensures state { S.state store.new ≡ S.state store.old }
         ensures tracked { S.tracks store.new self.new.trail }
         ensures sound { IsSound (S.state store.old).live self.new.trail }
+        ensures closed_below { AreClosedBelow (S.state store.old).live self.new.trail }
     {
         let conflict = store.propagate(&mut self.trail);
         // What holds of every trail is known from here on.

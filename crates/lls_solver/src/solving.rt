@@ -1,5 +1,6 @@
 // The search for an assignment: descents and conflicts in turn.
 ghost use Rattle.std.specs.Prelude.{◌≡◌, ◌≤◌, ◌<◌, ◌+◌, Bool, true, List, [], length, Ok, IfOk, OnOk, OnErr};
+ghost use Rattle.lls_prooflog.specs.Spent.{SomeCanBeLearnt, live_after};
 ghost use Rattle.lls_store.specs.Store.{IsConflict};
 ghost use Rattle.lls_analyse.specs.Learnt.{IsCurrentConflict};
 ghost use Rattle.lls_solver.specs.Course.{IsComplete};
@@ -24,7 +25,8 @@ pub const MOST_BUDGET: u32 = 10_000_000;
 /// Searches for an assignment that satisfies a formula, by deciding variables and learning a clause from each conflict
 /// (Marques-Silva, Sakallah, *GRASP*, 1996; Eén, Sörensson, *An Extensible SAT-solver*, 2003). The log gets the clauses that
 /// were learnt, as many as the budget allows, each as a step of a proof; their ids run upwards from the number of the formula's
-/// clauses plus 1. After `Memory` it holds good steps.
+/// clauses plus 1. Unit propagation over the clauses before it gives none of them. After `Undecided` one more could be learnt.
+/// After `Memory` the log holds good steps.
 pub fn solve(
     alloc: Global,
     formula: &Formula,
@@ -84,6 +86,7 @@ pub(crate) fn solve_over<S: Store>(
             return Ok(Outcome::Unsat);
         }
         if log.additions() >= u64::from(budget) {
+            learn_further(alloc, formula, store, course, analyser, log, conflict)?;
             return Ok(Outcome::Undecided);
         }
         learn_from(formula, store, course, analyser, log, conflict)?;
@@ -137,6 +140,32 @@ fn learn_from<S: Store>(
     let _count = store.count();
     course.bump(store.lits(learnt.clause));
     course.go_back(store, learnt.back);
+    Ok(())
+}
+
+// Learns one clause more from a conflict at a level above 0, into a log that isn't written out: it shows that the search
+// wasn't done.
+fn learn_further<S: Store>(
+    alloc: Global,
+    formula: &Formula,
+    store: &mut S,
+    course: &Course,
+    analyser: &mut Analyser,
+    log: &Log,
+    conflict: u32,
+) -> Result<(), Memory>
+    requires searching { IsSearching formula.now log.now.steps (S.state store.old) course.now.trail course.now.order (length course.now.phases.items) }
+    requires tracked { S.tracks store.old course.now.trail }
+    requires analyser { analyser.old ≡ formula.now.vars }
+    requires few { length log.now.steps ≤ MOST_BUDGET }
+    requires level { 0 < course.now.trail.current }
+    requires conflict { IsCurrentConflict (S.state store.old).live course.now.trail conflict }
+    ensures further { OnOk result (SomeCanBeLearnt formula.now.vars (live_after formula.now log.now.steps)) }
+{
+    let mut further = Log::new(alloc);
+    analyser.reserve_conflict(store, &mut further)?;
+    let id = formula.len() as u64 + log.additions() + 1;
+    analyser.learn(store, &course.trail, conflict, id, &mut further);
     Ok(())
 }
 

@@ -9,6 +9,8 @@ use Rattle.lls_store.proofs.Live.{number_given, AreWithin-read}
 use Rattle.lls_store.proofs.Sets.{is_within-from_AreWithin}
 use Rattle.lls_lit.specs.Formula.{is_within}
 use Rattle.lls_analyse.specs.Learnt.{IsCurrentConflict}
+use Rattle.lls_solver.proofs.Kept.{closed_below_moved}
+use Rattle.lls_solver.proofs.Below.{closed_below_cut}
 use Rattle.lls_solver.proofs.Conflicts.{conflict_up_to, current_up_to}
 use Rattle.lls_solver.proofs.conflict.go_to_conflict.Goals as goal
 
@@ -46,3 +48,10 @@ returns-clause-current g c =
     λ above.
     subst (λ (x : TrailState). IsCurrentConflict s.live x c.args.conflict) (sym c.go_back.ensures.cut)
     (current_up_to s.live t c.args.conflict level c.lits.result.now c.requires.course.is_trail cut c.requires.conflict (read_is s.live c.args.conflict c.requires.conflict.clause c.lits.result.now c.requires.conflict.is_live c.lits.ensures) c.highest_level-level.ensures.highest above)
+
+pub returns-clause-closed_below : goal.returns-clause-closed_below
+returns-clause-closed_below g c =
+    let s = g.S.Store.state c.args.store.now in
+    let t = c.args.course.now.trail in
+    let level = c.highest_level-level.result in
+    closed_below_moved s (cut_to t level) c.go_back.new.self.trail (sym c.go_back.ensures.cut) (closed_below_cut s.live t level c.highest_level-level.ensures.most c.requires.closed_below)

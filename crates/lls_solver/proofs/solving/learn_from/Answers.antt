@@ -2,20 +2,22 @@ use Rattle.std.proofs.Common.{◌≡◌, ◌+◌, ◌++◌, ◌∷◌, [], ℕ, 
 use Rattle.std.specs.Prelude.{count_by, IsSome}
 use Rattle.lls_lit.specs.Formula.{is_within}
 use Rattle.lls_prooflog.specs.UnitWalk.{Live}
-use Rattle.lls_prooflog.specs.Spent.{is_addition}
+use Rattle.lls_prooflog.specs.Spent.{live_after, is_addition}
 use Rattle.lls_prooflog.specs.declared.step.Step.{Step}
 use Rattle.lls_prooflog.specs.declared.step.Step.TheVariants.{Add}
 use Rattle.lls_store.specs.Trail.{TrailState}
+use Rattle.lls_store.specs.Changes.{cut_to}
 use Rattle.lls_store.specs.Clauses.{clause_numbered}
 use Rattle.lls_store.specs.Store.{StoreState, AreLive, IsNewId, sealed}
 use Rattle.lls_store.proofs.Live.{AreWithin-read}
 use Rattle.lls_store.proofs.Sets.{is_within-from_AreWithin}
-use Rattle.lls_solver.specs.Searching.{live_after, HoldsClauses, IsGoodLog}
+use Rattle.lls_solver.specs.Searching.{HoldsClauses, IsGoodLog}
 use Rattle.lls_solver.specs.Course.{IsCourse}
-use Rattle.lls_solver.proofs.Kept.{sound_kept, sound_moved}
+use Rattle.lls_solver.proofs.Kept.{sound_kept, sound_moved, closed_below_kept, closed_below_moved}
+use Rattle.lls_solver.proofs.Below.{closed_below_learnt}
 use Rattle.lls_solver.proofs.Clauses.{fresh_id, holds_sealed, length-live_after, count-additions, sealed_live}
 use Rattle.lls_solver.proofs.Logs.{good_push, live_after-push}
-use Rattle.lls_solver.proofs.Learning.{back_most, some_literal}
+use Rattle.lls_solver.proofs.Learning.{back_most, adds_learnt}
 use Rattle.lls_solver.proofs.solving.learn_from.Goals as goal
 
 pub learn-learnt-requires-clause-sound : goal.learn-learnt-requires-clause-sound
@@ -89,7 +91,12 @@ returns-clause-searching g c =
     subst (λ (ps : Live). HoldsClauses (sealed (record middle { tail = learns.lits }) id) formula.vars ps) (sym (live_after-push formula steps step)) (holds_sealed middle formula.vars (live_after formula steps) id learns.lits holds next)
     in
     let good = learns.step.good (live_after formula steps) holds.spelled in
-    let log : IsGoodLog formula (steps ++ step ∷ []) = good_push formula steps id learns.lits learns.hints h.log after good (some_literal c.args.course.now.trail learns.lits learns.clause.one_current) in
+    let t = c.args.course.now.trail in
+    let back = c.learn-learnt.result.back in
+    let closed = closed_below_kept old middle t (sym c.in_ok-reserve_conflict.ensures.state) h.closed_below in
+    let adds = adds_learnt formula.vars (live_after formula steps) middle new t c.args.conflict id back c.reserve_conflict.new.log.steps c.learn-learnt.new.log.steps learns holds.spelled (h.course.trail_vars ∙ h.holds.store_vars) c.requires.level closed in
+    let log : IsGoodLog formula (steps ++ step ∷ []) = good_push formula steps id learns.lits learns.hints h.log after good adds in
+    let cut : cut_to t back ≡ c.go_back.new.self.trail = sym (c.go_back.ensures.cut ∙ ap (λ (x : TrailState). cut_to x back) c.bump.ensures.trail) in
     let vars : new.vars ≡ last.vars = sym (ap (λ (s : StoreState). s.vars) c.go_back.ensures.state) in
     record {
       holds = subst (λ (s : StoreState). HoldsClauses s formula.vars (live_after formula c.learn-learnt.new.log.steps)) (sym (c.go_back.ensures.state ∙ learns.store))
@@ -97,4 +104,7 @@ returns-clause-searching g c =
       log = subst (IsGoodLog formula) (sym logged) log;
       course = subst (λ n. IsCourse n c.go_back.new.self.trail c.go_back.new.self.order (length c.go_back.new.self.phases.items)) vars c.go_back.ensures.course;
       sound = sound_kept new last c.go_back.new.self.trail (sym c.go_back.ensures.state) c.go_back.ensures.sound;
+      closed_below = closed_below_moved last (cut_to t back) c.go_back.new.self.trail cut
+          (closed_below_kept (sealed (record middle { tail = learns.lits }) id) last (cut_to t back) (sym (c.go_back.ensures.state ∙ learns.store))
+          (closed_below_learnt middle t learns.from_clause.clause.lits id learns.lits back h.course.is_trail learns.clause (back_most t learns.lits back learns.clause.is_back) closed));
     }

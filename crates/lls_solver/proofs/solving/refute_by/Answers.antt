@@ -1,10 +1,10 @@
 use Rattle.std.proofs.Common.{◌≡◌, ◌+◌, ◌++◌, ◌∷◌, [], List, length, sym, ap, ◌∙◌, subst, arith}
 use Rattle.std.specs.Prelude.{count_by}
-use Rattle.lls_prooflog.specs.Spent.{is_addition}
+use Rattle.lls_prooflog.specs.Spent.{live_after, is_addition}
 use Rattle.lls_prooflog.specs.declared.step.Step.{Step}
 use Rattle.lls_prooflog.specs.declared.step.Step.TheVariants.{Add}
 use Rattle.lls_store.specs.Store.{StoreState, IsNewId}
-use Rattle.lls_solver.specs.Searching.{live_after, IsRefutation}
+use Rattle.lls_solver.specs.Searching.{IsRefutation}
 use Rattle.lls_analyse.specs.Spelled.{Spells}
 use Rattle.lls_solver.proofs.Kept.{sound_kept}
 use Rattle.lls_solver.proofs.Clauses.{fresh_id, count-additions}

@@ -2,9 +2,9 @@ use Rattle.std.proofs.Common.{length, sym, ◌∙◌, subst, arith}
 use Rattle.lls_store.specs.Store.{StoreState}
 use Rattle.lls_solver.specs.Course.{IsCourse}
 use Rattle.lls_solver.specs.Searching.{HoldsFormula}
-use Rattle.lls_solver.proofs.Kept.{sound_kept, conflict_kept, searching_kept}
+use Rattle.lls_solver.proofs.Kept.{sound_kept, conflict_kept, closed_below_kept, searching_kept}
 use Rattle.lls_solver.proofs.Clauses.{count-additions}
-use Rattle.lls_solver.proofs.Logs.{holds_formula}
+use Rattle.lls_solver.proofs.Logs.{holds_formula, exhausted}
 use Rattle.lls_solver.proofs.solving.solve_over.Goals as goal
 
 pub found-requires-clause-holds : goal.found-requires-clause-holds
@@ -20,6 +20,10 @@ pub go_to_conflict-requires-clause-sound : goal.go_to_conflict-requires-clause-s
 go_to_conflict-requires-clause-sound g c =
     sound_kept (g.S.Store.state c.loop-alloc.store) (g.S.Store.state c.descend.new.store) c.descend.new.course.trail (sym c.descend.ensures.state) c.descend.ensures.sound
 
+pub go_to_conflict-requires-clause-closed_below : goal.go_to_conflict-requires-clause-closed_below
+go_to_conflict-requires-clause-closed_below g c =
+    closed_below_kept (g.S.Store.state c.loop-alloc.store) (g.S.Store.state c.descend.new.store) c.descend.new.course.trail (sym c.descend.ensures.state) c.descend.ensures.closed_below
+
 pub refute_by-requires-clause-searching : goal.refute_by-requires-clause-searching
 refute_by-requires-clause-searching g c =
     let old = g.S.Store.state c.loop-alloc.store in
@@ -28,6 +32,17 @@ refute_by-requires-clause-searching g c =
     (c.go_to_conflict.ensures.state ∙ c.descend.ensures.state)
     (subst (λ (s : StoreState). IsCourse s.vars new.trail new.order (length new.phases.items)) c.descend.ensures.state c.go_to_conflict.ensures.course)
     (sound_kept (g.S.Store.state c.descend.new.store) old new.trail c.descend.ensures.state c.go_to_conflict.ensures.sound)
+    (closed_below_kept (g.S.Store.state c.descend.new.store) old new.trail c.descend.ensures.state c.go_to_conflict.ensures.closed_below)
+
+pub learn_further-requires-clause-searching : goal.learn_further-requires-clause-searching
+learn_further-requires-clause-searching g c =
+    let old = g.S.Store.state c.loop-alloc.store in
+    let new = c.go_to_conflict.new.course in
+    searching_kept c.args.formula.now c.loop-alloc.log.steps old (g.S.Store.state c.go_to_conflict.new.store) c.loop-alloc.course.trail new.trail c.loop-alloc.course.order new.order (length c.loop-alloc.course.phases.items) (length new.phases.items) c.loop-alloc.invariant.searching
+    (c.go_to_conflict.ensures.state ∙ c.descend.ensures.state)
+    (subst (λ (s : StoreState). IsCourse s.vars new.trail new.order (length new.phases.items)) c.descend.ensures.state c.go_to_conflict.ensures.course)
+    (sound_kept (g.S.Store.state c.descend.new.store) old new.trail c.descend.ensures.state c.go_to_conflict.ensures.sound)
+    (closed_below_kept (g.S.Store.state c.descend.new.store) old new.trail c.descend.ensures.state c.go_to_conflict.ensures.closed_below)
 
 pub learn_from-requires-clause-searching : goal.learn_from-requires-clause-searching
 learn_from-requires-clause-searching g c =
@@ -37,10 +52,17 @@ learn_from-requires-clause-searching g c =
     (c.go_to_conflict.ensures.state ∙ c.descend.ensures.state)
     (subst (λ (s : StoreState). IsCourse s.vars new.trail new.order (length new.phases.items)) c.descend.ensures.state c.go_to_conflict.ensures.course)
     (sound_kept (g.S.Store.state c.descend.new.store) old new.trail c.descend.ensures.state c.go_to_conflict.ensures.sound)
+    (closed_below_kept (g.S.Store.state c.descend.new.store) old new.trail c.descend.ensures.state c.go_to_conflict.ensures.closed_below)
 
 pub learn_from-requires-clause-few : goal.learn_from-requires-clause-few
 learn_from-requires-clause-few g c =
     omega (arith, c.if-additions-from.false, c.additions.ensures, c.from.ensures, count-additions c.loop-alloc.log.steps c.loop-alloc.invariant.searching.log.additions, c.requires.budget)
+
+pub returns-then-additions-from-clause-undecided : goal.returns-then-additions-from-clause-undecided
+returns-then-additions-from-clause-undecided g c =
+    let steps = c.loop-alloc.log.steps in
+    let h = c.loop-alloc.invariant.searching in
+    λ is. exhausted c.args.formula.now c.args.budget steps h.log (omega (arith, c.if-additions-from.true, c.additions.ensures, c.from.ensures, count-additions steps h.log.additions, c.loop-alloc.invariant.spent)) c.in_ok-learn_further.ensures.further
 
 pub loop-alloc-smaller : goal.loop-alloc-smaller
 loop-alloc-smaller g c =

@@ -1,0 +1,43 @@
+use Rattle.std.proofs.Common.{◌+◌, sym, ap, ◌∙◌, subst, arith}
+use Rattle.lls_prooflog.specs.Spent.{live_after}
+use Rattle.lls_store.specs.Store.{StoreState, IsNewId}
+use Rattle.lls_analyse.specs.Spelled.{Spells}
+use Rattle.lls_solver.proofs.Kept.{sound_kept, closed_below_kept}
+use Rattle.lls_solver.proofs.Clauses.{fresh_id, length-live_after, count-additions}
+use Rattle.lls_solver.proofs.Learning.{adds_learnt, further_learnt}
+use Rattle.lls_solver.proofs.solving.learn_further.Goals as goal
+
+pub learn-requires-clause-sound : goal.learn-requires-clause-sound
+learn-requires-clause-sound g c =
+    sound_kept (g.S.Store.state c.args.store.now) (g.S.Store.state c.reserve_conflict.new.store) c.args.course.now.trail (sym c.in_ok-reserve_conflict.ensures.state) c.requires.searching.sound
+
+pub learn-requires-clause-id : goal.learn-requires-clause-id
+learn-requires-clause-id g c =
+    let h = c.requires.searching in
+    let steps = c.args.log.now.steps in
+    subst (λ (s : StoreState). IsNewId s.live (c.len.result + c.additions.result + 1)) (sym c.in_ok-reserve_conflict.ensures.state)
+    (fresh_id c.args.formula.now steps (g.S.Store.state c.args.store.now) c.len.result c.additions.result h.holds h.log.additions c.len.ensures.len c.additions.ensures (omega (arith, c.len.ensures.most, c.additions.ensures, count-additions steps h.log.additions, c.requires.few)))
+
+pub learn-requires-clause-most : goal.learn-requires-clause-most
+learn-requires-clause-most g c =
+    let h = c.requires.searching in
+    let same = ap (λ (s : StoreState). s.count) c.in_ok-reserve_conflict.ensures.state in
+    omega (arith, same, h.holds.count, length-live_after c.args.formula.now c.args.log.now.steps h.log.additions, c.len.ensures.len, c.len.ensures.most, c.requires.few)
+
+pub returns : goal.returns
+returns g c =
+    let h = c.requires.searching in
+    let formula = c.args.formula.now in
+    let pairs = live_after formula c.args.log.now.steps in
+    let old = g.S.Store.state c.args.store.now in
+    let middle = g.S.Store.state c.reserve_conflict.new.store in
+    let new = g.S.Store.state c.learn.new.store in
+    let t = c.args.course.now.trail in
+    let id = c.len.result + c.additions.result + 1 in
+    let learns = c.learn.ensures.learns in
+    let before = c.reserve_conflict.new.log.steps in
+    let after = c.learn.new.log.steps in
+    let spelled = subst (λ (s : StoreState). Spells s.live pairs) (sym c.in_ok-reserve_conflict.ensures.state) h.holds.spelled in
+    let closed = closed_below_kept old middle t (sym c.in_ok-reserve_conflict.ensures.state) h.closed_below in
+    let adds = adds_learnt formula.vars pairs middle new t c.args.conflict id c.learn.result.back before after learns spelled (h.course.trail_vars ∙ h.holds.store_vars) c.requires.level closed in
+    record { further = further_learnt formula.vars pairs middle new t c.args.conflict id c.learn.result.back before after learns spelled adds }
