@@ -11,3 +11,5 @@ pub mod Lost
 pub mod Outside
 pub mod Symmetric
 pub mod Returned
+pub mod Plane
+pub mod WorkedPlane

@@ -13,6 +13,7 @@ use Rattle.lls_problem.specs.declared.losses.Loss.TheVariants.{OfBackground, OfP
 use Rattle.lls_problem.specs.declared.population.Count.{Count}
 use Rattle.lls_problem.specs.Problem.{PosedProblem, AreFitting}
 use Rattle.lls_problem.specs.Solution.{IsSolution}
+use Rattle.lls_problem.specs.Plane.{PlaneLaw}
 use Rattle.lls_problem.specs.Firsts.{Place, first}
 use Rattle.lls_problem.specs.Unlike.{unlike_cells}
 use Rattle.lls_problem.specs.Losses.{losses}
@@ -24,6 +25,7 @@ use Rattle.lls_problem.proofs.Order.{IsFirstBroken-one, IsFirstCell-one}
 use Rattle.lls_problem.proofs.Symmetric.{unlike_cells-symmetric}
 use Rattle.lls_problem.proofs.Returned.{losses-returned}
 use Rattle.lls_problem.proofs.Populated.{first_outside-populated}
+use Rattle.lls_problem.proofs.Plane.{plane_law}
 
 -- the demand at a place of the order
 demand_at : ℕ → Demand
@@ -190,6 +192,7 @@ pub record Judged (p : PosedProblem) (h : History) (j : Judgement) : Type 0 wher
   pub unique : (other : Judgement) → IsJudgement p h other → other ≡ j
   pub meets : j ≡ Meets → IsSolution p h
   pub broken : j ≢ Meets → IsSolution p h → ⊥
+  pub plane : j ≡ Meets → PlaneLaw p h
 
 pub judged : (p : PosedProblem) (h : History) (j : Judgement) → IsPosed p.posed → AreFitting p.posed p.demands → IsJudgement p h j → Judged p h j
 judged p h j posed fitting fits = record {
@@ -197,6 +200,7 @@ judged p h j posed fitting fits = record {
   unique = λ other fits'. one_judgement p h other j posed fitting fits' fits;
   meets = λ same. subst (IsJudgement p h) same fits;
   broken = λ fault solution. fault (one_judgement p h j Meets posed fitting fits solution);
+  plane = λ same. plane_law p h (subst (IsJudgement p h) same fits);
 }
 
 -- the judgement of what is lost first

@@ -1,6 +1,7 @@
 pub mod Problem
 pub mod Bounds
 pub mod Solution
+pub mod Plane
 pub mod Firsts
 pub mod Named
 pub mod Unlike
@@ -11,3 +12,4 @@ pub mod Texts
 pub mod Transitions
 pub mod Differences
 pub mod Board
+pub mod Worked

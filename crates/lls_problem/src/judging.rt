@@ -2,6 +2,7 @@
 ghost use Rattle.std.specs.Prelude.{◌≡◌, ◌≢◌, IsTrue, ◌↔◌};
 ghost use Rattle.lls_grid.specs.History.{HasSizes};
 ghost use Rattle.lls_problem.specs.Solution.{IsSolution};
+ghost use Rattle.lls_problem.specs.Plane.{PlaneLaw};
 ghost use Rattle.lls_problem.specs.Judgement.{IsJudgement};
 ghost use Rattle.lls_problem.specs.declared.judgement.Judgement.{Judgement};
 
@@ -29,6 +30,7 @@ pub fn judge(problem: &Problem, history: &History) -> Judgement
     ensures unique { (other : Judgement) → IsJudgement problem.now history.now other → other ≡ result }
     ensures meets { result ≡ Judgement.Meets → IsSolution problem.now history.now }
     ensures broken { result ≢ Judgement.Meets → IsSolution problem.now history.now → ⊥ }
+    ensures plane { result ≡ Judgement.Meets → PlaneLaw problem.now history.now }
 {
     // That the demands fit the file is known from here on.
     let _demands = problem.demands();

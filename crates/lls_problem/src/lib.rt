@@ -8,6 +8,8 @@ mod differences;
 mod judgement;
 mod judging;
 mod losses;
+#[cfg(test)]
+mod plane_tests;
 mod population;
 mod problem;
 #[cfg(test)]

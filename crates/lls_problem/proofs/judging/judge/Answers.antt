@@ -42,7 +42,7 @@ returns-in-Some c =
     let place = c.in-Some.place in
     let before = sizes_kept (goal.at.returns-in-Some c).Else-not-has_its_sizes in
     let it = judged c.args.problem.now c.args.history.now (Cell place.t place.y place.x) c.posed.ensures.kept c.demands-demands.ensures.kept (record { kept = before; first = c.in-Some.ensures }) in
-    record { judgement = it.judgement; unique = it.unique; meets = it.meets; broken = it.broken }
+    record { judgement = it.judgement; unique = it.unique; meets = it.meets; broken = it.broken; plane = it.plane }
 
 pub returns-in-Some-first_disagreement : goal.returns-in-Some-first_disagreement
 returns-in-Some-first_disagreement c =
@@ -50,7 +50,7 @@ returns-in-Some-first_disagreement c =
     let at = goal.at.returns-in-Some-first_disagreement c in
     let before = cells_kept at.In_default (sizes_kept at.Else-not-has_its_sizes) in
     let it = judged c.args.problem.now c.args.history.now (Name place.t place.y place.x) c.posed.ensures.kept c.demands-demands.ensures.kept (record { kept = before; first = c.in-Some-first_disagreement.ensures }) in
-    record { judgement = it.judgement; unique = it.unique; meets = it.meets; broken = it.broken }
+    record { judgement = it.judgement; unique = it.unique; meets = it.meets; broken = it.broken; plane = it.plane }
 
 pub returns-in-Some-first_unlike : goal.returns-in-Some-first_unlike
 returns-in-Some-first_unlike c =
@@ -58,7 +58,7 @@ returns-in-Some-first_unlike c =
     let at = goal.at.returns-in-Some-first_unlike c in
     let before = names_kept at.In_default-first_disagreement (cells_kept at.In_default (sizes_kept at.Else-not-has_its_sizes)) in
     let it = judged c.args.problem.now c.args.history.now (Symmetry place.t place.y place.x) c.posed.ensures.kept c.demands-demands.ensures.kept (record { kept = before; first = sym c.in-Some-first_unlike.ensures }) in
-    record { judgement = it.judgement; unique = it.unique; meets = it.meets; broken = it.broken }
+    record { judgement = it.judgement; unique = it.unique; meets = it.meets; broken = it.broken; plane = it.plane }
 
 pub returns-in-Some-first_loss : goal.returns-in-Some-first_loss
 returns-in-Some-first_loss c =
@@ -67,7 +67,7 @@ returns-in-Some-first_loss c =
     let before = symmetry_kept at.In_default-first_unlike (names_kept at.In_default-first_disagreement (cells_kept at.In_default (sizes_kept at.Else-not-has_its_sizes))) in
     let found = judged c.args.problem.now c.args.history.now (judgement_of loss) c.posed.ensures.kept c.demands-demands.ensures.kept (judgement_of-fits c.args.problem.now c.args.history.now loss before c.in-Some-first_loss.ensures) in
     let it = subst (Judged c.args.problem.now c.args.history.now) (sym c.judgement.ensures) found in
-    record { judgement = it.judgement; unique = it.unique; meets = it.meets; broken = it.broken }
+    record { judgement = it.judgement; unique = it.unique; meets = it.meets; broken = it.broken; plane = it.plane }
 
 pub returns-in-Some-first_transition : goal.returns-in-Some-first_transition
 returns-in-Some-first_transition c =
@@ -79,7 +79,7 @@ returns-in-Some-first_transition c =
     let at = goal.at.returns-in-Some-first_transition c in
     let before = period_kept at.In_default-first_loss (symmetry_kept at.In_default-first_unlike (names_kept at.In_default-first_disagreement (cells_kept at.In_default (sizes_kept at.Else-not-has_its_sizes)))) in
     let it = judged c.args.problem.now c.args.history.now (Rule place.t place.y place.x) c.posed.ensures.kept c.demands-demands.ensures.kept (record { kept = before; first = c.in-Some-first_transition.ensures }) in
-    rw (row, column) (record { judgement = it.judgement; unique = it.unique; meets = it.meets; broken = it.broken })
+    rw (row, column) (record { judgement = it.judgement; unique = it.unique; meets = it.meets; broken = it.broken; plane = it.plane })
 
 pub returns-in-Some-first_outside : goal.returns-in-Some-first_outside
 returns-in-Some-first_outside c =
@@ -87,14 +87,14 @@ returns-in-Some-first_outside c =
     let at = goal.at.returns-in-Some-first_outside c in
     let before = rule_kept at.In_default-first_transition (period_kept at.In_default-first_loss (symmetry_kept at.In_default-first_unlike (names_kept at.In_default-first_disagreement (cells_kept at.In_default (sizes_kept at.Else-not-has_its_sizes))))) in
     let it = judged c.args.problem.now c.args.history.now (Population count.t count.live) c.posed.ensures.kept c.demands-demands.ensures.kept (record { kept = before; first = sym c.in-Some-first_outside.ensures }) in
-    record { judgement = it.judgement; unique = it.unique; meets = it.meets; broken = it.broken }
+    record { judgement = it.judgement; unique = it.unique; meets = it.meets; broken = it.broken; plane = it.plane }
 
 pub returns-then-not-differs : goal.returns-then-not-differs
 returns-then-not-differs c =
     let at = goal.at.returns-then-not-differs c in
     let before = population_kept at.In_default-first_outside (rule_kept at.In_default-first_transition (period_kept at.In_default-first_loss (symmetry_kept at.In_default-first_unlike (names_kept at.In_default-first_disagreement (cells_kept at.In_default (sizes_kept at.Else-not-has_its_sizes)))))) in
     let it = judged c.args.problem.now c.args.history.now Same c.posed.ensures.kept c.demands-demands.ensures.kept (record { kept = before; first = c.if-not-differs.ensures }) in
-    record { judgement = it.judgement; unique = it.unique; meets = it.meets; broken = it.broken }
+    record { judgement = it.judgement; unique = it.unique; meets = it.meets; broken = it.broken; plane = it.plane }
 
 pub returns : goal.returns
 returns c =
@@ -102,4 +102,4 @@ returns c =
     let before = population_kept at.In_default-first_outside (rule_kept at.In_default-first_transition (period_kept at.In_default-first_loss (symmetry_kept at.In_default-first_unlike (names_kept at.In_default-first_disagreement (cells_kept at.In_default (sizes_kept at.Else-not-has_its_sizes)))))) in
     let it = judged c.args.problem.now c.args.history.now Meets c.posed.ensures.kept c.demands-demands.ensures.kept
     (IsSolution-by_demands c.args.problem.now c.args.history.now before c.if-not-differs.ensures) in
-    record { judgement = it.judgement; unique = it.unique; meets = it.meets; broken = it.broken }
+    record { judgement = it.judgement; unique = it.unique; meets = it.meets; broken = it.broken; plane = it.plane }
