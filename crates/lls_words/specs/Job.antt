@@ -1,5 +1,6 @@
 -- The job of a command line, or its first fault.
-use Rattle.std.specs.Prelude.{ℕ, Bool, List, [], ◌∷◌, length, All, Option, None, Some, Result, Ok, Err}
+use Rattle.std.specs.Prelude.{ℕ, ◌≤◌, Bool, false, List, [], ◌∷◌, length, All, Option, None, Some, Result, Ok, Err, if◌then◌else◌}
+use Rattle.std.specs.Str.{bytes_eq}
 use Rattle.std.specs.Option.{ForSome}
 use Rattle.lls_rule.specs.Rule.{table_of, by_counts}
 use Rattle.lls_hensel.specs.declared.read.RuleError.{RuleError}
@@ -19,11 +20,12 @@ use Rattle.lls_words.specs.declared.settings.Settings.{Settings}
 use Rattle.lls_words.specs.declared.job.Job.{Job}
 use Rattle.lls_words.specs.declared.job.Job.TheVariants as jobs
 use Rattle.lls_words.specs.declared.error.WordsError.{WordsError}
-use Rattle.lls_words.specs.declared.error.WordsError.TheVariants.{NoCommand, UnknownCommand, BadValue, BadRule, Operands}
+use Rattle.lls_words.specs.declared.error.WordsError.TheVariants.{NoCommand, UnknownCommand, BadValue, BadRule, Operands, SameName}
 use Rattle.lls_words.specs.Command.{command_of, operand_count}
 use Rattle.lls_base.specs.Results.{and_then}
 use Rattle.lls_words.specs.Scan.{Operand, Given, scan}
-use Rattle.lls_words.specs.Values.{edge_in, period_in, bounds_in, generations_in}
+use Rattle.lls_words.specs.declared.values.TheConstants.{DEFAULT_BUDGET, MOST_BUDGET}
+use Rattle.lls_words.specs.Values.{edge_in, period_in, bounds_in, generations_in, budget_in, keep_all_in, rle_in}
 
 -- a rule text at a place
 abbrev pub rule_or : ℕ → Result (List Bool) RuleError → Result (List Bool) WordsError
@@ -57,6 +59,9 @@ setting_value s place text settings.Live =
     and_then (value_or place (bounds_in text)) (λ bounds. Ok (with_demands s (record s.demands { bounds = bounds })))
 setting_value s place text settings.Differ =
     and_then (value_or place (generations_in text)) (λ pair. Ok (with_demands s (record s.demands { differ = Some pair })))
+setting_value s place text settings.Budget = and_then (value_or place (budget_in text)) (λ budget. Ok (record s { budget = budget }))
+setting_value s place text settings.Keep = and_then (value_or place (keep_all_in text)) (λ keep_all. Ok (record s { keep_all = keep_all }))
+setting_value s place text settings.As = and_then (value_or place (rle_in text)) (λ rle. Ok (record s { rle = rle }))
 
 -- the settings with the value of one option
 abbrev pub with_value : Settings → Given → Result Settings WordsError
@@ -67,18 +72,28 @@ abbrev pub settled : Settings → List Given → Result Settings WordsError
 settled s [] = Ok s
 settled s (given ∷ givens) = and_then (with_value s given) (λ more. settled more givens)
 
--- Life, `B3/S23`, under a closed edge, and nothing else demanded
+-- Life, `B3/S23`, under a closed edge, and nothing else demanded; half of the learnt clauses are kept, and patterns are rows
 abbrev pub defaults : Settings
-defaults = record { rule = table_of (by_counts 8 12); demands = edge_alone Framed }
+defaults = record { rule = table_of (by_counts 8 12); demands = edge_alone Framed; budget = DEFAULT_BUDGET; keep_all = false; rle = false }
+
+-- the names of a file that is read and of one that is written, which have to differ
+abbrev pub names_apart : Operand → Operand → Result (List ℕ × List ℕ) WordsError
+names_apart input output = if bytes_eq input.word output.word then Err (SameName output.place) else Ok (input.word, output.word)
 
 -- the job of a command by its operands, whose number is the first test, and its options
 abbrev pub job_with : Command → List Operand → List Given → Result Job WordsError
 job_with commands.Check (search_file ∷ proof ∷ []) givens =
     and_then (settled defaults givens) (λ s. Ok (jobs.Check search_file.word proof.word s.rule s.demands))
+job_with commands.Search (search_file ∷ proof ∷ []) givens =
+    and_then (settled defaults givens) (λ s.
+    and_then (names_apart search_file proof) (λ names. Ok (jobs.Search names.0 names.1 s.rule s.demands s.budget s.keep_all s.rle)))
 job_with commands.Judge (search_file ∷ pattern ∷ []) givens =
-    and_then (settled defaults givens) (λ s. Ok (jobs.Judge search_file.word pattern.word s.rule s.demands))
+    and_then (settled defaults givens) (λ s. Ok (jobs.Judge search_file.word pattern.word s.rule s.demands s.rle))
 job_with commands.Cnf (search_file ∷ []) givens =
     and_then (settled defaults givens) (λ s. Ok (jobs.Cnf search_file.word s.rule s.demands))
+job_with commands.Sat (formula ∷ proof ∷ []) givens =
+    and_then (settled defaults givens) (λ s.
+    and_then (names_apart formula proof) (λ names. Ok (jobs.Sat names.0 names.1 s.budget s.keep_all)))
 job_with commands.Lrat (formula ∷ proof ∷ []) givens = Ok (jobs.Lrat formula.word proof.word)
 job_with commands.Rule (text ∷ []) givens = and_then (rule_at text.place text.word) (λ rule. Ok (jobs.Rule rule))
 job_with command operands givens = Err (Operands (operand_count command) (length operands))
@@ -98,10 +113,18 @@ pub record AreWithinLimits (demands : Demands) : Type 0 where
   pub period : ForSome demands.period IsPeriod
   pub bounds : All HasEnds demands.bounds
 
--- what the words keep: demands are within the limits, and a rule that is to be printed is isotropic
+-- demands and a budget within the limits, and a rule that can be printed
+pub record AreAllowed (rule : List Bool) (demands : Demands) (budget : ℕ) : Type 0 where
+  pub demanded : AreWithinLimits demands
+  pub isotropic : IsIsotropic rule
+  pub budgeted : budget ≤ MOST_BUDGET
+
+-- what the words keep: demands and budgets are within the limits, and a rule that is to be printed is isotropic
 abbrev pub KeepsLimits : Job → Type 0
 KeepsLimits (jobs.Check search_file proof rule demands) = AreWithinLimits demands
-KeepsLimits (jobs.Judge search_file pattern rule demands) = AreWithinLimits demands
+KeepsLimits (jobs.Search search_file proof rule demands budget keep_all rle) = AreAllowed rule demands budget
+KeepsLimits (jobs.Judge search_file pattern rule demands rle) = AreWithinLimits demands
 KeepsLimits (jobs.Cnf search_file rule demands) = AreWithinLimits demands
+KeepsLimits (jobs.Sat formula proof budget keep_all) = budget ≤ MOST_BUDGET
 KeepsLimits (jobs.Lrat formula proof) = Unit {0}
 KeepsLimits (jobs.Rule rule) = IsIsotropic rule

@@ -1,5 +1,5 @@
 -- The values of options.
-use Rattle.std.specs.Prelude.{ℕ, ◌+◌, ◌-◌, ℤ, pos, ◌-ℤ◌, ◌==◌, ◌&&◌, nat_le, Bool, List, [], ◌∷◌, length, take, drop, position, codes, Option, None, Some, if◌then◌else◌}
+use Rattle.std.specs.Prelude.{ℕ, ◌+◌, ◌-◌, ℤ, pos, ◌-ℤ◌, ◌==◌, ◌&&◌, nat_le, Bool, true, false, List, [], ◌∷◌, length, take, drop, position, codes, Option, None, Some, if◌then◌else◌}
 use Rattle.std.specs.Option.{option_map, option_and_then}
 use Rattle.std.specs.List.{slice_split}
 use Rattle.std.specs.Str.{bytes_eq}
@@ -12,7 +12,7 @@ use Rattle.lls_problem.specs.declared.bounds.TheConstants.Bound.{MOST}
 use Rattle.lls_problem.specs.declared.demands.Edge.{Edge}
 use Rattle.lls_problem.specs.declared.demands.Edge.TheVariants.{Framed, Bare}
 use Rattle.lls_problem.specs.declared.demands.Period.{Period}
-use Rattle.lls_words.specs.declared.values.TheConstants.{MOST_DIGITS}
+use Rattle.lls_words.specs.declared.values.TheConstants.{MOST_DIGITS, MOST_BUDGET}
 use Rattle.lls_words.specs.Items.{is_dash}
 
 abbrev pub edge_in : List ℕ → Option Edge
@@ -44,6 +44,21 @@ from_to low high n = if nat_le low n && nat_le n high then Some n else None
 
 abbrev pub number_in : ℕ → ℕ → List ℕ → Option ℕ
 number_in low high text = option_and_then (from_to low high) (natural_in text)
+
+abbrev pub budget_in : List ℕ → Option ℕ
+budget_in text = number_in 0 MOST_BUDGET text
+
+-- whether all learnt clauses are kept
+abbrev pub keep_all_in : List ℕ → Option Bool
+keep_all_in text =
+    if bytes_eq text (codes "all") then Some true else
+    if bytes_eq text (codes "half") then Some false else None
+
+-- whether patterns are RLE
+abbrev pub rle_in : List ℕ → Option Bool
+rle_in text =
+    if bytes_eq text (codes "rle") then Some true else
+    if bytes_eq text (codes "rows") then Some false else None
 
 -- a number of columns or rows, with a dash before it where it goes left or up
 abbrev pub shift_in : List ℕ → Option ℤ

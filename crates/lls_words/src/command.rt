@@ -6,8 +6,10 @@ ghost use Rattle.lls_words.specs.Command.{command_of, operand_count, options_of,
 #[derive(Clone, Copy, Debug, PartialEq, Eq)]
 pub enum Command {
     Check,
+    Search,
     Judge,
     Cnf,
+    Sat,
     Lrat,
     Rule,
 }
@@ -21,6 +23,9 @@ pub enum Setting {
     Period,
     Live,
     Differ,
+    Budget,
+    Keep,
+    As,
 }
 
 impl Command {
@@ -30,10 +35,14 @@ impl Command {
     {
         if name == b"check".as_slice() {
             Some(Command::Check)
+        } else if name == b"search".as_slice() {
+            Some(Command::Search)
         } else if name == b"judge".as_slice() {
             Some(Command::Judge)
         } else if name == b"cnf".as_slice() {
             Some(Command::Cnf)
+        } else if name == b"sat".as_slice() {
+            Some(Command::Sat)
         } else if name == b"lrat".as_slice() {
             Some(Command::Lrat)
         } else if name == b"rule".as_slice() {
@@ -48,7 +57,7 @@ impl Command {
         ensures { result ≡ operand_count self }
     {
         match self {
-            Command::Check | Command::Judge | Command::Lrat => 2,
+            Command::Check | Command::Search | Command::Judge | Command::Sat | Command::Lrat => 2,
             Command::Cnf | Command::Rule => 1,
         }
     }
@@ -58,7 +67,7 @@ impl Command {
         ensures { result.now ≡ options_of self }
     {
         match self {
-            Command::Check | Command::Judge | Command::Cnf => &[
+            Command::Check | Command::Cnf => &[
                 Setting::Rule,
                 Setting::Edge,
                 Setting::Symmetry,
@@ -66,6 +75,27 @@ impl Command {
                 Setting::Live,
                 Setting::Differ,
             ],
+            Command::Search => &[
+                Setting::Rule,
+                Setting::Edge,
+                Setting::Symmetry,
+                Setting::Period,
+                Setting::Live,
+                Setting::Differ,
+                Setting::Budget,
+                Setting::Keep,
+                Setting::As,
+            ],
+            Command::Judge => &[
+                Setting::Rule,
+                Setting::Edge,
+                Setting::Symmetry,
+                Setting::Period,
+                Setting::Live,
+                Setting::Differ,
+                Setting::As,
+            ],
+            Command::Sat => &[Setting::Budget, Setting::Keep],
             Command::Lrat | Command::Rule => &[],
         }
     }
@@ -95,6 +125,12 @@ impl Setting {
             Some(Setting::Live)
         } else if name == b"differ".as_slice() {
             Some(Setting::Differ)
+        } else if name == b"budget".as_slice() {
+            Some(Setting::Budget)
+        } else if name == b"keep".as_slice() {
+            Some(Setting::Keep)
+        } else if name == b"as".as_slice() {
+            Some(Setting::As)
         } else {
             None
         }

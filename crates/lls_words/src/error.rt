@@ -26,6 +26,8 @@ pub enum WordsError {
     BadRule(u64, RuleError),
     /// How many operands the command has, and how many there are.
     Operands(u64, u64),
+    /// The file that is to be written has the name of one that is read.
+    SameName(u64),
     /// An allocation was refused.
     Memory,
 }
@@ -51,6 +53,7 @@ impl fmt::Display for WordsError {
                 BadRule { place, fault }.fmt(f)
             }
             WordsError::Operands(expected, found) => write!(f, "Operands {expected} {found}"),
+            WordsError::SameName(place) => write!(f, "SameName {place}"),
             WordsError::Memory => write!(f, "Memory"),
         }
     }

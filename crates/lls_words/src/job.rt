@@ -13,18 +13,42 @@ pub enum Job {
         rule: Rule,
         demands: Demands,
     },
+    /// Look for a solution of a search file, or write a proof that there is none.
+    Search {
+        search: Name,
+        proof: Name,
+        rule: Rule,
+        demands: Demands,
+        /// How many clauses may be learnt.
+        budget: u32,
+        /// Whether no learnt clause may be deleted.
+        keep_all: bool,
+        /// Whether the solution is printed as RLE, and not as rows.
+        rle: bool,
+    },
     /// Judge a pattern against a search file.
     Judge {
         search: Name,
         pattern: Name,
         rule: Rule,
         demands: Demands,
+        /// Whether the pattern is RLE, and not rows.
+        rle: bool,
     },
     /// Print the formula of a search file.
     Cnf {
         search: Name,
         rule: Rule,
         demands: Demands,
+    },
+    /// Look for an assignment that satisfies a formula, or write a proof that there is none.
+    Sat {
+        formula: Name,
+        proof: Name,
+        /// How many clauses may be learnt.
+        budget: u32,
+        /// Whether no learnt clause may be deleted.
+        keep_all: bool,
     },
     /// Check a proof against a formula.
     Lrat {

@@ -1,17 +1,20 @@
 // The values of a command's options.
-ghost use Rattle.std.specs.Prelude.{◌≡◌, map, All, IfOk};
+ghost use Rattle.std.specs.Prelude.{◌≡◌, ◌≤◌, map, All, IfOk};
 ghost use Rattle.lls_base.specs.Results.{Gives};
 ghost use Rattle.lls_hensel.specs.Isotropy.{IsIsotropic};
 ghost use Rattle.lls_problem.specs.Bounds.{HasEnds};
 ghost use Rattle.lls_problem.specs.Problem.{IsPeriod};
-ghost use Rattle.lls_words.specs.Job.{rule_at, value_or, with_value, settled, defaults, AreWithinLimits};
-ghost use Rattle.lls_words.specs.Values.{period_in, bounds_in};
+ghost use Rattle.lls_words.specs.Job.{rule_at, value_or, with_value, settled, defaults, AreAllowed};
+ghost use Rattle.lls_words.specs.Values.{period_in, bounds_in, budget_in};
 ghost use Rattle.lls_words.specs.Seen.{seen_given};
 
 use crate::command::Setting;
 use crate::error::WordsError;
 use crate::scan::Given;
-use crate::values::{bounds_in, edge_in, generations_in, period_in};
+use crate::values::{
+    DEFAULT_BUDGET, MOST_BUDGET, bounds_in, budget_in, edge_in, generations_in, keep_all_in,
+    period_in, rle_in,
+};
 use lls_hensel::read_rule;
 use lls_problem::{Bounds, Demands, Edge, Period};
 use lls_rule::Rule;
@@ -23,24 +26,31 @@ use std::alloc::Global;
 pub struct Settings {
     pub rule: Rule,
     pub demands: Demands,
+    pub budget: u32,
+    pub keep_all: bool,
+    pub rle: bool,
 }
 
 impl Settings {
     /// Life, `B3/S23`, under a closed edge.
     fn default_values(alloc: Global) -> Settings
-        ensures { result ≡ defaults }
+        ensures value { result ≡ defaults }
+        ensures allowed { AreAllowed result.rule result.demands result.budget }
     {
         Settings {
             rule: Rule::from_counts(8, 12),
             demands: Demands::new(alloc, Edge::Framed),
+            budget: DEFAULT_BUDGET,
+            keep_all: false,
+            rle: false,
         }
     }
 
     /// The settings with the value of one option.
     fn with_value(self, alloc: Global, given: &Given) -> Result<Settings, WordsError>
-        requires { AreWithinLimits self.demands }
+        requires { AreAllowed self.rule self.demands self.budget }
         ensures value { Gives WordsError.Memory (λ s. s) result (with_value self (seen_given given.now)) }
-        ensures limits { IfOk result (λ s. AreWithinLimits s.demands) }
+        ensures allowed { IfOk result (λ s. AreAllowed s.rule s.demands s.budget) }
     {
         let mut settings = self;
         let fault = WordsError::BadValue(given.place);
@@ -57,6 +67,9 @@ impl Settings {
             Setting::Differ => {
                 settings.demands.differ = Some(generations_in(given.value).ok_or(fault)?);
             }
+            Setting::Budget => settings.budget = budget_at(given.place, given.value)?,
+            Setting::Keep => settings.keep_all = keep_all_in(given.value).ok_or(fault)?,
+            Setting::As => settings.rle = rle_in(given.value).ok_or(fault)?,
         }
         Ok(settings)
     }
@@ -95,10 +108,21 @@ fn bounds_at(alloc: Global, place: u64, text: &[u8]) -> Result<Bounds, WordsErro
     }
 }
 
+/// The budget of a text; the place is its option's.
+fn budget_at(place: u64, text: &[u8]) -> Result<u32, WordsError>
+    ensures value { result ≡ value_or place (budget_in text.now) }
+    ensures within { IfOk result (λ budget. budget ≤ MOST_BUDGET) }
+{
+    match budget_in(text) {
+        Some(budget) => Ok(budget),
+        None => Err(WordsError::BadValue(place)),
+    }
+}
+
 /// The settings of a command's options, in their order.
 pub fn settle(alloc: Global, givens: &[Given]) -> Result<Settings, WordsError>
     ensures settings { Gives WordsError.Memory (λ s. s) result (settled defaults (map seen_given givens.now)) }
-    ensures limits { IfOk result (λ s. AreWithinLimits s.demands) }
+    ensures allowed { IfOk result (λ s. AreAllowed s.rule s.demands s.budget) }
 {
     let mut settings = Settings::default_values(alloc);
     for given in givens {

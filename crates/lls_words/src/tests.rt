@@ -14,75 +14,93 @@ fn words_of(alloc: Global, text: &str) -> Result<Vec<String>, AllocError> {
     Ok(words)
 }
 
+/// Command lines, and the fault of each.
+const FAULTS: &str = "\
+guess f p > UnknownCommand
+--help > UnknownCommand
+check f > Operands 2 1
+judge f p f > Operands 2 3
+rule > Operands 1 0
+cnf f p > Operands 1 2
+lrat f > Operands 2 1
+search f > Operands 2 1
+lrat f p --edge open > UnknownOption 4
+cnf f --edge shut > BadValue 3
+cnf f --edge > MissingValue 3
+check f  p > BadWord 3
+check -f p > BadWord 2
+check f -- p > BadWord 3
+check f p --best > UnknownOption 4
+rule --edge=open 23/3 > UnknownOption 2
+check f p --edge open --edge open > RepeatedOption 6
+check f p --edge open --edge > RepeatedOption 6
+check f p --edge > MissingValue 4
+check f --edge= p > MissingValue 3
+check f --edge --rule p > MissingValue 3
+check --edge shut f p > BadValue 2
+check f p --rule=B9/S --edge shut > Stray 4 2
+check f p --edge shut --rule B9/S > BadValue 4
+judge f p --symmetry C3 > BadValue 4
+judge f p --symmetry c2 > BadValue 4
+judge f p --period 0 > BadValue 4
+judge f p --period 64 > BadValue 4
+judge f p --period 4,1 > BadValue 4
+judge f p --period 4,1,1,1 > BadValue 4
+judge f p --period 4,65,0 > BadValue 4
+judge f p --period 4,0,-65 > BadValue 4
+judge f p --period 4,+1,0 > BadValue 4
+judge f p --period 000000000000000000004 > BadValue 4
+judge f p --period -4 > MissingValue 4
+judge f p --live 0 > BadValue 4
+judge f p --live 0: > BadValue 4
+judge f p --live 0:1 > BadValue 4
+judge f p --live 1-2 > BadValue 4
+judge f p --live :1-2 > BadValue 4
+judge f p --live 64:1-2 > BadValue 4
+judge f p --live 0:8193- > BadValue 4
+judge f p --live 0:-8193 > BadValue 4
+judge f p --live 0:1-2-3 > BadValue 4
+judge f p --live 0:1:-2 > BadValue 4
+judge f p --live 0:--1 > BadValue 4
+judge f p --live 0:1-2, > BadValue 4
+judge f p --live ,0:1-2 > BadValue 4
+judge f p --live 0:1-2,,1:1-2 > BadValue 4
+judge f p --live 0:000000000000000000001- > BadValue 4
+judge f p --live -0:1-2 > MissingValue 4
+judge f p --live 0:- --live 0:- > RepeatedOption 6
+lrat f p --live 0:- > UnknownOption 4
+judge f p --differ 0 > BadValue 4
+judge f p --differ 0,64 > BadValue 4
+judge f p --differ 0,1,2 > BadValue 4
+check f p --period 4,1 > BadValue 4
+cnf f --differ 64,0 > BadValue 3
+lrat f p --symmetry C2 > UnknownOption 4
+rule B3/S23 --period 1 > UnknownOption 3
+rule B1k/S > BadLetter 2 3
+rule B33/S > RepeatedDigit 2 3
+rule B2aa/S > RepeatedLetter 2 4
+rule B2-/S > NoLetters 2 3
+search f f > SameName 3
+search --budget 7 f --edge open f > SameName 7
+sat f f > SameName 3
+sat f f --budget x > BadValue 4
+sat --budget 7 f f --budget > RepeatedOption 6
+sat f g --budget 10000001 > BadValue 4
+sat f g --budget 000000000000000000007 > BadValue 4
+sat f g --rule B3/S23 > UnknownOption 4
+sat f g --as rle > UnknownOption 4
+cnf f --budget 1 > UnknownOption 3
+judge f p --keep all > UnknownOption 4
+search f g --keep some > BadValue 4
+search f g --as RLE > BadValue 4";
+
 #[test]
 fn faults_are_named_by_their_place(rt: HostRuntime) -> Result<(), Fail> {
     let alloc = rt.alloc();
-    let rows = [
-        ("guess f p", "UnknownCommand"),
-        ("--help", "UnknownCommand"),
-        ("check f", "Operands 2 1"),
-        ("judge f p f", "Operands 2 3"),
-        ("rule", "Operands 1 0"),
-        ("cnf f p", "Operands 1 2"),
-        ("lrat f", "Operands 2 1"),
-        ("lrat f p --edge open", "UnknownOption 4"),
-        ("cnf f --edge shut", "BadValue 3"),
-        ("cnf f --edge", "MissingValue 3"),
-        ("check f  p", "BadWord 3"),
-        ("check -f p", "BadWord 2"),
-        ("check f -- p", "BadWord 3"),
-        ("check f p --best", "UnknownOption 4"),
-        ("rule --edge=open 23/3", "UnknownOption 2"),
-        ("check f p --edge open --edge open", "RepeatedOption 6"),
-        ("check f p --edge open --edge", "RepeatedOption 6"),
-        ("check f p --edge", "MissingValue 4"),
-        ("check f --edge= p", "MissingValue 3"),
-        ("check f --edge --rule p", "MissingValue 3"),
-        ("check --edge shut f p", "BadValue 2"),
-        ("check f p --rule=B9/S --edge shut", "Stray 4 2"),
-        ("check f p --edge shut --rule B9/S", "BadValue 4"),
-        ("judge f p --symmetry C3", "BadValue 4"),
-        ("judge f p --symmetry c2", "BadValue 4"),
-        ("judge f p --period 0", "BadValue 4"),
-        ("judge f p --period 64", "BadValue 4"),
-        ("judge f p --period 4,1", "BadValue 4"),
-        ("judge f p --period 4,1,1,1", "BadValue 4"),
-        ("judge f p --period 4,65,0", "BadValue 4"),
-        ("judge f p --period 4,0,-65", "BadValue 4"),
-        ("judge f p --period 4,+1,0", "BadValue 4"),
-        ("judge f p --period 000000000000000000004", "BadValue 4"),
-        ("judge f p --period -4", "MissingValue 4"),
-        ("judge f p --live 0", "BadValue 4"),
-        ("judge f p --live 0:", "BadValue 4"),
-        ("judge f p --live 0:1", "BadValue 4"),
-        ("judge f p --live 1-2", "BadValue 4"),
-        ("judge f p --live :1-2", "BadValue 4"),
-        ("judge f p --live 64:1-2", "BadValue 4"),
-        ("judge f p --live 0:8193-", "BadValue 4"),
-        ("judge f p --live 0:-8193", "BadValue 4"),
-        ("judge f p --live 0:1-2-3", "BadValue 4"),
-        ("judge f p --live 0:1:-2", "BadValue 4"),
-        ("judge f p --live 0:--1", "BadValue 4"),
-        ("judge f p --live 0:1-2,", "BadValue 4"),
-        ("judge f p --live ,0:1-2", "BadValue 4"),
-        ("judge f p --live 0:1-2,,1:1-2", "BadValue 4"),
-        ("judge f p --live 0:000000000000000000001-", "BadValue 4"),
-        ("judge f p --live -0:1-2", "MissingValue 4"),
-        ("judge f p --live 0:- --live 0:-", "RepeatedOption 6"),
-        ("lrat f p --live 0:-", "UnknownOption 4"),
-        ("judge f p --differ 0", "BadValue 4"),
-        ("judge f p --differ 0,64", "BadValue 4"),
-        ("judge f p --differ 0,1,2", "BadValue 4"),
-        ("check f p --period 4,1", "BadValue 4"),
-        ("cnf f --differ 64,0", "BadValue 3"),
-        ("lrat f p --symmetry C2", "UnknownOption 4"),
-        ("rule B3/S23 --period 1", "UnknownOption 3"),
-        ("rule B1k/S", "BadLetter 2 3"),
-        ("rule B33/S", "RepeatedDigit 2 3"),
-        ("rule B2aa/S", "RepeatedLetter 2 4"),
-        ("rule B2-/S", "NoLetters 2 3"),
-    ];
-    for (line, want) in rows {
+    for row in FAULTS.split('\n') {
+        let Some((line, want)) = row.split_once(" > ") else {
+            return Err(Fail::from("a row"));
+        };
         let words = words_of(alloc, line)?;
         let Err(error) = read_job(alloc, &words) else {
             return Err(Fail::from("a fault"));
@@ -122,13 +140,56 @@ fn options_and_operands_stand_in_any_order(rt: HostRuntime) -> Result<(), Fail> 
     Ok(())
 }
 
-// The demands of a job that has some.
+/// What a job says beside its names: its budget, whether all is kept, and whether patterns are RLE.
+fn choices_of(job: Job) -> (Option<u32>, bool, bool) {
+    match job {
+        Job::Search {
+            budget,
+            keep_all,
+            rle,
+            ..
+        } => (Some(budget), keep_all, rle),
+        Job::Sat {
+            budget,
+            keep_all,
+            ..
+        } => (Some(budget), keep_all, false),
+        Job::Judge { rle, .. } => (None, false, rle),
+        _ => (None, false, false),
+    }
+}
+
+#[test]
+fn choices_of_a_search(rt: HostRuntime) -> Result<(), Fail> {
+    let alloc = rt.alloc();
+    let rows = [
+        ("search f p", (Some(100_000), false, false)),
+        (
+            "search --as=rle f --budget 00000000000010000000 p --keep all",
+            (Some(10_000_000), true, true),
+        ),
+        ("sat f p", (Some(100_000), false, false)),
+        ("sat --keep=half f p --budget 0", (Some(0), false, false)),
+        ("judge f f --as rle", (None, false, true)),
+        ("judge f f --as rows", (None, false, false)),
+        ("check f f", (None, false, false)),
+        ("lrat f f", (None, false, false)),
+    ];
+    for (line, want) in rows {
+        let words = words_of(alloc, line)?;
+        assert!(rt; choices_of(read_job(alloc, &words)?) == want, "at {line:?}");
+    }
+    Ok(())
+}
+
+/// The demands of a job that has some.
 fn demands_of(job: Job) -> Result<Demands, Fail> {
     match job {
         Job::Check { demands, .. } => Ok(demands),
+        Job::Search { demands, .. } => Ok(demands),
         Job::Judge { demands, .. } => Ok(demands),
         Job::Cnf { demands, .. } => Ok(demands),
-        Job::Lrat { .. } | Job::Rule { .. } => Err(Fail::from("a job with demands")),
+        _ => Err(Fail::from("a job with demands")),
     }
 }
 

@@ -4,7 +4,7 @@ ghost use Rattle.std.specs.Option.{ForSome, option_map};
 ghost use Rattle.lls_grid.specs.Place.{IsWithin};
 ghost use Rattle.lls_problem.specs.Bounds.{HasEnds};
 ghost use Rattle.lls_problem.specs.Problem.{IsPeriod};
-ghost use Rattle.lls_words.specs.Values.{edge_in, cut_at, number_in, shift_in, period_in, generation_in, generations_in, low_in, high_in, bound_in, bounds_in};
+ghost use Rattle.lls_words.specs.Values.{edge_in, budget_in, keep_all_in, rle_in, cut_at, number_in, shift_in, period_in, generation_in, generations_in, low_in, high_in, bound_in, bounds_in};
 ghost use Rattle.lls_words.specs.Seen.{seen_pair};
 
 use lls_grid::History;
@@ -15,6 +15,12 @@ use std::alloc::{AllocError, Global};
 
 /// The greatest number of digits of a number.
 const MOST_DIGITS: usize = 20;
+
+/// The greatest budget of a search.
+pub const MOST_BUDGET: u32 = 10_000_000;
+
+/// The budget of a search for which none is said.
+pub const DEFAULT_BUDGET: u32 = 100_000;
 
 /// The edge of a text.
 pub fn edge_in(text: &[u8]) -> Option<Edge>
@@ -47,6 +53,40 @@ pub fn period_in(text: &[u8]) -> Option<Period>
     let dx = shift_in(dx)?;
     let dy = shift_in(dy)?;
     Some(Period { length, dx, dy })
+}
+
+/// The budget of a text.
+pub fn budget_in(text: &[u8]) -> Option<u32>
+    ensures budget { result ≡ budget_in text.now }
+    ensures within { IfSome result (λ budget. budget ≤ MOST_BUDGET) }
+{
+    number_in(text, 0, MOST_BUDGET)
+}
+
+/// Whether a text keeps all learnt clauses.
+pub fn keep_all_in(text: &[u8]) -> Option<bool>
+    ensures { result ≡ keep_all_in text.now }
+{
+    if text == b"all".as_slice() {
+        Some(true)
+    } else if text == b"half".as_slice() {
+        Some(false)
+    } else {
+        None
+    }
+}
+
+/// Whether a text says that patterns are RLE.
+pub fn rle_in(text: &[u8]) -> Option<bool>
+    ensures { result ≡ rle_in text.now }
+{
+    if text == b"rle".as_slice() {
+        Some(true)
+    } else if text == b"rows".as_slice() {
+        Some(false)
+    } else {
+        None
+    }
 }
 
 /// The two generations of a text, separated by a comma.

@@ -1,8 +1,8 @@
 // The job of a command line.
-ghost use Rattle.std.specs.Prelude.{◌≡◌, Ok, map, string_bytes, IfOk};
+ghost use Rattle.std.specs.Prelude.{◌≡◌, Ok, [], ◌∷◌, map, string_bytes, IfOk};
 ghost use Rattle.lls_base.specs.Results.{and_then, Gives};
-ghost use Rattle.lls_words.specs.Job.{defaults, job_with, job_of, settled, AreWithinLimits, KeepsLimits};
-ghost use Rattle.lls_words.specs.Seen.{seen_given, seen_scan};
+ghost use Rattle.lls_words.specs.Job.{defaults, job_with, job_of, names_apart, settled, AreAllowed, KeepsLimits};
+ghost use Rattle.lls_words.specs.Seen.{seen_given, seen_operand, seen_scan};
 
 use crate::command::Command;
 use crate::error::WordsError;
@@ -20,6 +20,17 @@ fn name_of(alloc: Global, operand: &Operand) -> Result<Name, AllocError>
     Ok(Name::new(String::from_str(alloc, operand.word)?))
 }
 
+/// The names of a file that is read and of one that is written, which have to differ.
+fn names_apart(alloc: Global, input: &Operand, output: &Operand) -> Result<(Name, Name), WordsError>
+    ensures { Gives WordsError.Memory (λ names. names) result
+        (names_apart (seen_operand input.now) (seen_operand output.now)) }
+{
+    if input.word == output.word {
+        return Err(WordsError::SameName(output.place));
+    }
+    Ok((name_of(alloc, input)?, name_of(alloc, output)?))
+}
+
 /// The names of two operands, and the values of the options.
 fn posing(
     alloc: Global,
@@ -29,10 +40,129 @@ fn posing(
 ) -> Result<(Name, Name, Settings), WordsError>
     ensures posed { Gives WordsError.Memory (λ posed. posed) result
         (and_then (settled defaults (map seen_given givens.now)) (λ settings. Ok (first.now.word.now, second.now.word.now, settings))) }
-    ensures limits { IfOk result (λ posed. AreWithinLimits posed.2.demands) }
+    ensures allowed { IfOk result (λ posed. AreAllowed posed.2.rule posed.2.demands posed.2.budget) }
 {
     let settings = settle(alloc, givens)?;
     Ok((name_of(alloc, first)?, name_of(alloc, second)?, settings))
+}
+
+/// The job of `check`.
+fn check_job(
+    alloc: Global,
+    search: &Operand,
+    proof: &Operand,
+    givens: &[Given],
+) -> Result<Job, WordsError>
+    ensures job { Gives WordsError.Memory (λ job. job) result
+        (job_with Command.Check (seen_operand search.now ∷ seen_operand proof.now ∷ []) (map seen_given givens.now)) }
+    ensures limits { IfOk result KeepsLimits }
+{
+    let (search, proof, settings) = posing(alloc, search, proof, givens)?;
+    let Settings { rule, demands, .. } = settings;
+    Ok(Job::Check {
+        search,
+        proof,
+        rule,
+        demands,
+    })
+}
+
+/// The job of `search`.
+fn search_job(
+    alloc: Global,
+    search: &Operand,
+    proof: &Operand,
+    givens: &[Given],
+) -> Result<Job, WordsError>
+    ensures job { Gives WordsError.Memory (λ job. job) result
+        (job_with Command.Search (seen_operand search.now ∷ seen_operand proof.now ∷ []) (map seen_given givens.now)) }
+    ensures limits { IfOk result KeepsLimits }
+{
+    let settings = settle(alloc, givens)?;
+    let (search, proof) = names_apart(alloc, search, proof)?;
+    let Settings {
+        rule,
+        demands,
+        budget,
+        keep_all,
+        rle,
+    } = settings;
+    Ok(Job::Search {
+        search,
+        proof,
+        rule,
+        demands,
+        budget,
+        keep_all,
+        rle,
+    })
+}
+
+/// The job of `judge`.
+fn judge_job(
+    alloc: Global,
+    search: &Operand,
+    pattern: &Operand,
+    givens: &[Given],
+) -> Result<Job, WordsError>
+    ensures job { Gives WordsError.Memory (λ job. job) result
+        (job_with Command.Judge (seen_operand search.now ∷ seen_operand pattern.now ∷ []) (map seen_given givens.now)) }
+    ensures limits { IfOk result KeepsLimits }
+{
+    let (search, pattern, settings) = posing(alloc, search, pattern, givens)?;
+    let Settings {
+        rule,
+        demands,
+        rle,
+        ..
+    } = settings;
+    Ok(Job::Judge {
+        search,
+        pattern,
+        rule,
+        demands,
+        rle,
+    })
+}
+
+/// The job of `cnf`.
+fn cnf_job(alloc: Global, search: &Operand, givens: &[Given]) -> Result<Job, WordsError>
+    ensures job { Gives WordsError.Memory (λ job. job) result
+        (job_with Command.Cnf (seen_operand search.now ∷ []) (map seen_given givens.now)) }
+    ensures limits { IfOk result KeepsLimits }
+{
+    let Settings { rule, demands, .. } = settle(alloc, givens)?;
+    let search = name_of(alloc, search)?;
+    Ok(Job::Cnf {
+        search,
+        rule,
+        demands,
+    })
+}
+
+/// The job of `sat`.
+fn sat_job(
+    alloc: Global,
+    formula: &Operand,
+    proof: &Operand,
+    givens: &[Given],
+) -> Result<Job, WordsError>
+    ensures job { Gives WordsError.Memory (λ job. job) result
+        (job_with Command.Sat (seen_operand formula.now ∷ seen_operand proof.now ∷ []) (map seen_given givens.now)) }
+    ensures limits { IfOk result KeepsLimits }
+{
+    let Settings {
+        budget,
+        keep_all,
+        ..
+    } = settle(alloc, givens)?;
+    let (formula, proof) = names_apart(alloc, formula, proof)?;
+    Ok(Job::Sat {
+        formula,
+        proof,
+        budget,
+        keep_all,
+    })
 }
 
 /// The job of a command by its operands and options.
@@ -41,36 +171,13 @@ fn job_with(alloc: Global, command: Command, scan: &Scan) -> Result<Job, WordsEr
         (job_with command (seen_scan scan.now).operands (seen_scan scan.now).givens) }
     ensures limits { IfOk result KeepsLimits }
 {
+    let givens = scan.givens.as_slice();
     match (command, scan.operands.as_slice()) {
-        (Command::Check, [search, proof]) => {
-            let (search, proof, settings) = posing(alloc, search, proof, &scan.givens)?;
-            let Settings { rule, demands } = settings;
-            Ok(Job::Check {
-                search,
-                proof,
-                rule,
-                demands,
-            })
-        }
-        (Command::Judge, [search, pattern]) => {
-            let (search, pattern, settings) = posing(alloc, search, pattern, &scan.givens)?;
-            let Settings { rule, demands } = settings;
-            Ok(Job::Judge {
-                search,
-                pattern,
-                rule,
-                demands,
-            })
-        }
-        (Command::Cnf, [search]) => {
-            let Settings { rule, demands } = settle(alloc, &scan.givens)?;
-            let search = name_of(alloc, search)?;
-            Ok(Job::Cnf {
-                search,
-                rule,
-                demands,
-            })
-        }
+        (Command::Check, [search, proof]) => check_job(alloc, search, proof, givens),
+        (Command::Search, [search, proof]) => search_job(alloc, search, proof, givens),
+        (Command::Judge, [search, pattern]) => judge_job(alloc, search, pattern, givens),
+        (Command::Cnf, [search]) => cnf_job(alloc, search, givens),
+        (Command::Sat, [formula, proof]) => sat_job(alloc, formula, proof, givens),
         (Command::Lrat, [formula, proof]) => Ok(Job::Lrat {
             formula: name_of(alloc, formula)?,
             proof: name_of(alloc, proof)?,
@@ -83,7 +190,7 @@ fn job_with(alloc: Global, command: Command, scan: &Scan) -> Result<Job, WordsEr
 }
 
 /// The job of the words behind the program's name, or the first fault: of the command, of the words
-/// from the left, of the number of operands, of the values from the left.
+/// from the left, of the number of operands, of the values from the left, of the names.
 pub fn read_job(alloc: Global, words: &[String]) -> Result<Job, WordsError>
     ensures job { Gives WordsError.Memory (λ job. job) result (job_of (map string_bytes words.now)) }
     ensures limits { IfOk result KeepsLimits }
