@@ -1,5 +1,5 @@
 -- What is true over the clauses of a store is true over those of an equal one.
-use Rattle.std.proofs.Common.{◌≡◌, ℕ, List, subst, sym}
+use Rattle.std.proofs.Common.{◌≡◌, ℕ, List, subst, sym, ◌∙◌}
 use Rattle.lls_store.specs.Trail.{TrailState}
 use Rattle.lls_store.specs.Sound.{IsSound}
 use Rattle.lls_store.specs.Store.{StoreState, IsConflict}
@@ -32,12 +32,13 @@ closed_below_kept s t trail same closed = subst (λ (x : StoreState). AreClosedB
 pub closed_below_moved : (s : StoreState) (old new : TrailState) → old ≡ new → AreClosedBelow s.live old → AreClosedBelow s.live new
 closed_below_moved s old new same closed = subst (λ (x : TrailState). AreClosedBelow s.live x) same closed
 
--- a search goes on over the same clauses with another trail
-pub searching_kept : (formula : Cnf) (steps : List Step) (s t : StoreState) (old new : TrailState) (before after : OrderState) (phases more : ℕ) → IsSearching formula steps s old before phases → t ≡ s → IsCourse s.vars new after more → IsSound s.live new → AreClosedBelow s.live new → IsSearching formula steps t new after more
-searching_kept formula steps s t old new before after phases more h same course sound closed = record {
-  holds = subst (λ (x : StoreState). HoldsClauses x formula.vars (live_after formula steps)) (sym same) h.holds;
+-- a search goes on over the same clauses with another trail, of which the store in between tells
+pub searching_kept : (formula : Cnf) (steps : List Step) (s middle t : StoreState) (old new : TrailState) (before after : OrderState) (phases more : ℕ) → IsSearching formula steps s old before phases → middle ≡ s → t ≡ middle
+    → IsCourse middle.vars new after more → IsSound middle.live new → AreClosedBelow middle.live new → IsSearching formula steps t new after more
+searching_kept formula steps s middle t old new before after phases more h first second course sound closed = record {
+  holds = subst (λ (x : StoreState). HoldsClauses x formula.vars (live_after formula steps)) (sym (second ∙ first)) h.holds;
   log = h.log;
-  course = subst (λ (x : StoreState). IsCourse x.vars new after more) (sym same) course;
-  sound = sound_kept s t new (sym same) sound;
-  closed_below = closed_below_kept s t new (sym same) closed;
+  course = subst (λ (x : StoreState). IsCourse x.vars new after more) (sym second) course;
+  sound = sound_kept middle t new (sym second) sound;
+  closed_below = closed_below_kept middle t new (sym second) closed;
 }

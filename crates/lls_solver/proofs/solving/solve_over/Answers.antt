@@ -1,6 +1,4 @@
 use Rattle.std.proofs.Common.{length, sym, ◌∙◌, subst, arith}
-use Rattle.lls_store.specs.Store.{StoreState}
-use Rattle.lls_solver.specs.Course.{IsCourse}
 use Rattle.lls_solver.specs.Searching.{HoldsFormula}
 use Rattle.lls_solver.proofs.Kept.{sound_kept, conflict_kept, closed_below_kept, searching_kept}
 use Rattle.lls_solver.proofs.Clauses.{count-additions}
@@ -26,33 +24,27 @@ go_to_conflict-requires-clause-closed_below g c =
 
 pub refute_by-requires-clause-searching : goal.refute_by-requires-clause-searching
 refute_by-requires-clause-searching g c =
-    let old = g.S.Store.state c.loop-alloc.store in
+    let old = c.loop-alloc.course in
     let new = c.go_to_conflict.new.course in
-    searching_kept c.args.formula.now c.loop-alloc.log.steps old (g.S.Store.state c.go_to_conflict.new.store) c.loop-alloc.course.trail new.trail c.loop-alloc.course.order new.order (length c.loop-alloc.course.phases.items) (length new.phases.items) c.loop-alloc.invariant.searching
-    (c.go_to_conflict.ensures.state ∙ c.descend.ensures.state)
-    (subst (λ (s : StoreState). IsCourse s.vars new.trail new.order (length new.phases.items)) c.descend.ensures.state c.go_to_conflict.ensures.course)
-    (sound_kept (g.S.Store.state c.descend.new.store) old new.trail c.descend.ensures.state c.go_to_conflict.ensures.sound)
-    (closed_below_kept (g.S.Store.state c.descend.new.store) old new.trail c.descend.ensures.state c.go_to_conflict.ensures.closed_below)
+    let told = c.go_to_conflict.ensures in
+    searching_kept c.args.formula.now c.loop-alloc.log.steps (g.S.Store.state c.loop-alloc.store) (g.S.Store.state c.descend.new.store) (g.S.Store.state c.go_to_conflict.new.store) old.trail new.trail old.order new.order (length old.phases.items) (length new.phases.items)
+    c.loop-alloc.invariant.searching c.descend.ensures.state told.state told.course told.sound told.closed_below
 
 pub learn_further-requires-clause-searching : goal.learn_further-requires-clause-searching
 learn_further-requires-clause-searching g c =
-    let old = g.S.Store.state c.loop-alloc.store in
+    let old = c.loop-alloc.course in
     let new = c.go_to_conflict.new.course in
-    searching_kept c.args.formula.now c.loop-alloc.log.steps old (g.S.Store.state c.go_to_conflict.new.store) c.loop-alloc.course.trail new.trail c.loop-alloc.course.order new.order (length c.loop-alloc.course.phases.items) (length new.phases.items) c.loop-alloc.invariant.searching
-    (c.go_to_conflict.ensures.state ∙ c.descend.ensures.state)
-    (subst (λ (s : StoreState). IsCourse s.vars new.trail new.order (length new.phases.items)) c.descend.ensures.state c.go_to_conflict.ensures.course)
-    (sound_kept (g.S.Store.state c.descend.new.store) old new.trail c.descend.ensures.state c.go_to_conflict.ensures.sound)
-    (closed_below_kept (g.S.Store.state c.descend.new.store) old new.trail c.descend.ensures.state c.go_to_conflict.ensures.closed_below)
+    let told = c.go_to_conflict.ensures in
+    searching_kept c.args.formula.now c.loop-alloc.log.steps (g.S.Store.state c.loop-alloc.store) (g.S.Store.state c.descend.new.store) (g.S.Store.state c.go_to_conflict.new.store) old.trail new.trail old.order new.order (length old.phases.items) (length new.phases.items)
+    c.loop-alloc.invariant.searching c.descend.ensures.state told.state told.course told.sound told.closed_below
 
 pub learn_from-requires-clause-searching : goal.learn_from-requires-clause-searching
 learn_from-requires-clause-searching g c =
-    let old = g.S.Store.state c.loop-alloc.store in
+    let old = c.loop-alloc.course in
     let new = c.go_to_conflict.new.course in
-    searching_kept c.args.formula.now c.loop-alloc.log.steps old (g.S.Store.state c.go_to_conflict.new.store) c.loop-alloc.course.trail new.trail c.loop-alloc.course.order new.order (length c.loop-alloc.course.phases.items) (length new.phases.items) c.loop-alloc.invariant.searching
-    (c.go_to_conflict.ensures.state ∙ c.descend.ensures.state)
-    (subst (λ (s : StoreState). IsCourse s.vars new.trail new.order (length new.phases.items)) c.descend.ensures.state c.go_to_conflict.ensures.course)
-    (sound_kept (g.S.Store.state c.descend.new.store) old new.trail c.descend.ensures.state c.go_to_conflict.ensures.sound)
-    (closed_below_kept (g.S.Store.state c.descend.new.store) old new.trail c.descend.ensures.state c.go_to_conflict.ensures.closed_below)
+    let told = c.go_to_conflict.ensures in
+    searching_kept c.args.formula.now c.loop-alloc.log.steps (g.S.Store.state c.loop-alloc.store) (g.S.Store.state c.descend.new.store) (g.S.Store.state c.go_to_conflict.new.store) old.trail new.trail old.order new.order (length old.phases.items) (length new.phases.items)
+    c.loop-alloc.invariant.searching c.descend.ensures.state told.state told.course told.sound told.closed_below
 
 pub learn_from-requires-clause-few : goal.learn_from-requires-clause-few
 learn_from-requires-clause-few g c =
