@@ -26,7 +26,7 @@ same a = record { low = omega (arith, ints); high = omega (arith, ints) }
 behind : (a : ℤ) → IsNear a (a +ℤ pos 1)
 behind a = record { low = omega (arith, ints); high = omega (arith, ints) }
 
--- a neighbour of a cell stands in the grid or in the ring
+-- a neighbour of a cell of the grid stands in the grid or in the ring
 framed_near : (height width : ℕ) (y x y' x' : ℤ) → IsNear y y' → IsNear x x' → IsOnGrid height width (record { y = y'; x = x' }) → IsFramed Framed height width y x
 framed_near height width y x y' x' row column on =
     let top = on.top in
@@ -39,7 +39,7 @@ framed_near height width y x y' x' row column on =
     let column_high = column.high in
     (omega (arith, ints), omega (arith, ints), omega (arith, ints), omega (arith, ints))
 
--- so no place of the neighbourhood of another place is on the grid
+-- so the nine cells of any other place are outside the grid
 module _ (p : PosedProblem) (h : History) (t : ℕ) (y x : ℤ) (sizes : HasItsSizes p h) (out : IsFramed Framed p.posed.height p.posed.width y x → ⊥) where
   at_near : (s : ℕ) (y' x' : ℤ) → s < p.posed.generations → IsNear y y' → IsNear x x' → at p.rule h s y' x' ≡ background p.rule s
   at_near s y' x' s_in row column =

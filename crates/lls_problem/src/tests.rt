@@ -27,68 +27,136 @@ fn judged(
     Ok(judge(&problem, &read_history(alloc, pattern)?))
 }
 
+// By Life, and by a rule under which a dead cell without live neighbours is born and every cell dies: outside the grid its
+// background blinks.
 #[test]
 fn files_of_one_row(rt: HostRuntime) -> Result<(), Fail> {
     let alloc = rt.alloc();
     let life = Rule::from_counts(0b0_0000_1000, 0b0_0000_1100);
-    let rows: [(&[u8], &[u8], Edge, Judgement); 18] = [
-        (b"1\n\n1", b"1\n\n1", Edge::Framed, Judgement::Rule(1, 0, 0)),
-        (b"1\n\n1'", b"1\n\n1", Edge::Framed, Judgement::Meets),
+    let blinking = Rule::from_counts(1, 0);
+    let rows: [(Rule, &[u8], &[u8], Edge, Judgement); 22] = [
         (
+            life,
+            b"1\n\n1",
+            b"1\n\n1",
+            Edge::Framed,
+            Judgement::Rule(1, 0, 0),
+        ),
+        (life, b"1\n\n1'", b"1\n\n1", Edge::Framed, Judgement::Meets),
+        (
+            life,
             b"1'\n\n1",
             b"1\n\n1",
             Edge::Framed,
             Judgement::Rule(1, 0, 0),
         ),
-        (b"1\n\n1", b"0\n\n0", Edge::Framed, Judgement::Cell(0, 0, 0)),
-        (b"1\n\n1", b"1\n\n0", Edge::Framed, Judgement::Cell(1, 0, 0)),
-        (b"a -a", b"1 1", Edge::Framed, Judgement::Name(0, 0, 1)),
-        (b"a -a", b"1 0", Edge::Framed, Judgement::Meets),
-        (b"a -a", b"0 1", Edge::Framed, Judgement::Meets),
-        (b"a -a", b"1", Edge::Framed, Judgement::Size),
-        (b"a -a", b"1 0\n0 1", Edge::Framed, Judgement::Size),
-        (b"a -a", b"1 0\n\n0 0", Edge::Framed, Judgement::Size),
         (
+            life,
+            b"1\n\n1",
+            b"0\n\n0",
+            Edge::Framed,
+            Judgement::Cell(0, 0, 0),
+        ),
+        (
+            life,
+            b"1\n\n1",
+            b"1\n\n0",
+            Edge::Framed,
+            Judgement::Cell(1, 0, 0),
+        ),
+        (
+            life,
+            b"a -a",
+            b"1 1",
+            Edge::Framed,
+            Judgement::Name(0, 0, 1),
+        ),
+        (life, b"a -a", b"1 0", Edge::Framed, Judgement::Meets),
+        (life, b"a -a", b"0 1", Edge::Framed, Judgement::Meets),
+        (life, b"a -a", b"1", Edge::Framed, Judgement::Size),
+        (life, b"a -a", b"1 0\n0 1", Edge::Framed, Judgement::Size),
+        (life, b"a -a", b"1 0\n\n0 0", Edge::Framed, Judgement::Size),
+        (
+            life,
             b"-a * a b b",
             b"1 0 1 0 1",
             Edge::Bare,
             Judgement::Name(0, 0, 2),
         ),
         (
+            life,
             b"-a * a b b",
             b"1 0 0 0 1",
             Edge::Bare,
             Judgement::Name(0, 0, 4),
         ),
-        (b"a a 1", b"1 0 0", Edge::Bare, Judgement::Cell(0, 0, 2)),
         (
+            life,
+            b"a a 1",
+            b"1 0 0",
+            Edge::Bare,
+            Judgement::Cell(0, 0, 2),
+        ),
+        (
+            life,
             b"* * *\n\n* * *",
             b"1 1 1\n\n0 1 0",
             Edge::Framed,
             Judgement::Rule(1, -1, 1),
         ),
         (
+            life,
             b"* * *\n\n*' *' *'",
             b"1 1 1\n\n0 0 0",
             Edge::Framed,
             Judgement::Rule(1, -1, 1),
         ),
         (
+            life,
             b"* * *\n\n* * *",
             b"1 1 1\n\n0 1 0",
             Edge::Bare,
             Judgement::Meets,
         ),
         (
+            life,
             b"a *\n\n* -a",
             b"1 1\n\n0 1",
             Edge::Framed,
             Judgement::Name(1, 0, 1),
         ),
+        (
+            blinking,
+            b"*\n\n*\n\n*",
+            b"0\n\n1\n\n0",
+            Edge::Framed,
+            Judgement::Meets,
+        ),
+        (
+            blinking,
+            b"*\n\n*\n\n*",
+            b"0\n\n0\n\n0",
+            Edge::Framed,
+            Judgement::Rule(1, 0, 0),
+        ),
+        (
+            blinking,
+            b"*\n\n*\n\n*",
+            b"1\n\n0\n\n0",
+            Edge::Framed,
+            Judgement::Rule(1, -1, -1),
+        ),
+        (
+            blinking,
+            b"*\n\n*\n\n*",
+            b"0\n\n1\n\n1",
+            Edge::Framed,
+            Judgement::Rule(2, 0, 0),
+        ),
     ];
-    for (file, pattern, edge, answer) in rows {
+    for (rule, file, pattern, edge, answer) in rows {
         assert_eq!(rt;
-            judged(alloc, file, life, Demands::new(alloc, edge), pattern)?,
+            judged(alloc, file, rule, Demands::new(alloc, edge), pattern)?,
             answer
         );
     }
@@ -185,32 +253,6 @@ fn blinkers_blocks_and_gliders(rt: HostRuntime) -> Result<(), Fail> {
     Ok(())
 }
 
-// A dead cell without live neighbours is born, and every cell dies: outside the grid the background blinks.
-#[test]
-fn blinking_background(rt: HostRuntime) -> Result<(), Fail> {
-    let alloc = rt.alloc();
-    let blinking = Rule::from_counts(1, 0);
-    let rows: [(&[u8], Judgement); 4] = [
-        (b"0\n\n1\n\n0", Judgement::Meets),
-        (b"0\n\n0\n\n0", Judgement::Rule(1, 0, 0)),
-        (b"1\n\n0\n\n0", Judgement::Rule(1, -1, -1)),
-        (b"0\n\n1\n\n1", Judgement::Rule(2, 0, 0)),
-    ];
-    for (pattern, answer) in rows {
-        assert_eq!(rt;
-            judged(
-                alloc,
-                b"*\n\n*\n\n*",
-                blinking,
-                Demands::new(alloc, Edge::Framed),
-                pattern
-            )?,
-            answer
-        );
-    }
-    Ok(())
-}
-
 // One live cell, and four that a quarter turn takes to one another, under each symmetry.
 #[test]
 fn symmetries(rt: HostRuntime) -> Result<(), Fail> {
@@ -281,7 +323,7 @@ fn moved(alloc: Global, length: u32, dx: i32, dy: i32) -> Demands
 }
 
 // A glider and its three next phases with each number of its period and shift wrong in turn, and small files with shifts
-// into the grid and out of it.
+// into the grid and out of it. Where the background blinks it is there again after two generations and not after one.
 #[test]
 fn periods_and_shifts(rt: HostRuntime) -> Result<(), Fail> {
     let alloc = rt.alloc();
@@ -292,50 +334,81 @@ fn periods_and_shifts(rt: HostRuntime) -> Result<(), Fail> {
         b"0 1 0 0\n0 0 1 0\n1 1 1 0\n0 0 0 0\n\n0 0 0 0\n1 0 1 0\n0 1 1 0\n0 1 0 0\n\n0 0 0 0\n0 0 1 0\n1 0 1 0\n0 1 1 0\n\n0 0 0 0\n0 1 0 0\n0 0 1 1\n0 1 1 0\n\n0 0 0 0\n0 0 1 0\n0 0 0 1\n0 1 1 1";
     let two: &[u8] = b"*\n\n*";
     let three: &[u8] = b"*\n\n*\n\n*";
-    let rows: [(&[u8], &[u8], u32, i32, i32, Judgement); 14] = [
-        (free, glider, 4, 1, 1, Judgement::Meets),
-        (free, glider, 4, 0, 1, Judgement::Moved(0, 0, 1)),
-        (free, glider, 4, 1, 0, Judgement::Moved(0, 0, 1)),
-        (free, glider, 4, 2, 1, Judgement::Moved(0, 0, 0)),
-        (free, glider, 4, 1, 2, Judgement::Moved(0, 0, 1)),
-        (free, glider, 4, -1, -1, Judgement::Moved(0, 0, 1)),
-        (free, glider, 3, 1, 1, Judgement::Moved(0, 0, 0)),
-        (free, glider, 2, 1, 1, Judgement::Moved(0, 1, 1)),
-        (free, glider, 1, 0, 0, Judgement::Moved(0, 0, 1)),
-        (two, b"1\n\n0", 1, 0, 0, Judgement::Moved(0, 0, 0)),
-        (two, b"0\n\n1", 1, 1, 0, Judgement::Moved(0, 0, -1)),
-        (two, b"0\n\n0", 1, 64, -64, Judgement::Meets),
-        (three, b"0\n\n0\n\n1", 1, 0, 0, Judgement::Moved(1, 0, 0)),
-        (three, b"0\n\n0\n\n1", 2, 0, 1, Judgement::Moved(0, -1, 0)),
+    let blinking = Rule::from_counts(1, 0);
+    let rows: [(Rule, &[u8], &[u8], u32, i32, i32, Judgement); 20] = [
+        (life, free, glider, 4, 1, 1, Judgement::Meets),
+        (life, free, glider, 4, 0, 1, Judgement::Moved(0, 0, 1)),
+        (life, free, glider, 4, 1, 0, Judgement::Moved(0, 0, 1)),
+        (life, free, glider, 4, 2, 1, Judgement::Moved(0, 0, 0)),
+        (life, free, glider, 4, 1, 2, Judgement::Moved(0, 0, 1)),
+        (life, free, glider, 4, -1, -1, Judgement::Moved(0, 0, 1)),
+        (life, free, glider, 3, 1, 1, Judgement::Moved(0, 0, 0)),
+        (life, free, glider, 2, 1, 1, Judgement::Moved(0, 1, 1)),
+        (life, free, glider, 1, 0, 0, Judgement::Moved(0, 0, 1)),
+        (life, two, b"1\n\n0", 1, 0, 0, Judgement::Moved(0, 0, 0)),
+        (life, two, b"0\n\n1", 1, 1, 0, Judgement::Moved(0, 0, -1)),
+        (life, two, b"0\n\n0", 1, 64, -64, Judgement::Meets),
+        (
+            life,
+            three,
+            b"0\n\n0\n\n1",
+            1,
+            0,
+            0,
+            Judgement::Moved(1, 0, 0),
+        ),
+        (
+            life,
+            three,
+            b"0\n\n0\n\n1",
+            2,
+            0,
+            1,
+            Judgement::Moved(0, -1, 0),
+        ),
+        (
+            blinking,
+            three,
+            b"0\n\n0\n\n0",
+            1,
+            0,
+            0,
+            Judgement::Background(0),
+        ),
+        (
+            blinking,
+            three,
+            b"0\n\n1\n\n0",
+            1,
+            0,
+            0,
+            Judgement::Background(0),
+        ),
+        (blinking, three, b"0\n\n1\n\n0", 2, 0, 0, Judgement::Meets),
+        (blinking, three, b"0\n\n1\n\n0", 2, 1, 0, Judgement::Meets),
+        (
+            blinking,
+            three,
+            b"0\n\n1\n\n1",
+            2,
+            0,
+            0,
+            Judgement::Moved(0, 0, 0),
+        ),
+        (
+            blinking,
+            three,
+            b"1\n\n1\n\n1",
+            2,
+            0,
+            0,
+            Judgement::Rule(1, -1, -1),
+        ),
     ];
-    for (file, pattern, length, dx, dy, answer) in rows {
+    for (rule, file, pattern, length, dx, dy, answer) in rows {
         assert!(rt; 1 <= length && length <= 63 && -64 <= dx && dx <= 64 && -64 <= dy && dy <= 64);
         assert_eq!(rt;
-            judged(alloc, file, life, moved(alloc, length, dx, dy), pattern)?,
-            answer
-        );
-    }
-    Ok(())
-}
-
-// Where the background blinks it is there again after two generations and not after one.
-#[test]
-fn periods_of_a_blinking_background(rt: HostRuntime) -> Result<(), Fail> {
-    let alloc = rt.alloc();
-    let blinking = Rule::from_counts(1, 0);
-    let file: &[u8] = b"*\n\n*\n\n*";
-    let rows: [(&[u8], u32, i32, Judgement); 6] = [
-        (b"0\n\n0\n\n0", 1, 0, Judgement::Background(0)),
-        (b"0\n\n1\n\n0", 1, 0, Judgement::Background(0)),
-        (b"0\n\n1\n\n0", 2, 0, Judgement::Meets),
-        (b"0\n\n1\n\n0", 2, 1, Judgement::Meets),
-        (b"0\n\n1\n\n1", 2, 0, Judgement::Moved(0, 0, 0)),
-        (b"1\n\n1\n\n1", 2, 0, Judgement::Rule(1, -1, -1)),
-    ];
-    for (pattern, length, dx, answer) in rows {
-        assert!(rt; 1 <= length && length <= 63 && -64 <= dx && dx <= 64);
-        assert_eq!(rt;
-            judged(alloc, file, blinking, moved(alloc, length, dx, 0), pattern)?,
+            judged(alloc, file, rule, moved(alloc, length, dx, dy), pattern)?,
             answer
         );
     }
@@ -408,6 +481,7 @@ fn bound(t: u32, low: u32, high: Option<u32>) -> Bound {
     }
 }
 
+// A bound comes before two generations that have to differ.
 #[test]
 fn populations(rt: HostRuntime) -> Result<(), Fail> {
     let alloc = rt.alloc();
@@ -416,28 +490,45 @@ fn populations(rt: HostRuntime) -> Result<(), Fail> {
     let two: &[u8] = b"* * *\n* * *\n\n*' *' *'\n*' *' *'";
     let both: &[u8] = b"1 0 0\n0 0 1\n\n0 0 0\n0 1 0";
     let any = bound(0, 0, None);
-    let rows: [(&[u8], &[u8], Bound, Bound, Judgement); 13] = [
+    let rows: [(&[u8], &[u8], Bound, Bound, Option<(u32, u32)>, Judgement); 14] = [
         (
             row,
             b"0 0 0",
             bound(0, 1, None),
             any,
+            None,
             Judgement::Population(0, 0),
         ),
-        (row, b"0 1 0", bound(0, 1, None), any, Judgement::Meets),
+        (
+            row,
+            b"0 1 0",
+            bound(0, 1, None),
+            any,
+            None,
+            Judgement::Meets,
+        ),
         (
             row,
             b"1 1 1",
             bound(0, 0, Some(2)),
             any,
+            None,
             Judgement::Population(0, 3),
         ),
-        (row, b"1 0 1", bound(0, 0, Some(2)), any, Judgement::Meets),
+        (
+            row,
+            b"1 0 1",
+            bound(0, 0, Some(2)),
+            any,
+            None,
+            Judgement::Meets,
+        ),
         (
             row,
             b"1 1 1",
             bound(0, 3, Some(8192)),
             any,
+            None,
             Judgement::Meets,
         ),
         (
@@ -445,6 +536,7 @@ fn populations(rt: HostRuntime) -> Result<(), Fail> {
             b"0 0 1",
             bound(0, 0, Some(0)),
             any,
+            None,
             Judgement::Population(0, 1),
         ),
         (
@@ -452,6 +544,7 @@ fn populations(rt: HostRuntime) -> Result<(), Fail> {
             b"1 0 1",
             bound(0, 0, Some(1)),
             any,
+            None,
             Judgement::Population(0, 2),
         ),
         (
@@ -459,6 +552,7 @@ fn populations(rt: HostRuntime) -> Result<(), Fail> {
             both,
             bound(0, 2, Some(2)),
             bound(1, 1, Some(1)),
+            None,
             Judgement::Meets,
         ),
         (
@@ -466,6 +560,7 @@ fn populations(rt: HostRuntime) -> Result<(), Fail> {
             both,
             bound(0, 2, Some(2)),
             bound(1, 2, None),
+            None,
             Judgement::Population(1, 1),
         ),
         (
@@ -473,6 +568,7 @@ fn populations(rt: HostRuntime) -> Result<(), Fail> {
             both,
             bound(1, 2, None),
             bound(0, 0, Some(1)),
+            None,
             Judgement::Population(1, 1),
         ),
         (
@@ -480,6 +576,7 @@ fn populations(rt: HostRuntime) -> Result<(), Fail> {
             both,
             bound(0, 1, Some(3)),
             bound(0, 0, Some(1)),
+            None,
             Judgement::Population(0, 2),
         ),
         (
@@ -487,6 +584,7 @@ fn populations(rt: HostRuntime) -> Result<(), Fail> {
             both,
             bound(0, 0, Some(1)),
             bound(0, 3, None),
+            None,
             Judgement::Population(0, 2),
         ),
         (
@@ -494,30 +592,24 @@ fn populations(rt: HostRuntime) -> Result<(), Fail> {
             b"1\n\n1",
             bound(0, 0, Some(0)),
             any,
+            None,
             Judgement::Rule(1, 0, 0),
         ),
+        (
+            b"*\n\n*",
+            b"0\n\n0",
+            bound(1, 1, None),
+            any,
+            Some((0, 1)),
+            Judgement::Population(1, 0),
+        ),
     ];
-    for (file, pattern, first, second, answer) in rows {
+    for (file, pattern, first, second, pair, answer) in rows {
         assert!(rt; has_ends(first) && has_ends(second));
-        let demands = bounded(alloc, first, second)?;
+        let mut demands = bounded(alloc, first, second)?;
+        demands.differ = pair;
         assert_eq!(rt; judged(alloc, file, life, demands, pattern)?, answer);
     }
-    Ok(())
-}
-
-// A bound comes before two generations that have to differ.
-#[test]
-fn population_before_difference(rt: HostRuntime) -> Result<(), Fail> {
-    let alloc = rt.alloc();
-    let life = Rule::from_counts(0b0_0000_1000, 0b0_0000_1100);
-    let (some, any) = (bound(1, 1, None), bound(0, 0, None));
-    assert!(rt; has_ends(some) && has_ends(any));
-    let mut demands = bounded(alloc, some, any)?;
-    demands.differ = Some((0, 1));
-    assert_eq!(rt;
-        judged(alloc, b"*\n\n*", life, demands, b"0\n\n0")?,
-        Judgement::Population(1, 0)
-    );
     Ok(())
 }
 
