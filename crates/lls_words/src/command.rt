@@ -1,6 +1,6 @@
 // The table of commands: what each is called, how many operands it has and which options it takes.
 ghost use Rattle.std.specs.Prelude.{◌≡◌};
-ghost use Rattle.lls_words.specs.Command.{command_of, operand_count, options_of, setting_of, takes};
+ghost use Rattle.lls_words.specs.Command.{command_of, operand_count, setting_of, takes};
 
 /// A command.
 #[derive(Clone, Copy, Debug, PartialEq, Eq)]
@@ -62,49 +62,23 @@ impl Command {
         }
     }
 
-    /// The options that the command takes.
-    fn options(self) -> &'static [Setting]
-        ensures { result.now ≡ options_of self }
-    {
-        match self {
-            Command::Check | Command::Cnf => &[
-                Setting::Rule,
-                Setting::Edge,
-                Setting::Symmetry,
-                Setting::Period,
-                Setting::Live,
-                Setting::Differ,
-            ],
-            Command::Search => &[
-                Setting::Rule,
-                Setting::Edge,
-                Setting::Symmetry,
-                Setting::Period,
-                Setting::Live,
-                Setting::Differ,
-                Setting::Budget,
-                Setting::Keep,
-                Setting::As,
-            ],
-            Command::Judge => &[
-                Setting::Rule,
-                Setting::Edge,
-                Setting::Symmetry,
-                Setting::Period,
-                Setting::Live,
-                Setting::Differ,
-                Setting::As,
-            ],
-            Command::Sat => &[Setting::Budget, Setting::Keep],
-            Command::Lrat | Command::Rule => &[],
-        }
-    }
-
     /// Whether the command takes the option.
     pub fn takes(self, setting: Setting) -> bool
         ensures { result ≡ takes self setting }
     {
-        self.options().iter().any(|option| *option == setting)
+        match setting {
+            Setting::Rule
+            | Setting::Edge
+            | Setting::Symmetry
+            | Setting::Period
+            | Setting::Live
+            | Setting::Differ => matches!(
+                self,
+                Command::Check | Command::Search | Command::Judge | Command::Cnf,
+            ),
+            Setting::Budget | Setting::Keep => matches!(self, Command::Search | Command::Sat),
+            Setting::As => matches!(self, Command::Search | Command::Judge),
+        }
     }
 }
 

@@ -14,6 +14,21 @@ fn words_of(alloc: Global, text: &str) -> Result<Vec<String>, AllocError> {
     Ok(words)
 }
 
+/// The job of a command line.
+fn job_of(alloc: Global, line: &str) -> Result<Job, Fail> {
+    let words = words_of(alloc, line)?;
+    Ok(read_job(alloc, &words)?)
+}
+
+/// The text of the fault of a command line.
+fn fault_of(alloc: Global, line: &str) -> Result<String, Fail> {
+    let words = words_of(alloc, line)?;
+    match read_job(alloc, &words) {
+        Ok(_) => Err(Fail::from("a fault")),
+        Err(error) => Ok(error.to_string(alloc)?),
+    }
+}
+
 /// Command lines, and the fault of each.
 const FAULTS: &str = "\
 guess f p > UnknownCommand
@@ -101,11 +116,7 @@ fn faults_are_named_by_their_place(rt: HostRuntime) -> Result<(), Fail> {
         let Some((line, want)) = row.split_once(" > ") else {
             return Err(Fail::from("a row"));
         };
-        let words = words_of(alloc, line)?;
-        let Err(error) = read_job(alloc, &words) else {
-            return Err(Fail::from("a fault"));
-        };
-        assert_eq!(rt; error.to_string(alloc)?.as_str(), want, "at {line:?}");
+        assert_eq!(rt; fault_of(alloc, line)?.as_str(), want, "at {line:?}");
     }
     assert!(rt; matches!(read_job(alloc, &[]), Err(WordsError::NoCommand)));
     Ok(())
@@ -121,15 +132,12 @@ fn options_and_operands_stand_in_any_order(rt: HostRuntime) -> Result<(), Fail> 
         ("check f p --edge closed", Edge::Framed),
     ];
     for (line, want) in rows {
-        let words = words_of(alloc, line)?;
-        let Ok(
-            Job::Check {
-                search,
-                proof,
-                demands,
-                ..
-            },
-        ) = read_job(alloc, &words)
+        let Job::Check {
+            search,
+            proof,
+            demands,
+            ..
+        } = job_of(alloc, line)?
         else {
             return Err(Fail::from("a check"));
         };
@@ -176,8 +184,7 @@ fn choices_of_a_search(rt: HostRuntime) -> Result<(), Fail> {
         ("lrat f f", (None, false, false)),
     ];
     for (line, want) in rows {
-        let words = words_of(alloc, line)?;
-        assert!(rt; choices_of(read_job(alloc, &words)?) == want, "at {line:?}");
+        assert!(rt; choices_of(job_of(alloc, line)?) == want, "at {line:?}");
     }
     Ok(())
 }
@@ -219,8 +226,7 @@ fn demands_of_a_problem(rt: HostRuntime) -> Result<(), Fail> {
         },
     ];
     for line in rows {
-        let words = words_of(alloc, line)?;
-        let demands = demands_of(read_job(alloc, &words)?)?;
+        let demands = demands_of(job_of(alloc, line)?)?;
         assert_eq!(rt; demands.symmetry, Symmetry::D2Up, "at {line:?}");
         assert_eq!(rt; demands.period, Some(period), "at {line:?}");
         assert!(rt; demands.bounds.items() == bounds.as_slice(), "at {line:?}");

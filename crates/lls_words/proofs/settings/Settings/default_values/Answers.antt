@@ -1,6 +1,5 @@
 use Rattle.std.proofs.Common.{sym, subst, arith}
 use Rattle.std.proofs.lemmas.Option.{none-some}
-use Rattle.lls_problem.specs.declared.demands.Demands.{Demands}
 use Rattle.lls_problem.specs.declared.demands.Edge.TheVariants.{Framed}
 use Rattle.lls_problem.specs.Problem.{edge_alone}
 use Rattle.lls_hensel.specs.Isotropy.{IsIsotropic}

@@ -3,7 +3,7 @@ use Rattle.std.proofs.Common.{◌≡◌, Some, sym, subst}
 use Rattle.std.specs.Option.{ForSome}
 use Rattle.lls_problem.specs.declared.demands.Period.{Period}
 use Rattle.lls_problem.specs.Problem.{IsPeriod}
-use Rattle.lls_words.specs.Job.{AreAllowed, AreWithinLimits}
+use Rattle.lls_words.specs.Job.{AreAllowed}
 use Rattle.lls_words.specs.declared.settings.Settings as code
 use Rattle.lls_words.proofs.settings.Settings.with_value.Goals as goal
 use Rattle.lls_words.proofs.settings.Settings.with_value.Goals.{in-Rule+in_ok-settings-in-Rule, in-Edge+in_ok-settings-in-Edge, in-Symmetry+in_ok-settings-in-Symmetry, in-Period+in_ok-period_at-in-Period, in-Live+in_ok-settings-in-Live, in-Differ+in_ok-ok_or-in-Differ, in-Budget+in_ok-settings-in-Budget, in-Keep+in_ok-settings-in-Keep, in-As+in_ok-settings-in-As}
