@@ -120,7 +120,7 @@ folded-replicate generations height width n =
     map_same _ _ 0 generations (λ t. map_same _ _ 0 height (λ y. map_same _ _ 0 width (λ x. get_or-replicate n (x + width * (y + height * t)))))
 
 -- all generations have the same shape
-list_all_range : {X : Type 0} (p : X → Bool) (f : ℕ → X) (a n : ℕ) → ((k : ℕ) → p (f k) ≡ true) → list_all p (map f (range_with_len a n)) ≡ true
+pub list_all_range : {X : Type 0} (p : X → Bool) (f : ℕ → X) (a n : ℕ) → ((k : ℕ) → p (f k) ≡ true) → list_all p (map f (range_with_len a n)) ≡ true
 list_all_range p f a zero each = refl
 list_all_range p f a (suc n) each = and_from _ _ (each a) (list_all_range p f (a + 1) n each)
 
@@ -132,6 +132,9 @@ shape_of_rows height width cells t =
 shapes-folded : (generations height width : ℕ) (cells : List Bool) → list_all (has_shape height width) (folded generations height width cells) ≡ true
 unfolding folded
 shapes-folded generations height width cells = list_all_range (has_shape height width) (all_rows height width cells) 0 generations (shape_of_rows height width cells)
+
+pub HasSizes-shape : (generations height width : ℕ) (cells : List Bool) → HasSizes generations height width (folded generations height width cells)
+HasSizes-shape generations height width cells = (length-folded generations height width cells, shapes-folded generations height width cells)
 
 pub HasSizes-folded : (generations height width : ℕ) (cells : List Bool) → 0 < generations → 0 < height
     → HasSizes (length (folded generations height width cells)) (height_of (folded generations height width cells)) (width_of (folded generations height width cells)) (folded generations height width cells)

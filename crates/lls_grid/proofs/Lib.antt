@@ -5,3 +5,4 @@ pub mod Joins
 pub mod Whole
 pub mod Shaped
 pub mod Steps
+pub mod Growth

@@ -139,3 +139,10 @@ row_more table old now t y sizes t_in y_in so_far =
     ∙ (ap (λ rs. set now (t + 1) (set rs y (get_or rows y []))) there
     ∙ (ap (set now (t + 1)) (mixed_more rows before y [] in_new in_old)
     ∙ (ap (λ h. set h (t + 1) (mixed rows before (y + 1))) so_far ∙ set_set old (t + 1) written (mixed rows before (y + 1)))))
+
+-- what the cells of a generation become depends on its rows and on the sizes
+pub successors_same : (table : List Bool) (old now : History) (t : ℕ) → rows_at now t ≡ rows_at old t → rows_at now 0 ≡ rows_at old 0 → successors table now t ≡ successors table old t
+successors_same table old now t same_rows same_first =
+    let width : width_of now ≡ width_of old = ap (λ rows. length (get_or rows 0 [])) same_first in
+    ap (λ height. map (successor_row table now t) (range_with_len 0 height)) (ap length same_first)
+    ∙ map_all (successor_row table now t) (successor_row table old t) (λ y. row_same table old now t y same_rows width) (range_with_len 0 (height_of old))

@@ -1,5 +1,6 @@
 pub mod Changes
 pub mod Chunks
+pub mod Evolution
 pub mod History
 pub mod Place
 pub mod Sizes

@@ -1,8 +1,9 @@
 // A history.
-ghost use Rattle.std.specs.Prelude.{◌≡◌, ◌<◌, ◌≤◌, ◌+◌, ◌*◌, ◌-◌, [], length, take, drop, IfOk, if◌then◌else◌};
+ghost use Rattle.std.specs.Prelude.{◌≡◌, ◌<◌, ◌≤◌, ℕ, ◌+◌, ◌*◌, ◌-◌, [], length, take, drop, IfOk, if◌then◌else◌};
 ghost use Rattle.lls_rule.specs.Rule.{number_of};
-ghost use Rattle.lls_grid.specs.History.{IsHistory, IsShaped, at, cells_of_rows, rows_at, nine, place_cell, three, dead, folded, height_of, width_of, sizes_of};
-ghost use Rattle.lls_grid.specs.Changes.{with_cell, with_row, population, successor_row, stepped};
+ghost use Rattle.lls_grid.specs.History.{IsHistory, IsShaped, HasSizes, at, cells_of_rows, rows_at, nine, place_cell, three, dead, folded, height_of, width_of, sizes_of};
+ghost use Rattle.lls_grid.specs.Changes.{with_cell, with_row, population, successor_row, successors, stepped};
+ghost use Rattle.lls_grid.specs.Evolution.{evolution};
 ghost use Rattle.lls_grid.specs.Chunks.{chunked};
 ghost use Rattle.lls_grid.specs.Place.{IsWithin};
 
@@ -132,8 +133,9 @@ impl History {
         self.cells_at(t).iter().filter(|live| **live).count() as u32
     }
 
-    /// The cells of a generation, row by row.
-    pub(crate) fn cells_at(&self, t: u32) -> &[bool]
+    /// The cells of a generation: its rows from the top, one after another, each from the left. There are as many as
+    /// the width times the height.
+    pub fn cells_at(&self, t: u32) -> &[bool]
         requires { t < length self.now }
         ensures cells { result.now ≡ cells_of_rows (rows_at self.now t) }
         ensures rows { chunked (width_of self.now) (height_of self.now) result.now ≡ rows_at self.now t }
@@ -143,6 +145,49 @@ impl History {
         let count = self.sizes.width * self.sizes.height;
         let first = count * t;
         part(&self.cells, first as usize, count as usize)
+    }
+
+    /// The history of so many generations that begins with generation 0 of another and goes on by the rule.
+    pub fn evolve(
+        alloc: Global,
+        rule: &Rule,
+        first: &History,
+        generations: u32,
+    ) -> Result<History, Memory>
+        requires generations { (1 ≤ generations) × (generations ≤ Self.MOST_GENERATIONS) }
+        requires most { width_of first.now * (height_of first.now * generations) ≤ Self.MOST_CELLS }
+        ensures history { IfOk result (λ history. history ≡ evolution rule.now generations first.now) }
+
+        // These three together leave no other history.
+        ensures sizes { IfOk result (HasSizes generations (height_of first.now) (width_of first.now)) }
+        ensures begins { IfOk result (λ history. rows_at history 0 ≡ rows_at first.now 0) }
+        ensures goes_on { IfOk result (λ history. (t : ℕ) → t + 1 < generations → rows_at history (t + 1) ≡ successors rule.now history t) }
+    {
+        let mut history = Self::begin(alloc, first, generations)?;
+        for t in 0..generations - 1 {
+            history.step(rule, t);
+        }
+        Ok(history)
+    }
+
+    /// A history of so many generations that begins with generation 0 of another; the later ones are still to be written.
+    fn begin(alloc: Global, first: &History, generations: u32) -> Result<History, Memory>
+        requires generations { (1 ≤ generations) × (generations ≤ Self.MOST_GENERATIONS) }
+        requires most { width_of first.now * (height_of first.now * generations) ≤ Self.MOST_CELLS }
+        ensures sizes { IfOk result (HasSizes generations (height_of first.now) (width_of first.now)) }
+        ensures begins { IfOk result (λ history. take 1 history ≡ take 1 first.now) }
+        ensures kept { IfOk result (λ history. IsHistory first.now) }
+    {
+        let sizes = Sizes {
+            generations,
+            ..first.sizes()
+        };
+        let cells = begun(
+            alloc,
+            first.cells_at(0),
+            sizes.width * (sizes.height * generations),
+        )?;
+        Ok(History::from_cells(sizes, cells))
     }
 
     /// Makes each cell of the generation after t what the rule says of its neighbourhood in generation t.
@@ -209,6 +254,20 @@ impl History {
         let right = weight(self.at(rule, t, y, x + 1));
         4 * left + 2 * middle + right
     }
+}
+
+/// That many cells, of which the first are these and the others are dead.
+fn begun(alloc: Global, first: &[bool], count: u32) -> Result<Vec<bool>, Memory>
+    requires { length first.now ≤ count }
+    ensures count { IfOk result (λ cells. length cells.items ≡ count) }
+    ensures first { IfOk result (λ cells. take (length first.now) cells.items ≡ first.now) }
+{
+    let mut cells = Vec::with_capacity(alloc, count as usize)?;
+    cells.extend_from_slice(first)?;
+    'dead: for _ in first.len()..count as usize {
+        cells.push(false)?;
+    }
+    Ok(cells)
 }
 
 /// That many cells from a place on.

@@ -38,6 +38,52 @@ fn a_blinker_steps(rt: HostRuntime) -> Result<(), Fail> {
     Ok(())
 }
 
+// One generation of 4 by 4 cells, of which these are live.
+fn one_generation(alloc: Global, live: &[usize]) -> Result<History, AllocError> {
+    let mut cells = vec![in alloc; false; 16]?;
+    for index in live {
+        if *index < 16 {
+            cells[*index] = true;
+        }
+    }
+    let sizes = Sizes {
+        generations: 1,
+        height: 4,
+        width: 4,
+    };
+    Ok(History::from_cells(sizes, cells))
+}
+
+#[test]
+fn histories_go_on_by_a_rule(rt: HostRuntime) -> Result<(), Fail> {
+    let alloc = rt.alloc();
+    let life = Rule::from_counts(1 << 3, 1 << 2 | 1 << 3);
+    // B0/S: the background is live in generation 1.
+    let blinking = Rule::from_counts(1, 0);
+    let rows: [(&Rule, &[usize], u32, &[u8]); 2] = [
+        (
+            &life,
+            &[1, 6, 8, 9, 10],
+            4,
+            b"0 1 0 0\n0 0 1 0\n1 1 1 0\n0 0 0 0\n\n0 0 0 0\n1 0 1 0\n0 1 1 0\n0 1 0 0\n\n0 0 0 0\n0 0 1 0\n1 0 1 0\n0 1 1 0\n\n0 0 0 0\n0 1 0 0\n0 0 1 1\n0 1 1 0\n",
+        ),
+        (
+            &blinking,
+            &[5],
+            3,
+            b"0 0 0 0\n0 1 0 0\n0 0 0 0\n0 0 0 0\n\n0 0 0 1\n0 0 0 1\n0 0 0 1\n1 1 1 1\n\n0 0 0 0\n0 1 0 0\n0 0 0 0\n0 0 0 0\n",
+        ),
+    ];
+    for (rule, live, generations, text) in rows {
+        let first = one_generation(alloc, live)?;
+        assert!(rt; 1 <= generations && generations <= 4);
+        assert!(rt; first.width() == 4 && first.height() == 4);
+        let history = History::evolve(alloc, rule, &first, generations)?;
+        assert_eq!(rt; print_history(alloc, &history)?.as_slice(), text);
+    }
+    Ok(())
+}
+
 #[test]
 fn a_cell_is_set(rt: HostRuntime) -> Result<(), Fail> {
     let alloc = rt.alloc();
