@@ -8,6 +8,8 @@ use Rattle.lls_search_file.specs.declared.error.PosedError.{PosedError}
 use Rattle.lls_search_file.specs.declared.error.PosedError.TheVariants as posed
 use Rattle.lls_cnf.specs.declared.dimacs_error.DimacsError.{DimacsError}
 use Rattle.lls_cnf.specs.declared.dimacs_error.DimacsError.TheVariants as dimacs
+use Rattle.lls_rle.specs.declared.rle_error.RleError.{RleError}
+use Rattle.lls_rle.specs.declared.rle_error.RleError.TheVariants as pictures
 use Rattle.lls_problem.specs.declared.demands.DemandError.{DemandError}
 use Rattle.lls_problem.specs.declared.demands.DemandError.TheVariants as demands
 use Rattle.lls_problem.specs.declared.judgement.Judgement.{Judgement}
@@ -21,12 +23,13 @@ use Rattle.lls_cli.specs.declared.fault.Fault.TheVariants as faults
 use Rattle.lls_cli.specs.declared.fault.OutsideFault.TheVariants as outside
 use Rattle.lls_cli.specs.declared.status.Status.{Status}
 use Rattle.lls_cli.specs.declared.status.Status.TheVariants as statuses
-use Rattle.lls_cli.specs.Fault.{status_of, words_status, posed_status, demand_status, dimacs_status}
-use Rattle.lls_cli.specs.Answer.{GivenAnswer, NamedFile, check_answer, judge_answer, Answers, IsAnswer, Holds, YesHolds, NoHolds}
-use Rattle.lls_cli.specs.Question.{Question, checks, refutes, judges, encodes, prints, question_of, Asks}
+use Rattle.lls_cli.specs.Fault.{status_of, words_status, posed_status, demand_status, dimacs_status, rle_status}
+use Rattle.lls_cli.specs.Evidence.{NamedFile}
+use Rattle.lls_cli.specs.Answer.{GivenAnswer, IsAnswer, Holds, YesHolds, NoHolds, IsThere, IsNowhere}
+use Rattle.lls_cli.specs.Question.{Question, question_of, Asks}
 use Rattle.lls_cli.specs.Moment.{ShelfMoment, SinkMoment, Moment, files_at}
 use Rattle.lls_cli.specs.Ends.{WroteFile, IsDecided, with_file, End, refused, lacked, input_failed, answered, file_failed, output_failed, IsEnd}
-use Rattle.lls_cli.specs.Claims.{OfQuestion, IsSilent, IsYesOrNo, MissesFile, HasCause, NothingFailed, CountsNeverFall}
+use Rattle.lls_cli.specs.Claims.{OfQuestion, IsSilent, IsAnswered, MissesFile, HasCause, NothingFailed, CountsNeverFall}
 
 -- the statuses of faults
 abbrev IsFaultStatus : Status → Type 0
@@ -48,6 +51,7 @@ words_status-is (words.MissingValue place) = tt
 words_status-is (words.BadValue place) = tt
 words_status-is (words.BadRule place fault) = tt
 words_status-is (words.Operands expected found) = tt
+words_status-is (words.SameName place) = tt
 
 -- words are refused with their own status, or for want of memory
 words_status-cases : (error : WordsError) → (words_status error ≡ statuses.Words) ⊎ (words_status error ≡ statuses.Memory)
@@ -61,6 +65,7 @@ words_status-cases (words.MissingValue place) = inl refl
 words_status-cases (words.BadValue place) = inl refl
 words_status-cases (words.BadRule place fault) = inl refl
 words_status-cases (words.Operands expected found) = inl refl
+words_status-cases (words.SameName place) = inl refl
 
 -- the status of a fault of a search file, of demands or of a formula's file
 abbrev IsPosedStatus : Status → Type 0
@@ -99,6 +104,14 @@ dimacs_status-is (dimacs.ClauseCount expected found) = tt
 dimacs_status-is (dimacs.TooManyVariables n) = tt
 dimacs_status-is (dimacs.Percent line) = tt
 
+rle_status-is : (error : RleError) → IsPosedStatus (rle_status error)
+rle_status-is pictures.Memory = tt
+rle_status-is pictures.NoHeader = tt
+rle_status-is (pictures.BadTag line column) = tt
+rle_status-is (pictures.TooWide row) = tt
+rle_status-is (pictures.TooHigh row) = tt
+rle_status-is pictures.NoEnd = tt
+
 posed_fault : (status : Status) → IsPosedStatus status → IsFaultStatus status
 posed_fault statuses.Content is = tt
 posed_fault statuses.Memory is = tt
@@ -117,14 +130,23 @@ status_of-is (faults.Posed error) = posed_fault (posed_status error) (posed_stat
 status_of-is (faults.Demands error) = posed_fault (demand_status error) (demand_status-is error)
 status_of-is (faults.Dimacs error) = posed_fault (dimacs_status error) (dimacs_status-is error)
 status_of-is (faults.NotPlain t y x) = tt
+status_of-is (faults.Rle error) = posed_fault (rle_status error) (rle_status-is error)
 status_of-is (faults.Outside fault) = tt
 status_of-is (faults.TooLong limit) = tt
 status_of-is faults.Memory = tt
 
--- a yes or a no is no fault's status
-no_fault_status : (status : Status) → IsFaultStatus status → IsYesOrNo status → ⊥
-no_fault_status status is (inl done) = subst IsFaultStatus done is
-no_fault_status status is (inr refusal) = subst IsFaultStatus refusal is
+-- an answer's status is no fault's
+no_fault_status : (status : Status) → IsFaultStatus status → IsAnswered status → ⊥
+no_fault_status statuses.Done is given = is
+no_fault_status statuses.Refused is given = is
+no_fault_status statuses.Pattern is given = is
+no_fault_status statuses.NoPattern is given = is
+no_fault_status statuses.Undecided is given = is
+no_fault_status statuses.Words is given = given
+no_fault_status statuses.Content is given = given
+no_fault_status statuses.Outside is given = given
+no_fault_status statuses.Memory is given = given
+no_fault_status statuses.Limit is given = given
 
 -- inputs are refused with no status of words
 decided_words : (fault : Fault) → IsDecided fault → status_of fault ≡ statuses.Words → ⊥
@@ -134,6 +156,7 @@ decided_words (faults.Posed error) decided is = subst IsPosedStatus is (posed_st
 decided_words (faults.Demands error) decided is = subst IsPosedStatus is (demand_status-is error)
 decided_words (faults.Dimacs error) decided is = subst IsPosedStatus is (dimacs_status-is error)
 decided_words (faults.NotPlain t y x) decided is = cc
+decided_words (faults.Rle error) decided is = subst IsPosedStatus is (rle_status-is error)
 decided_words (faults.Outside fault) decided is = cc
 decided_words (faults.TooLong limit) decided is = cc
 
@@ -145,6 +168,7 @@ decided_outside (faults.Posed error) decided is = absurd (subst IsPosedStatus is
 decided_outside (faults.Demands error) decided is = absurd (subst IsPosedStatus is (demand_status-is error))
 decided_outside (faults.Dimacs error) decided is = absurd (subst IsPosedStatus is (dimacs_status-is error))
 decided_outside (faults.NotPlain t y x) decided is = absurd cc
+decided_outside (faults.Rle error) decided is = absurd (subst IsPosedStatus is (rle_status-is error))
 decided_outside (faults.TooLong limit) decided is = absurd cc
 decided_outside (faults.Outside outside.NoFile) decided is = refl
 decided_outside (faults.Outside outside.OpenFailed) decided is = absurd decided
@@ -153,80 +177,42 @@ decided_outside (faults.Outside outside.CreateFailed) decided is = absurd decide
 decided_outside (faults.Outside outside.WriteFailed) decided is = absurd decided
 decided_outside (faults.Outside outside.OutFailed) decided is = absurd decided
 
--- a right answer is a yes or a no
-holds_status : (question : Question) (status : Status) → Holds question status → IsYesOrNo status
-holds_status question statuses.Done holds = inl refl
-holds_status question statuses.Refused holds = inr refl
+-- a right answer has an answer's status
+holds_status : (question : Question) (status : Status) → Holds question status → IsAnswered status
+holds_status question statuses.Done holds = tt
+holds_status question statuses.Refused holds = tt
+holds_status question statuses.Pattern holds = tt
+holds_status question statuses.NoPattern holds = tt
+holds_status question statuses.Undecided holds = tt
 holds_status question statuses.Words holds = absurd holds
 holds_status question statuses.Content holds = absurd holds
 holds_status question statuses.Outside holds = absurd holds
 holds_status question statuses.Memory holds = absurd holds
 holds_status question statuses.Limit holds = absurd holds
-holds_status question statuses.Pattern holds = absurd holds
-holds_status question statuses.NoPattern holds = absurd holds
-holds_status question statuses.Undecided holds = absurd holds
 
-yes_or_no : (question : Question) (answer : GivenAnswer) (status : Status) → IsAnswer question answer → status ≡ answer.status → IsYesOrNo status
-yes_or_no question answer status right is = subst IsYesOrNo (sym is) (holds_status question answer.status right.holds)
+is_answered : (question : Question) (answer : GivenAnswer) (status : Status) → IsAnswer question answer → status ≡ answer.status → IsAnswered status
+is_answered question answer status right is = subst IsAnswered (sym is) (holds_status question answer.status right.holds)
 
-check_answer-no_file : (verdict : Result (Unit {0}) CheckError) → (check_answer verdict).file ≡ None
-check_answer-no_file (Ok accepted) = refl
-check_answer-no_file (Err error) = refl
-
-judge_answer-no_file : (judgement : Judgement) → (judge_answer judgement).file ≡ None
-judge_answer-no_file judgements.Meets = refl
-judge_answer-no_file judgements.Size = refl
-judge_answer-no_file (judgements.Cell t y x) = refl
-judge_answer-no_file (judgements.Name t y x) = refl
-judge_answer-no_file (judgements.Symmetry t y x) = refl
-judge_answer-no_file (judgements.Background t) = refl
-judge_answer-no_file (judgements.Moved t y x) = refl
-judge_answer-no_file (judgements.Rule t y x) = refl
-judge_answer-no_file (judgements.Population t n) = refl
-judge_answer-no_file judgements.Same = refl
-
-no_file : (question : Question) (answer : GivenAnswer) → Answers question answer → answer.file ≡ None
-no_file (checks problem bytes) answer right = ap (λ (a : GivenAnswer). a.file) right ∙ check_answer-no_file _
-no_file (refutes formula bytes) answer right = ap (λ (a : GivenAnswer). a.file) right ∙ check_answer-no_file _
-no_file (judges problem history) answer right = ap (λ (a : GivenAnswer). a.file) right.2 ∙ judge_answer-no_file right.0
-no_file (encodes problem) answer right = ap (λ (a : GivenAnswer). a.file) right
-no_file (prints rule) answer right = ap (λ (a : GivenAnswer). a.file) right
-
-option_map-none : (files : Option Files) → option_map (with_file None) files ≡ files
-option_map-none None = refl
-option_map-none (Some files) = refl
-
-wrote_none : (file : Option NamedFile) (before after : ShelfMoment) → file ≡ None → WroteFile file before after → files_at after ≡ files_at before
-wrote_none file before after none wrote = wrote.files ∙ ap (λ f. option_map (with_file f) (files_at before)) none ∙ option_map-none (files_at before)
-
--- no file changes
-pub files_stay : (job : Result Job WordsError) (before after : Moment) (status : Status) → (end : End) × IsEnd job before after status end → files_at after.shelf ≡ files_at before.shelf
-files_stay (Ok job) before after status (refused fault, ended) = ended.1.2.shelf.files
-files_stay (Ok job) before after status (lacked, ended) = ended.1.shelf.files
-files_stay (Ok job) before after status (input_failed fault, ended) = ended.1.1.shelf.files
-files_stay (Ok job) before after status (answered answer, ended) = wrote_none answer.file before.shelf after.shelf (no_file ended.1.0 answer ended.1.2.0.answers) ended.1.2.1.shelf
-files_stay (Ok job) before after status (file_failed answer fault, ended) =
-    let none : answer.file ≡ None = no_file ended.1.0 answer ended.1.2.0.answers in
-    let some = ended.1.2.1.file_is in
-    absurd cc
-files_stay (Ok job) before after status (output_failed answer, ended) = wrote_none answer.file before.shelf after.shelf (no_file ended.1.0 answer ended.1.2.0.answers) ended.1.2.1.shelf
-files_stay (Err error) before after status (refused fault, ended) = ap files_at ended.1
-files_stay (Err error) before after status (lacked, ended) = ap files_at ended.0
-files_stay (Err error) before after status (input_failed fault, ended) = absurd ended
-files_stay (Err error) before after status (answered answer, ended) = absurd ended
-files_stay (Err error) before after status (file_failed answer fault, ended) = absurd ended
-files_stay (Err error) before after status (output_failed answer, ended) = absurd ended
-
-silent_yes_or_no : (status : Status) → IsYesOrNo status → IsSilent status → ⊥
-silent_yes_or_no status (inl done) silent = subst IsSilent done silent
-silent_yes_or_no status (inr refusal) silent = subst IsSilent refusal silent
+silent_answered : (status : Status) → IsAnswered status → IsSilent status → ⊥
+silent_answered status given silent = no_fault_status status (silent_fault status silent) given where
+  silent_fault : (status : Status) → IsSilent status → IsFaultStatus status
+  silent_fault statuses.Words silent = tt
+  silent_fault statuses.Content silent = tt
+  silent_fault statuses.Memory silent = tt
+  silent_fault statuses.Limit silent = tt
+  silent_fault statuses.Outside silent = absurd silent
+  silent_fault statuses.Done silent = absurd silent
+  silent_fault statuses.Refused silent = absurd silent
+  silent_fault statuses.Pattern silent = absurd silent
+  silent_fault statuses.NoPattern silent = absurd silent
+  silent_fault statuses.Undecided silent = absurd silent
 
 -- the standard output has nothing new
 pub stays_silent : (job : Result Job WordsError) (before after : Moment) (status : Status) → (end : End) × IsEnd job before after status end → IsSilent status → after.out ≡ before.out
 stays_silent (Ok job) before after status (refused fault, ended) silent = ended.1.2.out
 stays_silent (Ok job) before after status (lacked, ended) silent = ended.1.out
 stays_silent (Ok job) before after status (input_failed fault, ended) silent = ended.1.1.out
-stays_silent (Ok job) before after status (answered answer, ended) silent = absurd (silent_yes_or_no status (yes_or_no ended.1.0 answer status ended.1.2.0 ended.1.2.1.status_is) silent)
+stays_silent (Ok job) before after status (answered answer, ended) silent = absurd (silent_answered status (is_answered ended.1.0 answer status ended.1.2.0 ended.1.2.1.status_is) silent)
 stays_silent (Ok job) before after status (file_failed answer fault, ended) silent = ended.1.2.1.out
 stays_silent (Ok job) before after status (output_failed answer, ended) silent = absurd (subst IsSilent ended.1.2.1.status_is silent)
 stays_silent (Err error) before after status (refused fault, ended) silent = ended.2.out
@@ -236,9 +222,11 @@ stays_silent (Err error) before after status (answered answer, ended) silent = a
 stays_silent (Err error) before after status (file_failed answer fault, ended) silent = absurd ended
 stays_silent (Err error) before after status (output_failed answer, ended) silent = absurd ended
 
-asks-question_of : (job : Job) (files : Files) (question : Result Question Fault) → Asks job (Some files) question → question_of job files ≡ question
+pub asks-question_of : (job : Job) (files : Files) (question : Result Question Fault) → Asks job (Some files) question → question_of job files ≡ question
 asks-question_of (jobs.Check one two rule demands) files question asked = rw (← asked.first_is, ← asked.second_is) (sym asked.made)
-asks-question_of (jobs.Judge one two rule demands) files question asked = rw (← asked.first_is, ← asked.second_is) (sym asked.made)
+asks-question_of (jobs.Judge one two rule demands rle) files question asked = rw (← asked.first_is, ← asked.second_is) (sym asked.made)
+asks-question_of (jobs.Search one two rule demands budget keep_all rle) files question asked = rw (← asked.input_is) (sym asked.made)
+asks-question_of (jobs.Sat one two budget keep_all) files question asked = rw (← asked.input_is) (sym asked.made)
 asks-question_of (jobs.Cnf one rule demands) files question asked = rw (← asked.input_is) (sym asked.made)
 asks-question_of (jobs.Lrat one two) files question asked = rw (← asked.first_is, ← asked.second_is) (sym asked.made)
 asks-question_of (jobs.Rule rule) files question asked = sym asked
@@ -254,7 +242,7 @@ caused (Ok job) before after status (refused fault, ended) is =
 caused (Ok job) before after status (lacked, ended) is = let memory = ended.1.status_is in absurd cc
 caused (Ok job) before after status (input_failed fault, ended) is = inl ended.1.1.shelf_rose
 caused (Ok job) before after status (answered answer, ended) is =
-    absurd (no_fault_status statuses.Outside tt (subst IsYesOrNo is (yes_or_no ended.1.0 answer status ended.1.2.0 ended.1.2.1.status_is)))
+    absurd (no_fault_status statuses.Outside tt (subst IsAnswered is (is_answered ended.1.0 answer status ended.1.2.0 ended.1.2.1.status_is)))
 caused (Ok job) before after status (file_failed answer fault, ended) is = inl ended.1.2.1.shelf_rose
 caused (Ok job) before after status (output_failed answer, ended) is = inr (inl ended.1.2.1.out_rose)
 caused (Err error) before after status (refused fault, ended) is =
@@ -273,7 +261,7 @@ words_alone (Ok job) before after status (refused fault, ended) is = absurd (dec
 words_alone (Ok job) before after status (lacked, ended) is = let memory = ended.1.status_is in absurd cc
 words_alone (Ok job) before after status (input_failed fault, ended) is = let outside_is = ended.1.1.status_is in absurd cc
 words_alone (Ok job) before after status (answered answer, ended) is =
-    absurd (no_fault_status statuses.Words tt (subst IsYesOrNo is (yes_or_no ended.1.0 answer status ended.1.2.0 ended.1.2.1.status_is)))
+    absurd (no_fault_status statuses.Words tt (subst IsAnswered is (is_answered ended.1.0 answer status ended.1.2.0 ended.1.2.1.status_is)))
 words_alone (Ok job) before after status (file_failed answer fault, ended) is = let outside_is = ended.1.2.1.status_is in absurd cc
 words_alone (Ok job) before after status (output_failed answer, ended) is = let outside_is = ended.1.2.1.status_is in absurd cc
 
@@ -294,26 +282,33 @@ of_question : (Fact : Question → Type 0) (job : Job) (files : Option Files) (q
 of_question Fact job None question asked fact = tt
 of_question Fact job (Some files) question asked fact = (question, asks-question_of job files (Ok question) asked, fact)
 
-of_this : (Fact : Question → Type 0) (question : Question) (job : Result Job WordsError) (files : Option Files) → OfQuestion (λ q. question ≡ q) job files → Fact question → OfQuestion Fact job files
+pub of_this : (Fact : Question → Type 0) (question : Question) (job : Result Job WordsError) (files : Option Files) → OfQuestion (λ q. question ≡ q) job files → Fact question → OfQuestion Fact job files
 of_this Fact question (Ok job) None asked fact = tt
 of_this Fact question (Ok job) (Some files) asked fact = (asked.0, asked.1, subst Fact asked.2 fact)
 of_this Fact question (Err error) files asked fact = absurd asked
 
--- an end at a yes or a no is an answer that was given
-abbrev pub Meant : Result Job WordsError → Moment → Moment → Status → Type 0
-Meant job before after status = (question : Question) × (answer : GivenAnswer) × (status ≡ answer.status) × IsAnswer question answer × NothingFailed before after
-    × OfQuestion (λ q. question ≡ q) job (files_at before.shelf)
+-- an end at an answer's status is an answer that was given
+pub record Meant (job : Result Job WordsError) (before after : Moment) (status : Status) : Type 0 where
+  pub question : Question
+  pub answer : GivenAnswer
+  pub status_is : status ≡ answer.status
+  pub right : IsAnswer question answer
+  pub wrote : WroteFile answer.file before.shelf after.shelf
+  pub nothing_failed : NothingFailed before after
+  pub asked : OfQuestion (λ q. question ≡ q) job (files_at before.shelf)
 
-pub meant : (job : Result Job WordsError) (before after : Moment) (status : Status) → (end : End) × IsEnd job before after status end → IsYesOrNo status → Meant job before after status
+pub meant : (job : Result Job WordsError) (before after : Moment) (status : Status) → (end : End) × IsEnd job before after status end → IsAnswered status → Meant job before after status
 meant (Ok job) before after status (answered answer, ended) is =
-    let given = ended.1.2.1 in (
-      ended.1.0,
-      answer,
-      given.status_is,
-      ended.1.2.0,
-      record { shelf = given.shelf.faults; out = given.out_faults; err = given.err },
-      of_question (λ q. ended.1.0 ≡ q) job (files_at before.shelf) ended.1.0 ended.1.1 refl,
-    )
+    let given = ended.1.2.1 in
+    record {
+      question = ended.1.0;
+      answer = answer;
+      status_is = given.status_is;
+      right = ended.1.2.0;
+      wrote = given.shelf;
+      nothing_failed = record { shelf = given.shelf.faults; out = given.out_faults; err = given.err };
+      asked = of_question (λ q. ended.1.0 ≡ q) job (files_at before.shelf) ended.1.0 ended.1.1 refl;
+    }
 meant (Ok job) before after status (refused fault, ended) is = absurd (no_fault_status status (subst IsFaultStatus (sym ended.1.2.status_is) (status_of-is fault)) is)
 meant (Ok job) before after status (lacked, ended) is = absurd (no_fault_status status (subst IsFaultStatus (sym ended.1.status_is) tt) is)
 meant (Ok job) before after status (input_failed fault, ended) is = absurd (no_fault_status status (subst IsFaultStatus (sym ended.1.1.status_is) tt) is)
@@ -326,15 +321,28 @@ meant (Err error) before after status (answered answer, ended) is = absurd ended
 meant (Err error) before after status (file_failed answer fault, ended) is = absurd ended
 meant (Err error) before after status (output_failed answer, ended) is = absurd ended
 
+-- what the status of an answer says holds of the question
+pub status_means : (Fact : Question → Type 0) (job : Result Job WordsError) (before after : Moment) (status : Status) → (end : End) × IsEnd job before after status end → IsAnswered status
+    → ((question : Question) → Holds question status → Fact question) → OfQuestion Fact job (files_at before.shelf)
+status_means Fact job before after status ended is means =
+    let given = meant job before after status ended is in
+    of_this Fact given.question job (files_at before.shelf) given.asked (means given.question (subst (Holds given.question) (sym given.status_is) given.right.holds))
+
 pub yes_means : (job : Result Job WordsError) (before after : Moment) (status : Status) → (end : End) × IsEnd job before after status end → status ≡ statuses.Done → OfQuestion YesHolds job (files_at before.shelf)
 yes_means job before after status ended is =
-    let given = meant job before after status ended (inl is) in
-    of_this YesHolds given.0 job (files_at before.shelf) given.5 (subst (Holds given.0) (sym given.2 ∙ is) given.3.holds)
+    status_means YesHolds job before after status ended (subst IsAnswered (sym is) tt) (λ question holds. subst (Holds question) is holds)
 
 pub no_means : (job : Result Job WordsError) (before after : Moment) (status : Status) → (end : End) × IsEnd job before after status end → status ≡ statuses.Refused → OfQuestion NoHolds job (files_at before.shelf)
 no_means job before after status ended is =
-    let given = meant job before after status ended (inr is) in
-    of_this NoHolds given.0 job (files_at before.shelf) given.5 (subst (Holds given.0) (sym given.2 ∙ is) given.3.holds)
+    status_means NoHolds job before after status ended (subst IsAnswered (sym is) tt) (λ question holds. subst (Holds question) is holds)
+
+pub found_means : (job : Result Job WordsError) (before after : Moment) (status : Status) → (end : End) × IsEnd job before after status end → status ≡ statuses.Pattern → OfQuestion IsThere job (files_at before.shelf)
+found_means job before after status ended is =
+    status_means IsThere job before after status ended (subst IsAnswered (sym is) tt) (λ question holds. subst (Holds question) is holds)
+
+pub none_means : (job : Result Job WordsError) (before after : Moment) (status : Status) → (end : End) × IsEnd job before after status end → status ≡ statuses.NoPattern → OfQuestion IsNowhere job (files_at before.shelf)
+none_means job before after status ended is =
+    status_means IsNowhere job before after status ended (subst IsAnswered (sym is) tt) (λ question holds. subst (Holds question) is holds)
 
 same-≤ : (m n : ℕ) → n ≡ m → m ≤ n
 same-≤ m n e = omega (arith, e)

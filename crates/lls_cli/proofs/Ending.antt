@@ -15,7 +15,8 @@ use Rattle.lls_cli.specs.declared.fault.OutsideFault.TheVariants as outside
 use Rattle.lls_cli.specs.declared.status.Status.{Status}
 use Rattle.lls_cli.specs.declared.status.Status.TheVariants as statuses
 use Rattle.lls_cli.specs.Fault.{fault_line, words_fault}
-use Rattle.lls_cli.specs.Answer.{GivenAnswer, NamedFile, IsAnswer}
+use Rattle.lls_cli.specs.Evidence.{NamedFile}
+use Rattle.lls_cli.specs.Answer.{GivenAnswer, IsAnswer}
 use Rattle.lls_cli.specs.Question.{Question, prints, Asks}
 use Rattle.lls_cli.specs.Moment.{ShelfMoment, SinkMoment, Moment, moment, files_at}
 use Rattle.lls_cli.specs.Ends.{GrewBy, KeepsFiles, LacksMemory, IsOfInput, WroteFile, LeavesPart, LeavesShelf, HasInputs, IsDecided, with_file, End, refused, lacked, input_failed, answered, file_failed, output_failed, IsEndOf, IsEnd}
@@ -50,9 +51,11 @@ words_refused error shelf out err_before err_after status fits (inr said) = (lac
 LeavesShelf-refl : (job : Job) (shelf : ShelfMoment) → LeavesShelf job shelf shelf
 LeavesShelf-refl (jobs.Rule rule) shelf = refl
 LeavesShelf-refl (jobs.Check one two rule demands) shelf = tt
-LeavesShelf-refl (jobs.Judge one two rule demands) shelf = tt
+LeavesShelf-refl (jobs.Judge one two rule demands rle) shelf = tt
 LeavesShelf-refl (jobs.Cnf one rule demands) shelf = tt
 LeavesShelf-refl (jobs.Lrat one two) shelf = tt
+LeavesShelf-refl (jobs.Search one two rule demands budget keep_all rle) shelf = tt
+LeavesShelf-refl (jobs.Sat one two budget keep_all) shelf = tt
 
 -- want of memory while the words are read
 words_lack : (job : Result Job WordsError) (shelf : ShelfMoment) (out err_before err_after : SinkMoment) (status : Status) → shelf.faults < 2 ^ 64
@@ -132,6 +135,8 @@ stopped job (faults.Dimacs error) before after out err_before err_after status l
     stopped_refused job (faults.Dimacs error) before after out err_before err_after status tt leaves kept counts stops said
 stopped job (faults.NotPlain t y x) before after out err_before err_after status leaves kept counts inputs stops said =
     stopped_refused job (faults.NotPlain t y x) before after out err_before err_after status tt leaves kept counts stops said
+stopped job (faults.Rle error) before after out err_before err_after status leaves kept counts inputs stops said =
+    stopped_refused job (faults.Rle error) before after out err_before err_after status tt leaves kept counts stops said
 stopped job (faults.TooLong limit) before after out err_before err_after status leaves kept counts inputs stops said =
     stopped_refused job (faults.TooLong limit) before after out err_before err_after status tt leaves kept counts stops said
 
@@ -149,6 +154,7 @@ words_ended (words.MissingValue place) job shelf out err_before err_after status
 words_ended (words.BadValue place) job shelf out err_before err_after status fits read said = rw (read (λ is. cc)) (words_refused (words.BadValue place) shelf out err_before err_after status fits said)
 words_ended (words.BadRule place fault) job shelf out err_before err_after status fits read said = rw (read (λ is. cc)) (words_refused (words.BadRule place fault) shelf out err_before err_after status fits said)
 words_ended (words.Operands expected found) job shelf out err_before err_after status fits read said = rw (read (λ is. cc)) (words_refused (words.Operands expected found) shelf out err_before err_after status fits said)
+words_ended (words.SameName place) job shelf out err_before err_after status fits read said = rw (read (λ is. cc)) (words_refused (words.SameName place) shelf out err_before err_after status fits said)
 
 -- the shelf is left alone by a job and by the answer to its question
 leaves_both : (job : Job) (question : Question) (files : Option Files) (before mid after : ShelfMoment)
@@ -159,9 +165,11 @@ leaves_both (jobs.Rule rule) question files before mid after asked first second 
     let last : after ≡ mid = subst P same second in
     last ∙ first
 leaves_both (jobs.Check one two rule demands) question files before mid after asked first second = tt
-leaves_both (jobs.Judge one two rule demands) question files before mid after asked first second = tt
+leaves_both (jobs.Judge one two rule demands rle) question files before mid after asked first second = tt
 leaves_both (jobs.Cnf one rule demands) question files before mid after asked first second = tt
 leaves_both (jobs.Lrat one two) question files before mid after asked first second = tt
+leaves_both (jobs.Search one two rule demands budget keep_all rle) question files before mid after asked first second = tt
+leaves_both (jobs.Sat one two budget keep_all) question files before mid after asked first second = tt
 
 WroteFile-after : (file : Option NamedFile) (before mid after : ShelfMoment) → KeepsFiles before mid → mid.faults ≡ before.faults → WroteFile file mid after → WroteFile file before after
 WroteFile-after None before mid after kept same wrote = record {

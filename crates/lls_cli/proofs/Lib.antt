@@ -4,3 +4,9 @@ pub mod Stopped
 pub mod Written
 pub mod RightAnswers
 pub mod Made
+pub mod Files
+pub mod Complete
+pub mod Deliveries
+pub mod Searches
+pub mod Apart
+pub mod Published

@@ -1,5 +1,5 @@
 -- A problem that the bytes of an input make, once they are read.
-use Rattle.std.proofs.Common.{◌≡◌, ◌≢◌, ℕ, Bool, List, Option, Result, Ok, Err, sym, subst}
+use Rattle.std.proofs.Common.{◌≡◌, ◌≢◌, ℕ, Bool, List, Option, None, Some, Result, Ok, Err, ap, sym, subst}
 use Rattle.lls_base.specs.Results.{and_then, Gives}
 use Rattle.lls_base.specs.Faults.{Counts}
 use Rattle.lls_base.specs.Shelf.{Files}
@@ -8,7 +8,7 @@ use Rattle.lls_search_file.specs.Posed.{PosedFile}
 use Rattle.lls_search_file.specs.Reading.{posed_of}
 use Rattle.lls_problem.specs.declared.demands.Demands.{Demands}
 use Rattle.lls_problem.specs.declared.demands.DemandError.{DemandError}
-use Rattle.lls_problem.specs.Problem.{PosedProblem, problem_made}
+use Rattle.lls_problem.specs.Problem.{PosedProblem, problem_made, unless, square_fault, generation_fault, bound_fault, period_fault, counter_fault}
 use Rattle.lls_cli.specs.declared.fault.Fault.{Fault}
 use Rattle.lls_cli.specs.declared.fault.Fault.TheVariants as faults
 use Rattle.lls_cli.specs.Moment.{ShelfMoment}
@@ -50,6 +50,7 @@ stops files name limit rule demands bytes (faults.Demands error) before after in
 stops files name limit rule demands bytes (faults.Words error) before after input same gives = absurd (problem_fault rule demands bytes (faults.Words error) (gives (λ is. cc)))
 stops files name limit rule demands bytes (faults.Dimacs error) before after input same gives = absurd (problem_fault rule demands bytes (faults.Dimacs error) (gives (λ is. cc)))
 stops files name limit rule demands bytes (faults.NotPlain t y x) before after input same gives = absurd (problem_fault rule demands bytes (faults.NotPlain t y x) (gives (λ is. cc)))
+stops files name limit rule demands bytes (faults.Rle error) before after input same gives = absurd (problem_fault rule demands bytes (faults.Rle error) (gives (λ is. cc)))
 stops files name limit rule demands bytes (faults.Outside fault) before after input same gives = absurd (problem_fault rule demands bytes (faults.Outside fault) (gives (λ is. cc)))
 stops files name limit rule demands bytes (faults.TooLong n) before after input same gives = absurd (problem_fault rule demands bytes (faults.TooLong n) (gives (λ is. cc)))
 
@@ -61,3 +62,15 @@ problem_read files name limit rule demands bytes (Ok problem) before after kept 
     record { kept = kept; counts = counts; ok = (record { input = Ok bytes; input_is = input; made = sym gives }, same); err = tt }
 problem_read files name limit rule demands bytes (Err fault) before after kept counts input same gives =
     record { kept = kept; counts = counts; ok = tt; err = stops files name limit rule demands bytes fault before after input same gives }
+
+unless-ok : {X : Type 0} (fault : Option DemandError) (result : Result X DemandError) (x : X) → unless fault result ≡ Ok x → result ≡ Ok x
+unless-ok None result x is = is
+unless-ok (Some fault) result x is = absurd cc
+
+pub made_rule : (posed : PosedFile) (rule : List Bool) (demands : Demands) (problem : PosedProblem) → problem_made posed rule demands ≡ Ok problem → problem.rule ≡ rule
+made_rule posed rule demands problem is =
+    let made : Ok (record { posed = posed; rule = rule; demands = demands }) ≡ Ok problem =
+    unless-ok (counter_fault posed demands) _ problem (unless-ok (period_fault posed demands) _ problem (unless-ok (bound_fault posed demands) _ problem
+    (unless-ok (generation_fault posed demands) _ problem (unless-ok (square_fault posed demands) _ problem is)))) in
+    let same : problem ≡ record { posed = posed; rule = rule; demands = demands } = cc in
+    ap (λ (p : PosedProblem). p.rule) same

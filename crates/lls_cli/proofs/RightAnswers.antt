@@ -7,11 +7,12 @@ use Rattle.lls_problem.specs.declared.judgement.Judgement.TheVariants as judgeme
 use Rattle.lls_problem.specs.Problem.{PosedProblem}
 use Rattle.lls_problem.specs.Judgement.{IsJudgement}
 use Rattle.lls_problem.specs.Solution.{IsSolution, IsAbsent}
+use Rattle.lls_problem.proofs.Plane.{plane_law}
 use Rattle.lls_encode.specs.Formula.{formula_of}
 use Rattle.lls_cli.specs.declared.status.Status.{Status}
 use Rattle.lls_cli.specs.declared.status.Status.TheVariants as statuses
 use Rattle.lls_cli.specs.Answer.{GivenAnswer, judge_answer, Holds, IsAnswer}
-use Rattle.lls_cli.specs.Question.{Question, checks, refutes, judges, encodes, prints}
+use Rattle.lls_cli.specs.Question.{Question, checks, refutes, judges, searches, decides, encodes, prints}
 use Rattle.lls_cli.specs.Moment.{ShelfMoment}
 use Rattle.lls_cli.specs.Steps.{LeavesAlone, LeavesPrinting}
 
@@ -36,7 +37,7 @@ checked_answer problem proof answer absent right =
 
 holds_judged : (problem : PosedProblem) (history : History) (judgement : Judgement) → (judgement ≡ judgements.Meets → IsSolution problem history)
     → (judgement ≢ judgements.Meets → IsSolution problem history → ⊥) → Holds (judges problem history) (judge_answer judgement).status
-holds_judged problem history judgements.Meets meets broken = meets refl
+holds_judged problem history judgements.Meets meets broken = (meets refl, plane_law problem history (meets refl))
 holds_judged problem history judgements.Size meets broken = broken (λ is. cc)
 holds_judged problem history (judgements.Cell t y x) meets broken = broken (λ is. cc)
 holds_judged problem history (judgements.Name t y x) meets broken = broken (λ is. cc)
@@ -63,6 +64,8 @@ leaves_printing (prints rule) answer before after right alone =
 leaves_printing (checks problem proof) answer before after right alone = tt
 leaves_printing (refutes formula proof) answer before after right alone = tt
 leaves_printing (judges problem history) answer before after right alone = tt
+leaves_printing (searches problem effort rle) answer before after right alone = tt
+leaves_printing (decides formula effort) answer before after right alone = tt
 leaves_printing (encodes problem) answer before after right alone = tt
 
 -- nor does a run that gives no answer touch the shelf
@@ -71,4 +74,6 @@ leaves_printing-refl (prints rule) shelf = refl
 leaves_printing-refl (checks problem proof) shelf = tt
 leaves_printing-refl (refutes formula proof) shelf = tt
 leaves_printing-refl (judges problem history) shelf = tt
+leaves_printing-refl (searches problem effort rle) shelf = tt
+leaves_printing-refl (decides formula effort) shelf = tt
 leaves_printing-refl (encodes problem) shelf = tt

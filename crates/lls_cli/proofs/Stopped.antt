@@ -22,6 +22,7 @@ Stops-along (faults.Posed error) One Two before after along stops = (along stops
 Stops-along (faults.Demands error) One Two before after along stops = (along stops.0, stops.1)
 Stops-along (faults.Dimacs error) One Two before after along stops = (along stops.0, stops.1)
 Stops-along (faults.NotPlain t y x) One Two before after along stops = (along stops.0, stops.1)
+Stops-along (faults.Rle error) One Two before after along stops = (along stops.0, stops.1)
 Stops-along (faults.TooLong limit) One Two before after along stops = (along stops.0, stops.1)
 
 -- an input that isn't read has some bytes or some refusal

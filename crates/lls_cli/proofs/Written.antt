@@ -10,7 +10,7 @@ use Rattle.lls_base.specs.Writing.{with_output, without_output}
 use Rattle.lls_base.specs.declared.sink.Failed.{Failed}
 use Rattle.lls_base.specs.declared.writing.FileFault.{FileFault}
 use Rattle.lls_base.specs.declared.writing.FileFault.TheVariants as writes
-use Rattle.lls_cli.specs.Answer.{NamedFile}
+use Rattle.lls_cli.specs.Evidence.{NamedFile}
 use Rattle.lls_cli.specs.Moment.{SinkMoment, ShelfMoment}
 use Rattle.lls_cli.specs.Ends.{GrewBy}
 use Rattle.lls_cli.specs.Steps.{Unwritten, file_fault}

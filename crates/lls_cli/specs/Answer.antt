@@ -1,11 +1,15 @@
 -- Which answers to a question are right.
-use Rattle.std.specs.Prelude.{◌≡◌, ℕ, ◌++◌, List, codes, Option, None, Result, Ok, Err}
+use Rattle.std.specs.Prelude.{◌≡◌, ℕ, ◌++◌, Bool, List, codes, Option, None, Some, Result, Ok, Err}
+use Rattle.lls_grid.specs.History.{History}
+use Rattle.lls_solver.specs.Searching.{IsModel}
 use Rattle.lls_hensel.specs.Printing.{rule_text}
 use Rattle.lls_problem.specs.declared.judgement.Judgement.{Judgement}
 use Rattle.lls_problem.specs.declared.judgement.Judgement.TheVariants as judgements
 use Rattle.lls_problem.specs.Judgement.{IsJudgement}
+use Rattle.lls_problem.specs.Problem.{PosedProblem}
+use Rattle.lls_problem.specs.Plane.{PlaneLaw}
 use Rattle.lls_problem.specs.Solution.{IsSolution, IsAbsent}
-use Rattle.lls_lit.specs.Formula.{IsUnsatisfiable}
+use Rattle.lls_lit.specs.Formula.{Cnf, IsUnsatisfiable}
 use Rattle.lls_cnf.specs.DimacsText.{dimacs_text}
 use Rattle.lls_encode.specs.Formula.{formula_of}
 use Rattle.lls_lrat.specs.declared.error.CheckError.{CheckError}
@@ -14,12 +18,10 @@ use Rattle.lls_lrat.specs.Verdict.{Accepted, verdict, answer_of}
 use Rattle.lls_cli.specs.declared.status.Status.{Status}
 use Rattle.lls_cli.specs.declared.status.Status.TheVariants as statuses
 use Rattle.lls_problem.specs.Texts.{judgement_text}
-use Rattle.lls_cli.specs.Question.{Question, checks, refutes, judges, encodes, prints}
-
--- a file that is written: its name and its bytes
-pub record NamedFile : Type 0 where
-  pub name : List ℕ
-  pub bytes : List ℕ
+use Rattle.lls_cli.specs.Question.{Question, Effort, checks, refutes, judges, searches, decides, encodes, prints}
+use Rattle.lls_cli.specs.Evidence.{NamedFile, HasProof, HasSpentLog}
+use Rattle.lls_cli.specs.ModelText.{model_text}
+use Rattle.lls_cli.specs.PatternText.{pattern_text}
 
 -- the status, the text for the standard output, and the file that is written before it, if any
 pub record GivenAnswer : Type 0 where
@@ -27,9 +29,17 @@ pub record GivenAnswer : Type 0 where
   pub text : List ℕ
   pub file : Option NamedFile
 
+-- a status and a text, and no file
+abbrev pub shown : Status → List ℕ → GivenAnswer
+shown status text = record { status = status; text = text; file = None }
+
 -- a status and a line, and no file
 abbrev pub said : Status → List ℕ → GivenAnswer
-said status text = record { status = status; text = text ++ codes "\n"; file = None }
+said status text = shown status (text ++ codes "\n")
+
+-- a status and a line, behind a file
+abbrev pub said_behind : NamedFile → Status → List ℕ → GivenAnswer
+said_behind file status text = record (said status text) { file = Some file }
 
 -- the answer of a proof that is accepted, or refused with its first fault
 abbrev pub check_answer : Result (Unit {0}) CheckError → GivenAnswer
@@ -41,12 +51,39 @@ abbrev pub judge_answer : Judgement → GivenAnswer
 judge_answer judgements.Meets = said statuses.Done (codes "meets")
 judge_answer judgement = said statuses.Refused (codes "broken: " ++ judgement_text judgement)
 
+-- how the search of a formula ends: with an assignment that satisfies it, or with a proof or a spent log in the file
+pub data IsDecision (formula : Cnf) (effort : Effort) : GivenAnswer → Type 0 where
+  satisfied : (values : List Bool) → IsModel formula values → IsDecision formula effort (shown statuses.Pattern (model_text values))
+  unsatisfied : (file : NamedFile) → HasProof formula effort file
+      → IsDecision formula effort (said_behind file statuses.NoPattern (codes "s UNSATISFIABLE"))
+  unknown : (file : NamedFile) → HasSpentLog formula effort file
+      → IsDecision formula effort (said_behind file statuses.Undecided (codes "s UNKNOWN"))
+
+-- the words of an absence
+abbrev pub no_pattern : List ℕ
+no_pattern = codes "no pattern\n"
+
+-- an absence, behind the file of its proof
+abbrev pub none_behind : NamedFile → GivenAnswer
+none_behind file = record { status = statuses.NoPattern; text = no_pattern; file = Some file }
+
+-- how the search of a problem ends: with a solution, or with a proof or a spent log of its formula in the file
+pub data IsFinding (problem : PosedProblem) (effort : Effort) (rle : Bool) : GivenAnswer → Type 0 where
+  found : (history : History) → IsSolution problem history
+      → IsFinding problem effort rle (shown statuses.Pattern (pattern_text rle problem.rule history))
+  absent : (file : NamedFile) → HasProof (formula_of problem) effort file
+      → IsFinding problem effort rle (none_behind file)
+  undecided : (file : NamedFile) → HasSpentLog (formula_of problem) effort file
+      → IsFinding problem effort rle (said_behind file statuses.Undecided (codes "undecided"))
+
 -- what the yes of a question says: of a check that the proof is accepted, and that there is no solution, or that no assignment
--- satisfies the formula; of a judging that the pattern is a solution
+-- satisfies the formula; of a judging that the pattern is a solution, and keeps the rule on the whole plane where it has to
 abbrev pub YesHolds : Question → Type 0
 YesHolds (checks problem proof) = (verdict (formula_of problem) proof ≡ Accepted) × IsAbsent problem
 YesHolds (refutes formula proof) = (verdict formula proof ≡ Accepted) × IsUnsatisfiable formula
-YesHolds (judges problem history) = IsSolution problem history
+YesHolds (judges problem history) = IsSolution problem history × PlaneLaw problem history
+YesHolds (searches problem effort rle) = ⊥
+YesHolds (decides formula effort) = ⊥
 YesHolds (encodes problem) = Unit {0}
 YesHolds (prints rule) = Unit {0}
 
@@ -55,13 +92,37 @@ abbrev pub NoHolds : Question → Type 0
 NoHolds (checks problem proof) = verdict (formula_of problem) proof ≡ Accepted → ⊥
 NoHolds (refutes formula proof) = verdict formula proof ≡ Accepted → ⊥
 NoHolds (judges problem history) = IsSolution problem history → ⊥
+NoHolds (searches problem effort rle) = ⊥
+NoHolds (decides formula effort) = ⊥
 NoHolds (encodes problem) = ⊥
 NoHolds (prints rule) = ⊥
 
--- what a status says of a question: a yes or a no
+-- what it says that a search found something: there is a solution, which keeps the rule on the whole plane where it has to, or
+-- an assignment that satisfies the formula
+abbrev pub IsThere : Question → Type 0
+IsThere (searches problem effort rle) = (history : History) × IsSolution problem history × PlaneLaw problem history
+IsThere (decides formula effort) = (values : List Bool) × IsModel formula values
+IsThere question = ⊥
+
+-- what it says that there is nothing to find
+abbrev pub IsNowhere : Question → Type 0
+IsNowhere (searches problem effort rle) = IsAbsent problem
+IsNowhere (decides formula effort) = IsUnsatisfiable formula
+IsNowhere question = ⊥
+
+-- the searches alone may be undecided
+abbrev pub IsSearch : Question → Type 0
+IsSearch (searches problem effort rle) = Unit {0}
+IsSearch (decides formula effort) = Unit {0}
+IsSearch question = ⊥
+
+-- what a status says of a question
 abbrev pub Holds : Question → Status → Type 0
 Holds question statuses.Done = YesHolds question
 Holds question statuses.Refused = NoHolds question
+Holds question statuses.Pattern = IsThere question
+Holds question statuses.NoPattern = IsNowhere question
+Holds question statuses.Undecided = IsSearch question
 Holds question status = ⊥
 
 -- the status, the text and the file that answer a question
@@ -69,7 +130,9 @@ abbrev pub Answers : Question → GivenAnswer → Type 0
 Answers (checks problem bytes) answer = answer ≡ check_answer (answer_of (verdict (formula_of problem) bytes))
 Answers (refutes formula bytes) answer = answer ≡ check_answer (answer_of (verdict formula bytes))
 Answers (judges problem history) answer = (judgement : Judgement) × IsJudgement problem history judgement × (answer ≡ judge_answer judgement)
-Answers (encodes problem) answer = answer ≡ record { status = statuses.Done; text = dimacs_text (formula_of problem); file = None }
+Answers (searches problem effort rle) answer = IsFinding problem effort rle answer
+Answers (decides formula effort) answer = IsDecision formula effort answer
+Answers (encodes problem) answer = answer ≡ shown statuses.Done (dimacs_text (formula_of problem))
 Answers (prints rule) answer = answer ≡ said statuses.Done (rule_text rule)
 
 -- an answer is right, and what its status says holds

@@ -1,14 +1,23 @@
 -- What a run's end says in plain sentences. Each follows from how the run ends.
-use Rattle.std.specs.Prelude.{◌≡◌, ◌≤◌, ◌⊎◌, Option, None, Some, Result, Ok, Err}
+use Rattle.std.specs.Prelude.{◌≡◌, ◌≢◌, ◌≤◌, ◌⊎◌, ℕ, List, length, Option, None, Some, Result, Ok, Err}
+use Rattle.std.specs.FinMap as map
+use Rattle.std.specs.Option.{option_map}
 use Rattle.lls_base.specs.Faults.{Rose}
 use Rattle.lls_base.specs.Shelf.{Files}
 use Rattle.lls_words.specs.declared.error.WordsError.{WordsError}
+use Rattle.lls_lit.specs.Formula.{Cnf}
+use Rattle.lls_encode.specs.Formula.{formula_of}
 use Rattle.lls_words.specs.declared.job.Job.{Job}
+use Rattle.lls_words.specs.declared.job.Job.TheVariants as jobs
 use Rattle.lls_cli.specs.declared.fault.Fault.TheVariants as faults
 use Rattle.lls_cli.specs.declared.fault.OutsideFault.TheVariants as outside
 use Rattle.lls_cli.specs.declared.status.Status.{Status}
 use Rattle.lls_cli.specs.declared.status.Status.TheVariants as statuses
-use Rattle.lls_cli.specs.Question.{Question, question_of}
+use Rattle.lls_cli.specs.Question.{Question, Effort, checks, searches, decides, question_of}
+use Rattle.lls_cli.specs.Evidence.{NamedFile}
+use Rattle.lls_cli.specs.Answer.{Holds, YesHolds}
+use Rattle.lls_cli.specs.declared.input.TheConstants.{PROOF_LIMIT}
+use Rattle.lls_problem.specs.Problem.{PosedProblem}
 use Rattle.lls_cli.specs.Moment.{Moment, files_at}
 
 -- a fact of the question that words and files ask, where the shelf tells its files
@@ -25,9 +34,65 @@ IsSilent statuses.Memory = Unit {0}
 IsSilent statuses.Limit = Unit {0}
 IsSilent status = ⊥
 
--- a yes or a no
-abbrev pub IsYesOrNo : Status → Type 0
-IsYesOrNo status = (status ≡ statuses.Done) ⊎ (status ≡ statuses.Refused)
+-- the statuses of answers
+abbrev pub IsAnswered : Status → Type 0
+IsAnswered statuses.Done = Unit {0}
+IsAnswered statuses.Refused = Unit {0}
+IsAnswered statuses.Pattern = Unit {0}
+IsAnswered statuses.NoPattern = Unit {0}
+IsAnswered statuses.Undecided = Unit {0}
+IsAnswered status = ⊥
+
+-- the statuses at which a file may have changed
+abbrev pub MayWrite : Status → Type 0
+MayWrite statuses.Outside = Unit {0}
+MayWrite statuses.NoPattern = Unit {0}
+MayWrite statuses.Undecided = Unit {0}
+MayWrite status = ⊥
+
+-- the file that a job may write
+abbrev pub output_of : Job → Option (List ℕ)
+output_of (jobs.Search search_file proof rule demands budget keep_all rle) = Some proof
+output_of (jobs.Sat formula proof budget keep_all) = Some proof
+output_of job = None
+
+abbrev pub output_of_words : Result Job WordsError → Option (List ℕ)
+output_of_words (Ok job) = output_of job
+output_of_words (Err error) = None
+
+-- no file changed, but perhaps that one
+abbrev pub ChangesOnly : Option (List ℕ) → Option Files → Option Files → Type 0
+ChangesOnly None before after = after ≡ before
+ChangesOnly (Some name) before after =
+    (other : List ℕ) → other ≢ name → option_map (λ files. map.get files other) after ≡ option_map (λ files. map.get files other) before
+
+-- a fact of the file that a name stands for
+abbrev pub OfFile : (NamedFile → Type 0) → List ℕ → Option Files → Type 0
+OfFile Fact name None = Unit {0}
+OfFile Fact name (Some files) = (bytes : List ℕ) × (map.get files name ≡ Some bytes) × Fact (record { name = name; bytes = bytes })
+
+-- what a search leaves in its file, by the formula that it searches
+abbrev pub Leaves : (Cnf → Effort → NamedFile → Type 0) → Option Files → Question → Type 0
+Leaves Has files (searches problem effort rle) = OfFile (Has (formula_of problem) effort) effort.proof files
+Leaves Has files (decides formula effort) = OfFile (Has formula effort) effort.proof files
+Leaves Has files question = ⊥
+
+-- after a search that found nothing, a check with the same words for the problem asks of the files that are left whether the
+-- proof is accepted, where it is no longer than a check reads; and the check's yes holds
+abbrev pub Publishes : Result Job WordsError → Option Files → Option Files → Type 0
+Publishes (Ok (jobs.Search search_file proof rule demands budget keep_all rle)) (Some before) (Some after) =
+    (problem : PosedProblem) × (bytes : List ℕ) × (map.get after proof ≡ Some bytes)
+    × (length bytes ≤ PROOF_LIMIT → question_of (jobs.Check search_file proof rule demands) after ≡ Ok (checks problem bytes))
+    × YesHolds (checks problem bytes)
+Publishes job before after = Unit {0}
+
+-- where the inputs ask a question, and no call of the shelf or of the standard output failed, it is answered, but for want of
+-- memory, and what the answer's status says holds
+abbrev pub IsComplete : Result Job WordsError → Option Files → Moment → Moment → Status → Type 0
+IsComplete (Ok job) (Some files) before after status = (question : Question) → question_of job files ≡ Ok question
+    → (Rose before.shelf.faults after.shelf.faults → ⊥) → (Rose before.out.faults after.out.faults → ⊥) → (status ≡ statuses.Memory) ⊎ Holds question status
+IsComplete (Ok job) None before after status = Unit {0}
+IsComplete (Err error) files before after status = Unit {0}
 
 -- the file of an input isn't there
 abbrev pub MissesFile : Result Job WordsError → Option Files → Type 0

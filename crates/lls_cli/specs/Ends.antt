@@ -15,7 +15,8 @@ use Rattle.lls_cli.specs.declared.status.Status.{Status}
 use Rattle.lls_cli.specs.declared.status.Status.TheVariants as statuses
 use Rattle.lls_cli.specs.Fault.{fault_line, status_of}
 use Rattle.lls_cli.specs.Question.{Question, Asks}
-use Rattle.lls_cli.specs.Answer.{GivenAnswer, NamedFile, IsAnswer}
+use Rattle.lls_cli.specs.Evidence.{NamedFile}
+use Rattle.lls_cli.specs.Answer.{GivenAnswer, IsAnswer}
 use Rattle.lls_cli.specs.Moment.{ShelfMoment, SinkMoment, Moment, files_at}
 
 -- a sink grew by some first bytes of a text, and by all of it but where its count of faults rose

@@ -12,6 +12,9 @@ use Rattle.lls_cnf.specs.DimacsError as dimacs_texts
 use Rattle.lls_problem.specs.declared.demands.DemandError.{DemandError}
 use Rattle.lls_problem.specs.declared.demands.DemandError.TheVariants as demands
 use Rattle.lls_problem.specs.Texts.{demand_error_text}
+use Rattle.lls_rle.specs.declared.rle_error.RleError.{RleError}
+use Rattle.lls_rle.specs.declared.rle_error.RleError.TheVariants as pictures
+use Rattle.lls_rle.specs.Faults.{rle_error_text}
 use Rattle.lls_cli.specs.declared.fault.Fault.{Fault}
 use Rattle.lls_cli.specs.declared.fault.Fault.TheVariants as faults
 use Rattle.lls_cli.specs.declared.fault.OutsideFault.{OutsideFault}
@@ -35,6 +38,11 @@ dimacs_status dimacs.Memory = statuses.Memory
 dimacs_status (dimacs.TooManyVariables n) = statuses.Limit
 dimacs_status error = statuses.Content
 
+-- a picture that doesn't fit the grid is content: its grid is the problem's
+abbrev pub rle_status : RleError → Status
+rle_status pictures.Memory = statuses.Memory
+rle_status error = statuses.Content
+
 abbrev pub words_status : WordsError → Status
 words_status words.Memory = statuses.Memory
 words_status error = statuses.Words
@@ -45,6 +53,7 @@ status_of (faults.Posed error) = posed_status error
 status_of (faults.Demands error) = demand_status error
 status_of (faults.Dimacs error) = dimacs_status error
 status_of (faults.NotPlain t y x) = statuses.Content
+status_of (faults.Rle error) = rle_status error
 status_of (faults.Outside fault) = statuses.Outside
 status_of (faults.TooLong limit) = statuses.Limit
 status_of faults.Memory = statuses.Memory
@@ -74,6 +83,7 @@ fault_text (faults.Posed error) = (if is_limit error then codes "limit: " else c
 fault_text (faults.Demands error) = demand_kind error ++ demand_error_text error
 fault_text (faults.Dimacs error) = dimacs_kind error ++ dimacs_texts.fault_text error
 fault_text (faults.NotPlain t y x) = codes "content: NotPlain " ++ decimal t ++ codes " " ++ decimal y ++ codes " " ++ decimal x
+fault_text (faults.Rle error) = codes "content: " ++ rle_error_text error
 fault_text (faults.Outside fault) = codes "outside: " ++ outside_text fault
 fault_text (faults.TooLong limit) = codes "limit: TooLong " ++ decimal limit
 fault_text faults.Memory = codes "memory"

@@ -1,6 +1,9 @@
 pub mod Status
 pub mod Fault
 pub mod Question
+pub mod Evidence
+pub mod ModelText
+pub mod PatternText
 pub mod Answer
 pub mod Moment
 pub mod Ends

@@ -1,6 +1,6 @@
 -- What a job asks, once its inputs are read, and the first refusal where they ask nothing. This file alone knows the
 -- order of refusals: the first input, its length, its grammar and its demands; then the second, its length and its grammar.
-use Rattle.std.specs.Prelude.{◌≡◌, ◌≤◌, ℕ, nat_lt, Bool, List, length, Option, None, Some, Result, Ok, Err, if◌then◌else◌}
+use Rattle.std.specs.Prelude.{◌≡◌, ◌≤◌, ℕ, nat_lt, Bool, true, false, List, length, Option, None, Some, Result, Ok, Err, if◌then◌else◌}
 use Rattle.std.specs.FinMap as map
 use Rattle.lls_base.specs.Results.{and_then}
 use Rattle.lls_base.specs.Shelf.{Files}
@@ -9,6 +9,9 @@ use Rattle.lls_cnf.specs.declared.dimacs_error.DimacsError.{DimacsError}
 use Rattle.lls_cnf.specs.declared.read.TheConstants.{MOST_DIMACS_BYTES}
 use Rattle.lls_cnf.specs.Dimacs.{dimacs}
 use Rattle.lls_grid.specs.History.{History}
+use Rattle.lls_grid.specs.Evolution.{evolution}
+use Rattle.lls_rle.specs.declared.rle_error.RleError.{RleError}
+use Rattle.lls_rle.specs.Reading.{rle_of}
 use Rattle.lls_search_file.specs.declared.error.PosedError.{PosedError}
 use Rattle.lls_search_file.specs.declared.plain.HistoryError.{HistoryError}
 use Rattle.lls_search_file.specs.declared.plain.HistoryError.TheVariants as plain
@@ -25,12 +28,21 @@ use Rattle.lls_cli.specs.declared.fault.Fault.TheVariants as faults
 use Rattle.lls_cli.specs.declared.fault.OutsideFault.TheVariants as outside
 use Rattle.lls_cli.specs.declared.input.TheConstants.{SEARCH_LIMIT, PROOF_LIMIT}
 
--- check this proof's bytes against this problem, or against this formula; judge this history by this problem; print this
--- problem's formula; print this rule
+-- how a search is made: how many clauses it may learn, whether it keeps all of them, and the name of the file of its log
+pub record Effort : Type 0 where
+  pub budget : ℕ
+  pub keep_all : Bool
+  pub proof : List ℕ
+
+-- check this proof's bytes against this problem, or against this formula; judge this history by this problem; find a
+-- solution of this problem, which is printed as a picture or as rows, or an assignment that satisfies this formula, or show
+-- that there is none; print this problem's formula; print this rule
 pub data Question : Type 0 where
   checks : PosedProblem → List ℕ → Question
   refutes : Cnf → List ℕ → Question
   judges : PosedProblem → History → Question
+  searches : PosedProblem → Effort → Bool → Question
+  decides : Cnf → Effort → Question
   encodes : PosedProblem → Question
   prints : List Bool → Question
 
@@ -66,6 +78,21 @@ plain_in (Err plain.Memory) = Err faults.Memory
 abbrev pub history_in : List ℕ → Result History Fault
 history_in bytes = plain_in (plain_of bytes)
 
+-- the first generation that a picture says
+abbrev pub picture_read : Result History RleError → Result History Fault
+picture_read (Ok first) = Ok first
+picture_read (Err error) = Err (faults.Rle error)
+
+-- the history of a problem's sizes that a picture begins, and that goes on by the problem's rule
+abbrev pub pictured_in : PosedProblem → List ℕ → Result History Fault
+pictured_in problem bytes =
+    and_then (picture_read (rle_of problem.posed.height problem.posed.width bytes)) (λ first. Ok (evolution problem.rule problem.posed.generations first))
+
+-- the history of a pattern's bytes: a picture of its first generation, or all rows
+abbrev pub pattern_in : Bool → PosedProblem → List ℕ → Result History Fault
+pattern_in true problem bytes = pictured_in problem bytes
+pattern_in false problem bytes = history_in bytes
+
 -- the formula that the bytes of a formula's file write
 abbrev pub formula_read : Result Cnf DimacsError → Result Cnf Fault
 formula_read (Ok formula) = Ok formula
@@ -79,13 +106,22 @@ abbrev pub check_question : List Bool → Demands → Result (List ℕ) Fault �
 check_question rule demands first second =
     and_then (and_then first (problem_in rule demands)) (λ problem. and_then second (λ proof. Ok (checks problem proof)))
 
-abbrev pub judge_question : List Bool → Demands → Result (List ℕ) Fault → Result (List ℕ) Fault → Result Question Fault
-judge_question rule demands first second =
-    and_then (and_then first (problem_in rule demands)) (λ problem. and_then (and_then second history_in) (λ history. Ok (judges problem history)))
+abbrev pub judge_question : List Bool → Demands → Bool → Result (List ℕ) Fault → Result (List ℕ) Fault → Result Question Fault
+judge_question rule demands rle first second =
+    and_then (and_then first (problem_in rule demands)) (λ problem. and_then (and_then second (pattern_in rle problem)) (λ history. Ok (judges problem history)))
 
 abbrev pub refute_question : Result (List ℕ) Fault → Result (List ℕ) Fault → Result Question Fault
 refute_question first second =
     and_then (and_then first formula_in) (λ formula. and_then second (λ proof. Ok (refutes formula proof)))
+
+abbrev pub search_question : List Bool → Demands → Effort → Bool → Result (List ℕ) Fault → Result Question Fault
+search_question rule demands effort rle input = and_then (and_then input (problem_in rule demands)) (λ problem. Ok (searches problem effort rle))
+
+abbrev pub decide_question : Effort → Result (List ℕ) Fault → Result Question Fault
+decide_question effort input = and_then (and_then input formula_in) (λ formula. Ok (decides formula effort))
+
+abbrev pub effort_of : ℕ → Bool → List ℕ → Effort
+effort_of budget keep_all proof = record { budget = budget; keep_all = keep_all; proof = proof }
 
 abbrev pub encode_question : List Bool → Demands → Result (List ℕ) Fault → Result Question Fault
 encode_question rule demands input = and_then (and_then input (problem_in rule demands)) (λ problem. Ok (encodes problem))
@@ -94,8 +130,11 @@ encode_question rule demands input = and_then (and_then input (problem_in rule d
 abbrev pub question_of : Job → Files → Result Question Fault
 question_of (jobs.Check search_file proof rule demands) files =
     check_question rule demands (input_of files search_file SEARCH_LIMIT) (input_of files proof PROOF_LIMIT)
-question_of (jobs.Judge search_file pattern rule demands) files =
-    judge_question rule demands (input_of files search_file SEARCH_LIMIT) (input_of files pattern SEARCH_LIMIT)
+question_of (jobs.Judge search_file pattern rule demands rle) files =
+    judge_question rule demands rle (input_of files search_file SEARCH_LIMIT) (input_of files pattern SEARCH_LIMIT)
+question_of (jobs.Search search_file proof rule demands budget keep_all rle) files =
+    search_question rule demands (effort_of budget keep_all proof) rle (input_of files search_file SEARCH_LIMIT)
+question_of (jobs.Sat formula proof budget keep_all) files = decide_question (effort_of budget keep_all proof) (input_of files formula MOST_DIMACS_BYTES)
 question_of (jobs.Cnf search_file rule demands) files = encode_question rule demands (input_of files search_file SEARCH_LIMIT)
 question_of (jobs.Lrat formula proof) files =
     refute_question (input_of files formula MOST_DIMACS_BYTES) (input_of files proof PROOF_LIMIT)
@@ -131,8 +170,12 @@ pub record MadeOf (files : Option Files) (one : List ℕ) (one_limit : ℕ) (two
 abbrev pub Asks : Job → Option Files → Result Question Fault → Type 0
 Asks (jobs.Check search_file proof rule demands) files question =
     MadeOf files search_file SEARCH_LIMIT proof PROOF_LIMIT (check_question rule demands) question
-Asks (jobs.Judge search_file pattern rule demands) files question =
-    MadeOf files search_file SEARCH_LIMIT pattern SEARCH_LIMIT (judge_question rule demands) question
+Asks (jobs.Judge search_file pattern rule demands rle) files question =
+    MadeOf files search_file SEARCH_LIMIT pattern SEARCH_LIMIT (judge_question rule demands rle) question
+Asks (jobs.Search search_file proof rule demands budget keep_all rle) files question =
+    MadeOfOne files search_file SEARCH_LIMIT (search_question rule demands (effort_of budget keep_all proof) rle) question
+Asks (jobs.Sat formula proof budget keep_all) files question =
+    MadeOfOne files formula MOST_DIMACS_BYTES (decide_question (effort_of budget keep_all proof)) question
 Asks (jobs.Cnf search_file rule demands) files question = MadeOfOne files search_file SEARCH_LIMIT (encode_question rule demands) question
 Asks (jobs.Lrat formula proof) files question = MadeOf files formula MOST_DIMACS_BYTES proof PROOF_LIMIT refute_question question
 Asks (jobs.Rule rule) files question = question ≡ Ok (prints rule)

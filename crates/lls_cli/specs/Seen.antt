@@ -1,27 +1,51 @@
 -- For private contracts alone: questions and answers as contracts see them.
+use Rattle.std.specs.Prelude.{◌≡◌, ◌≤◌}
 use Rattle.std.specs.Option.{option_map}
 use Rattle.lls_hensel.specs.Isotropy.{IsIsotropic}
+use Rattle.lls_problem.specs.Problem.{PosedProblem}
+use Rattle.lls_encode.specs.Formula.{formula_of}
+use Rattle.lls_solver.specs.declared.solving.TheConstants.{MOST_BUDGET}
 use Rattle.lls_cli.specs.declared.question.Question as code
 use Rattle.lls_cli.specs.declared.question.Question.TheVariants as asked
+use Rattle.lls_cli.specs.declared.question.Effort as efforts
+use Rattle.lls_cli.specs.declared.search.Finding as searched
+use Rattle.lls_cli.specs.declared.search.Finding.TheVariants as findings
 use Rattle.lls_cli.specs.declared.answer.Answer as answers
 use Rattle.lls_cli.specs.declared.answer.AnswerFile as files
-use Rattle.lls_cli.specs.Question.{Question, checks, refutes, judges, encodes, prints}
-use Rattle.lls_cli.specs.Answer.{GivenAnswer, NamedFile}
+use Rattle.lls_cli.specs.Question.{Question, Effort, checks, refutes, judges, searches, decides, encodes, prints}
+use Rattle.lls_cli.specs.Evidence.{NamedFile}
+use Rattle.lls_cli.specs.Answer.{GivenAnswer, none_behind}
+
+abbrev pub seen_effort : efforts.Effort → Effort
+seen_effort effort = record { budget = effort.budget; keep_all = effort.keep_all; proof = effort.proof }
 
 abbrev pub seen_question : code.Question → Question
 seen_question (asked.Check problem proof) = checks problem proof.items
 seen_question (asked.Refute formula proof) = refutes formula proof.items
 seen_question (asked.Judge problem history) = judges problem history
+seen_question (asked.Search problem effort rle) = searches problem (seen_effort effort) rle
+seen_question (asked.Decide formula effort) = decides formula (seen_effort effort)
 seen_question (asked.Encode problem) = encodes problem
 seen_question (asked.Print rule) = prints rule
 
--- a rule that is to be printed is isotropic
-abbrev pub CanPrint : code.Question → Type 0
-CanPrint (asked.Print rule) = IsIsotropic rule
-CanPrint question = Unit {0}
+-- a rule that is to be printed is isotropic, perhaps in the pictures of a search; and a budget is within its limit
+abbrev pub CanAnswer : code.Question → Type 0
+CanAnswer (asked.Print rule) = IsIsotropic rule
+CanAnswer (asked.Search problem effort rle) = IsIsotropic problem.rule × (effort.budget ≤ MOST_BUDGET)
+CanAnswer (asked.Decide formula effort) = effort.budget ≤ MOST_BUDGET
+CanAnswer question = Unit {0}
 
 abbrev pub seen_file : files.AnswerFile → NamedFile
 seen_file file = record { name = file.name; bytes = file.bytes.items }
 
 abbrev pub seen_answer : answers.Answer → GivenAnswer
 seen_answer answer = record { status = answer.status; text = answer.text.items; file = option_map seen_file answer.file }
+
+abbrev pub seen_finding : searched.Finding → GivenAnswer
+seen_finding (findings.Answered answer) = seen_answer answer
+seen_finding (findings.Absent proof file) = none_behind (seen_file file)
+
+-- the formula that was checked is the problem's
+abbrev pub Stands : PosedProblem → searched.Finding → Type 0
+Stands problem (findings.Answered answer) = Unit {0}
+Stands problem (findings.Absent proof file) = proof ≡ formula_of problem

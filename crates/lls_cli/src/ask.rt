@@ -4,12 +4,12 @@ ghost use Rattle.lls_words.specs.Job.{KeepsLimits};
 ghost use Rattle.lls_cli.specs.Ends.{HasInputs, LeavesShelf};
 ghost use Rattle.lls_cli.specs.Moment.{shelf_moment, files_at};
 ghost use Rattle.lls_cli.specs.Question.{Asks};
-ghost use Rattle.lls_cli.specs.Seen.{seen_question, CanPrint};
+ghost use Rattle.lls_cli.specs.Seen.{seen_question, CanAnswer};
 ghost use Rattle.lls_cli.specs.Steps.{Reads};
 
 use crate::fault::Fault;
 use crate::input::{PROOF_LIMIT, read_formula, read_input, read_pattern, read_problem};
-use crate::question::Question;
+use crate::question::{Effort, Question};
 use lls_base::Shelf;
 use lls_words::Job;
 use std::alloc::Global;
@@ -23,7 +23,7 @@ pub fn ask<S: Shelf>(alloc: Global, shelf: &mut S, job: Job) -> Result<Question,
     ensures leaves { LeavesShelf job
         (shelf_moment (S.told shelf.old) (S.has_input shelf.old) (S.has_output shelf.old) (S.faults shelf.old))
         (shelf_moment (S.told shelf.new) (S.has_input shelf.new) (S.has_output shelf.new) (S.faults shelf.new)) }
-    ensures printable { IfOk result CanPrint }
+    ensures printable { IfOk result CanAnswer }
     ensures inputs { OnErr result (HasInputs job) }
 {
     match job {
@@ -42,10 +42,46 @@ pub fn ask<S: Shelf>(alloc: Global, shelf: &mut S, job: Job) -> Result<Question,
             pattern,
             rule,
             demands,
+            rle,
         } => {
             let problem = read_problem(alloc, shelf, &search, rule, demands)?;
-            let history = read_pattern(alloc, shelf, &pattern)?;
+            let history = read_pattern(alloc, shelf, &pattern, &problem, rle)?;
             Ok(Question::Judge { problem, history })
+        }
+        Job::Search {
+            search,
+            proof,
+            rule,
+            demands,
+            budget,
+            keep_all,
+            rle,
+        } => {
+            let problem = read_problem(alloc, shelf, &search, rule, demands)?;
+            let effort = Effort {
+                budget,
+                keep_all,
+                proof,
+            };
+            Ok(Question::Search {
+                problem,
+                effort,
+                rle,
+            })
+        }
+        Job::Sat {
+            formula,
+            proof,
+            budget,
+            keep_all,
+        } => {
+            let formula = read_formula(alloc, shelf, &formula)?;
+            let effort = Effort {
+                budget,
+                keep_all,
+                proof,
+            };
+            Ok(Question::Decide { formula, effort })
         }
         Job::Cnf {
             search,

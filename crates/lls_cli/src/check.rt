@@ -18,11 +18,7 @@ pub fn refute(alloc: Global, formula: &Formula, proof: &[u8]) -> Result<Answer, 
     ensures { IfOk result (λ answer. IsAnswer (refutes formula.now proof.now) (seen_answer answer)) }
 {
     match check_bytes(alloc, formula, proof) {
-        Ok(_checked) => Ok(Answer {
-            status: Status::Done,
-            text: b"accepted\n".to_vec(alloc)?,
-            file: None,
-        }),
+        Ok(_checked) => Answer::of_text(alloc, Status::Done, b"accepted\n", None),
         Err(CheckError::Memory) => Err(Memory),
         Err(error) => Ok(Answer {
             status: Status::Refused,

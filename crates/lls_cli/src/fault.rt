@@ -6,6 +6,7 @@ use crate::status::Status;
 use lls_base::Memory;
 use lls_cnf::DimacsError;
 use lls_problem::DemandError;
+use lls_rle::RleError;
 use lls_search_file::PosedError;
 use lls_words::WordsError;
 use std::alloc::{AllocError, AllocFailed, Global};
@@ -80,6 +81,8 @@ pub enum Fault {
     /// The cell of this generation, row and column of the pattern is the first that is marked, or neither
     /// dead nor live.
     NotPlain(u64, u64, u64),
+    /// The picture isn't in its grammar, or doesn't fit the grid.
+    Rle(RleError),
     Outside(OutsideFault),
     /// An input has more bytes than this limit.
     TooLong(u64),
@@ -118,6 +121,7 @@ impl fmt::Display for Fault {
                 }
             }
             Fault::NotPlain(t, y, x) => write!(f, "content: NotPlain {t} {y} {x}"),
+            Fault::Rle(error) => write!(f, "content: {error}"),
             Fault::Outside(fault) => write!(f, "outside: {fault}"),
             Fault::TooLong(limit) => write!(f, "limit: TooLong {limit}"),
             Fault::Memory => write!(f, "memory"),
@@ -148,6 +152,8 @@ impl Fault {
             Fault::Dimacs(DimacsError::TooManyVariables(_)) => Status::Limit,
             Fault::Dimacs(_) => Status::Content,
             Fault::NotPlain(_, _, _) => Status::Content,
+            Fault::Rle(RleError::Memory) => Status::Memory,
+            Fault::Rle(_) => Status::Content,
             Fault::Outside(_) => Status::Outside,
             Fault::TooLong(_) => Status::Limit,
             Fault::Memory => Status::Memory,

@@ -4,7 +4,7 @@ ghost use Rattle.lls_base.specs.Results.{and_then, Gives};
 ghost use Rattle.lls_search_file.specs.Reading.{posed_of};
 ghost use Rattle.lls_words.specs.Job.{AreWithinLimits};
 ghost use Rattle.lls_cli.specs.Moment.{shelf_moment, files_at};
-ghost use Rattle.lls_cli.specs.Question.{IsInput, MadeOfOne, posed_in, problem_in, formula_in, history_in};
+ghost use Rattle.lls_cli.specs.Question.{IsInput, MadeOfOne, posed_in, problem_in, formula_in, history_in, pattern_in, pictured_in};
 ghost use Rattle.lls_cli.specs.Steps.{Reads, input_fault};
 
 use crate::fault::{Fault, OutsideFault};
@@ -12,6 +12,7 @@ use lls_base::{Name, ReadError, Shelf, read_all};
 use lls_cnf::{DimacsError, Formula, MOST_DIMACS_BYTES, read_dimacs};
 use lls_grid::History;
 use lls_problem::{Demands, Problem, make_problem};
+use lls_rle::{RleError, read_rle};
 use lls_rule::Rule;
 use lls_search_file::{HistoryError, Posed, PosedError, read_history, read_posed};
 use std::alloc::Global;
@@ -73,7 +74,8 @@ fn problem_input(
     demands: Demands,
 ) -> Result<Problem, Fault>
     requires { AreWithinLimits demands }
-    ensures { Gives Fault.Memory (λ problem. problem) result (problem_in rule demands bytes.now) }
+    ensures problem { Gives Fault.Memory (λ problem. problem) result (problem_in rule demands bytes.now) }
+    ensures rule { IfOk result (λ problem. problem.rule ≡ rule) }
 {
     let posed = posed_input(alloc, bytes)?;
     Ok(make_problem(posed, rule, demands)?)
@@ -88,10 +90,11 @@ pub fn read_problem<S: Shelf>(
     demands: Demands,
 ) -> Result<Problem, Fault>
     requires { AreWithinLimits demands }
-    ensures { Reads (λ problem. problem) (MadeOfOne (files_at (shelf_moment (S.told shelf.old) (S.has_input shelf.old) (S.has_output shelf.old) (S.faults shelf.old))) search.now SEARCH_LIMIT
+    ensures read { Reads (λ problem. problem) (MadeOfOne (files_at (shelf_moment (S.told shelf.old) (S.has_input shelf.old) (S.has_output shelf.old) (S.faults shelf.old))) search.now SEARCH_LIMIT
         (λ first. and_then first (problem_in rule demands))) result
         (shelf_moment (S.told shelf.old) (S.has_input shelf.old) (S.has_output shelf.old) (S.faults shelf.old))
         (shelf_moment (S.told shelf.new) (S.has_input shelf.new) (S.has_output shelf.new) (S.faults shelf.new)) }
+    ensures rule { IfOk result (λ problem. problem.rule ≡ rule) }
 {
     let bytes = read_input(alloc, shelf, search, SEARCH_LIMIT)?;
     problem_input(alloc, &bytes, rule, demands)
@@ -136,17 +139,50 @@ fn history_input(alloc: Global, bytes: &[u8]) -> Result<History, Fault>
     }
 }
 
+/// The history that a picture's bytes begin.
+fn picture_input(alloc: Global, bytes: &[u8], problem: &Problem) -> Result<History, Fault>
+    requires { length bytes.now ≤ SEARCH_LIMIT }
+    ensures { Gives Fault.Memory (λ history. history) result (pictured_in problem.now bytes.now) }
+{
+    let posed = problem.posed();
+    let first = match read_rle(alloc, bytes, posed.height, posed.width) {
+        Ok(first) => first,
+        Err(RleError::Memory) => return Err(Fault::Memory),
+        Err(error) => return Err(Fault::Rle(error)),
+    };
+    Ok(History::evolve(alloc, problem.rule(), &first, posed.generations)?)
+}
+
+/// The history of a pattern's bytes, which are a picture where `rle` says so.
+fn pattern_input(
+    alloc: Global,
+    bytes: &[u8],
+    problem: &Problem,
+    rle: bool,
+) -> Result<History, Fault>
+    requires { length bytes.now ≤ SEARCH_LIMIT }
+    ensures { Gives Fault.Memory (λ history. history) result (pattern_in rle problem.now bytes.now) }
+{
+    if rle {
+        picture_input(alloc, bytes, problem)
+    } else {
+        history_input(alloc, bytes)
+    }
+}
+
 /// The history of a pattern file.
 pub fn read_pattern<S: Shelf>(
     alloc: Global,
     shelf: &mut S,
     pattern: &Name,
+    problem: &Problem,
+    rle: bool,
 ) -> Result<History, Fault>
     ensures { Reads (λ history. history) (MadeOfOne (files_at (shelf_moment (S.told shelf.old) (S.has_input shelf.old) (S.has_output shelf.old) (S.faults shelf.old))) pattern.now SEARCH_LIMIT
-        (λ second. and_then second history_in)) result
+        (λ second. and_then second (pattern_in rle problem.now))) result
         (shelf_moment (S.told shelf.old) (S.has_input shelf.old) (S.has_output shelf.old) (S.faults shelf.old))
         (shelf_moment (S.told shelf.new) (S.has_input shelf.new) (S.has_output shelf.new) (S.faults shelf.new)) }
 {
     let bytes = read_input(alloc, shelf, pattern, SEARCH_LIMIT)?;
-    history_input(alloc, &bytes)
+    pattern_input(alloc, &bytes, problem, rle)
 }

@@ -16,11 +16,7 @@ fn judged(alloc: Global, judgement: &Judgement) -> Result<Answer, Memory>
     ensures { IfOk result (λ answer. seen_answer answer ≡ judge_answer judgement.now) }
 {
     if let Judgement::Meets = judgement {
-        return Ok(Answer {
-            status: Status::Done,
-            text: b"meets\n".to_vec(alloc)?,
-            file: None,
-        });
+        return Answer::of_text(alloc, Status::Done, b"meets\n", None);
     }
     let text = format!(in alloc; "broken: {judgement}\n")?;
     Ok(Answer {

@@ -1,16 +1,22 @@
 //! `lls`: searches of two-state cellular automata whose answers carry their evidence. `run` does all that the program does.
 #![tactic(auto)]
 
+mod absence;
 mod answer;
 mod ask;
 mod check;
+mod decide;
 mod deliver;
+mod evidence;
 mod fault;
 mod input;
 mod judge;
+mod model;
+mod pattern;
 mod print;
 mod question;
 mod run;
+mod search;
 mod status;
 #[cfg(test)]
 mod tests;

@@ -1,20 +1,56 @@
 // What a job asks.
+use lls_base::Name;
 use lls_cnf::Formula;
 use lls_grid::History;
 use lls_problem::Problem;
 use lls_rule::Rule;
 
+/// How a search is made.
+#[derive(Drop)]
+pub struct Effort {
+    /// How many clauses it may learn.
+    pub budget: u32,
+    /// Whether it keeps all of them.
+    pub keep_all: bool,
+    /// The file of its log.
+    pub proof: Name,
+}
+
 /// What a job asks, once its inputs are read.
 #[derive(Drop)]
 pub enum Question {
     /// Do the bytes of a proof show that the problem has no solution?
-    Check { problem: Problem, proof: Vec<u8> },
+    Check {
+        problem: Problem,
+        proof: Vec<u8>,
+    },
     /// Do the bytes of a proof show that no assignment satisfies the formula?
-    Refute { formula: Formula, proof: Vec<u8> },
+    Refute {
+        formula: Formula,
+        proof: Vec<u8>,
+    },
     /// Is the history a solution of the problem?
-    Judge { problem: Problem, history: History },
+    Judge {
+        problem: Problem,
+        history: History,
+    },
+    /// Which history is a solution of the problem, if any? It is shown as a picture where `rle` says so.
+    Search {
+        problem: Problem,
+        effort: Effort,
+        rle: bool,
+    },
+    /// Which assignment satisfies the formula, if any?
+    Decide {
+        formula: Formula,
+        effort: Effort,
+    },
     /// What is the problem's formula?
-    Encode { problem: Problem },
+    Encode {
+        problem: Problem,
+    },
     /// What is the rule's canonical text?
-    Print { rule: Rule },
+    Print {
+        rule: Rule,
+    },
 }

@@ -1,61 +1,148 @@
 // The program: from words to a status.
-ghost use Rattle.std.specs.Prelude.{◌≡◌, ◌⊎◌, map, string_bytes, IfOk, IsErr};
+ghost use Rattle.std.specs.Prelude.{◌≡◌, ◌≤◌, ◌⊎◌, map, string_bytes, IfOk, IsErr};
 ghost use Rattle.lls_base.specs.Shelf.{known_files};
 ghost use Rattle.lls_words.specs.Job.{job_of};
-ghost use Rattle.lls_cli.specs.Answer.{IsAnswer, YesHolds, NoHolds};
-ghost use Rattle.lls_cli.specs.Claims.{CountsNeverFall, HasCause, IsSilent, IsYesOrNo, NothingFailed, OfQuestion};
+ghost use Rattle.lls_cli.specs.Answer.{IsAnswer, IsNowhere, IsThere, NoHolds, YesHolds};
+ghost use Rattle.lls_cli.specs.Claims.{ChangesOnly, CountsNeverFall, HasCause, IsAnswered, IsComplete, IsSilent, Leaves, MayWrite, NothingFailed, OfQuestion, Publishes, output_of_words};
+ghost use Rattle.lls_cli.specs.Evidence.{HasProof, HasSpentLog};
 ghost use Rattle.lls_cli.specs.Ends.{End, IsEnd, IsEndOf};
 ghost use Rattle.lls_cli.specs.Moment.{moment, shelf_moment, sink_moment};
-ghost use Rattle.lls_cli.specs.Seen.{seen_answer, seen_question, CanPrint};
+ghost use Rattle.lls_hensel.specs.Isotropy.{IsIsotropic};
+ghost use Rattle.lls_solver.specs.declared.solving.TheConstants.{MOST_BUDGET};
+ghost use Rattle.lls_cli.specs.Question as questions;
+ghost use Rattle.lls_cli.specs.Question.{searches};
+ghost use Rattle.lls_cli.specs.Seen.{seen_answer, seen_effort, seen_finding, seen_question, CanAnswer, Stands};
 ghost use Rattle.lls_cli.specs.Steps.{LeavesPrinting};
 
 use crate::answer::Answer;
 use crate::ask::ask;
 use crate::check::{check, refute};
-use crate::deliver::{deliver, lack, refuse};
+use crate::decide::decide;
+use crate::deliver::{deliver, deliver_none, lack, refuse};
 use crate::fault::Fault;
 use crate::judge::judge;
 use crate::print::{print_formula, print_line};
-use crate::question::Question;
+use crate::question::{Effort, Question};
+use crate::search::{Finding, search};
 use crate::status::Status;
 use lls_base::{Memory, Shelf, Sink};
+use lls_encode::encode;
+use lls_problem::Problem;
 use lls_words::read_job;
 use std::alloc::Global;
 
-/// The answer to a question.
-fn answer(alloc: Global, question: &Question) -> Result<Answer, Memory>
-    requires { CanPrint question.now }
-    ensures { IfOk result (λ answer. IsAnswer (seen_question question.now) (seen_answer answer)) }
+/// Gives an answer, or says want of memory where there is none.
+fn give<S: Shelf, O: Sink, E: Sink>(
+    answer: Result<Answer, Memory>,
+    shelf: &mut S,
+    out: &mut O,
+    err: &mut E,
+) -> Status
+    ensures end { (question : questions.Question) → IfOk answer (λ given. IsAnswer question (seen_answer given)) → (end : End) × IsEndOf question
+        (moment (shelf_moment (S.told shelf.old) (S.has_input shelf.old) (S.has_output shelf.old) (S.faults shelf.old)) (sink_moment (O.written out.old) (O.faults out.old)) (sink_moment (E.written err.old) (E.faults err.old)))
+        (moment (shelf_moment (S.told shelf.new) (S.has_input shelf.new) (S.has_output shelf.new) (S.faults shelf.new)) (sink_moment (O.written out.new) (O.faults out.new)) (sink_moment (E.written err.new) (E.faults err.new)))
+        result end }
+    ensures shelf { (question : questions.Question) → IfOk answer (λ given. IsAnswer question (seen_answer given)) → LeavesPrinting question
+        (shelf_moment (S.told shelf.old) (S.has_input shelf.old) (S.has_output shelf.old) (S.faults shelf.old))
+        (shelf_moment (S.told shelf.new) (S.has_input shelf.new) (S.has_output shelf.new) (S.faults shelf.new)) }
 {
-    match question {
-        Question::Check { problem, proof } => check(alloc, problem, proof),
-        Question::Refute { formula, proof } => refute(alloc, formula, proof),
-        Question::Judge { problem, history } => judge(alloc, problem, history),
-        Question::Encode { problem } => print_formula(alloc, problem),
-        Question::Print { rule } => print_line(alloc, rule),
+    match answer {
+        Ok(answer) => deliver(&answer, shelf, out, err),
+        Err(Memory) => lack(err),
+    }
+}
+
+/// Gives what a search comes to over the problem's formula.
+fn give_finding<'f, S: Shelf, O: Sink, E: Sink>(
+    finding: Result<Finding<'f>, Memory>,
+    problem: &Problem,
+    shelf: &mut S,
+    out: &mut O,
+    err: &mut E,
+) -> Status
+    requires { IfOk finding (Stands problem.now) }
+    ensures { (question : questions.Question) → IfOk finding.entry (λ found. IsAnswer question (seen_finding found)) → (end : End) × IsEndOf question
+        (moment (shelf_moment (S.told shelf.old) (S.has_input shelf.old) (S.has_output shelf.old) (S.faults shelf.old)) (sink_moment (O.written out.old) (O.faults out.old)) (sink_moment (E.written err.old) (E.faults err.old)))
+        (moment (shelf_moment (S.told shelf.new) (S.has_input shelf.new) (S.has_output shelf.new) (S.faults shelf.new)) (sink_moment (O.written out.new) (O.faults out.new)) (sink_moment (E.written err.new) (E.faults err.new)))
+        result end }
+{
+    match finding {
+        Ok(Finding::Answered(answer)) => deliver(&answer, shelf, out, err),
+        Ok(Finding::Absent(proof, file)) => deliver_none(&proof, file, problem, shelf, out, err),
+        Err(Memory) => lack(err),
+    }
+}
+
+/// Searches a solution of a problem, and gives what comes of it.
+fn give_search<S: Shelf, O: Sink, E: Sink>(
+    alloc: Global,
+    problem: &Problem,
+    effort: Effort,
+    rle: bool,
+    shelf: &mut S,
+    out: &mut O,
+    err: &mut E,
+) -> Status
+    requires isotropic { IsIsotropic problem.now.rule }
+    requires budget { effort.budget ≤ MOST_BUDGET }
+    ensures { (end : End) × IsEndOf (searches problem.now (seen_effort effort) rle)
+        (moment (shelf_moment (S.told shelf.old) (S.has_input shelf.old) (S.has_output shelf.old) (S.faults shelf.old)) (sink_moment (O.written out.old) (O.faults out.old)) (sink_moment (E.written err.old) (E.faults err.old)))
+        (moment (shelf_moment (S.told shelf.new) (S.has_input shelf.new) (S.has_output shelf.new) (S.faults shelf.new)) (sink_moment (O.written out.new) (O.faults out.new)) (sink_moment (E.written err.new) (E.faults err.new)))
+        result end }
+{
+    match encode(alloc, problem) {
+        Ok(formula) => {
+            let finding = search(alloc, problem, &formula, effort, rle);
+            give_finding(finding, problem, shelf, out, err)
+        }
+        Err(Memory) => lack(err),
     }
 }
 
 /// Answers a question, and gives the answer.
 fn give_answer<S: Shelf, O: Sink, E: Sink>(
     alloc: Global,
-    question: &Question,
+    question: Question,
     shelf: &mut S,
     out: &mut O,
     err: &mut E,
 ) -> Status
-    requires { CanPrint question.now }
-    ensures end { (end : End) × IsEndOf (seen_question question.now)
+    requires { CanAnswer question }
+    ensures end { (end : End) × IsEndOf (seen_question question)
         (moment (shelf_moment (S.told shelf.old) (S.has_input shelf.old) (S.has_output shelf.old) (S.faults shelf.old)) (sink_moment (O.written out.old) (O.faults out.old)) (sink_moment (E.written err.old) (E.faults err.old)))
         (moment (shelf_moment (S.told shelf.new) (S.has_input shelf.new) (S.has_output shelf.new) (S.faults shelf.new)) (sink_moment (O.written out.new) (O.faults out.new)) (sink_moment (E.written err.new) (E.faults err.new)))
         result end }
-    ensures shelf { LeavesPrinting (seen_question question.now)
+    ensures shelf { LeavesPrinting (seen_question question)
         (shelf_moment (S.told shelf.old) (S.has_input shelf.old) (S.has_output shelf.old) (S.faults shelf.old))
         (shelf_moment (S.told shelf.new) (S.has_input shelf.new) (S.has_output shelf.new) (S.faults shelf.new)) }
 {
-    match answer(alloc, question) {
-        Ok(answer) => deliver(&answer, shelf, out, err),
-        Err(Memory) => lack(err),
+    match question {
+        Question::Check { problem, proof } => give(check(alloc, &problem, &proof), shelf, out, err),
+        Question::Refute { formula, proof } => give(
+            refute(alloc, &formula, &proof),
+            shelf,
+            out,
+            err,
+        ),
+        Question::Judge { problem, history } => give(
+            judge(alloc, &problem, &history),
+            shelf,
+            out,
+            err,
+        ),
+        Question::Search {
+            problem,
+            effort,
+            rle,
+        } => { give_search(alloc, &problem, effort, rle, shelf, out, err) }
+        Question::Decide { formula, effort } => give(
+            decide(alloc, &formula, effort),
+            shelf,
+            out,
+            err,
+        ),
+        Question::Encode { problem } => give(print_formula(alloc, &problem), shelf, out, err),
+        Question::Print { rule } => give(print_line(alloc, &rule), shelf, out, err),
     }
 }
 
@@ -77,7 +164,7 @@ fn run_words<S: Shelf, O: Sink, E: Sink>(
         Err(error) => return refuse(alloc, Fault::from(error), err),
     };
     match ask(alloc, shelf, job) {
-        Ok(question) => give_answer(alloc, &question, shelf, out, err),
+        Ok(question) => give_answer(alloc, question, shelf, out, err),
         Err(fault) => refuse(alloc, fault, err),
     }
 }
@@ -103,22 +190,38 @@ pub fn run<S: Shelf, O: Sink, E: Sink>(
     ensures yes { result ≡ Status.Done → OfQuestion YesHolds (job_of (map string_bytes words.now)) (known_files (S.told shelf.old)) }
     ensures no { result ≡ Status.Refused → OfQuestion NoHolds (job_of (map string_bytes words.now)) (known_files (S.told shelf.old)) }
 
+    // A search says that it found something only where there is a solution, or an assignment that satisfies the formula, and
+    // that there is nothing only where there is none. Then its file has a proof that the checker accepts. Where it is
+    // undecided, its file has the log of just as many clauses as it may learn, each of them fresh.
+    ensures found { result ≡ Status.Pattern → OfQuestion IsThere (job_of (map string_bytes words.now)) (known_files (S.told shelf.old)) }
+    ensures absent { result ≡ Status.NoPattern → OfQuestion IsNowhere (job_of (map string_bytes words.now)) (known_files (S.told shelf.old)) }
+    ensures proof { result ≡ Status.NoPattern → OfQuestion (Leaves HasProof (known_files (S.told shelf.new))) (job_of (map string_bytes words.now)) (known_files (S.told shelf.old)) }
+    ensures log { result ≡ Status.Undecided → OfQuestion (Leaves HasSpentLog (known_files (S.told shelf.new))) (job_of (map string_bytes words.now)) (known_files (S.told shelf.old)) }
+    ensures published { result ≡ Status.NoPattern → Publishes (job_of (map string_bytes words.now)) (known_files (S.told shelf.old)) (known_files (S.told shelf.new)) }
+
+    // Where the inputs ask a question and nothing fails, it is answered, but for want of memory.
+    ensures complete { IsComplete (job_of (map string_bytes words.now)) (known_files (S.told shelf.old))
+        (moment (shelf_moment (S.told shelf.old) (S.has_input shelf.old) (S.has_output shelf.old) (S.faults shelf.old)) (sink_moment (O.written out.old) (O.faults out.old)) (sink_moment (E.written err.old) (E.faults err.old)))
+        (moment (shelf_moment (S.told shelf.new) (S.has_input shelf.new) (S.has_output shelf.new) (S.faults shelf.new)) (sink_moment (O.written out.new) (O.faults out.new)) (sink_moment (E.written err.new) (E.faults err.new)))
+        result }
+
     // Words are refused exactly where they are no command line, whatever the shelf tells, but for want of memory.
     ensures words { result ≡ Status.Words → IsErr (job_of (map string_bytes words.now)) }
     ensures all_words { IsErr (job_of (map string_bytes words.now)) → (result ≡ Status.Words) ⊎ (result ≡ Status.Memory) }
 
-    // A failure of the outside comes only where a count of faults rose, or where an input isn't there. A yes or a no
+    // A failure of the outside comes only where a count of faults rose, or where an input isn't there. An answer's status
     // comes only where nothing failed.
     ensures outside { result ≡ Status.Outside → HasCause (job_of (map string_bytes words.now))
         (moment (shelf_moment (S.told shelf.old) (S.has_input shelf.old) (S.has_output shelf.old) (S.faults shelf.old)) (sink_moment (O.written out.old) (O.faults out.old)) (sink_moment (E.written err.old) (E.faults err.old)))
         (moment (shelf_moment (S.told shelf.new) (S.has_input shelf.new) (S.has_output shelf.new) (S.faults shelf.new)) (sink_moment (O.written out.new) (O.faults out.new)) (sink_moment (E.written err.new) (E.faults err.new))) }
-    ensures nothing_failed { IsYesOrNo result → NothingFailed
+    ensures nothing_failed { IsAnswered result → NothingFailed
         (moment (shelf_moment (S.told shelf.old) (S.has_input shelf.old) (S.has_output shelf.old) (S.faults shelf.old)) (sink_moment (O.written out.old) (O.faults out.old)) (sink_moment (E.written err.old) (E.faults err.old)))
         (moment (shelf_moment (S.told shelf.new) (S.has_input shelf.new) (S.has_output shelf.new) (S.faults shelf.new)) (sink_moment (O.written out.new) (O.faults out.new)) (sink_moment (E.written err.new) (E.faults err.new))) }
 
     // What stands after it.
     ensures silent { IsSilent result → O.written out.new ≡ O.written out.old }
-    ensures files { known_files (S.told shelf.new) ≡ known_files (S.told shelf.old) }
+    ensures files { (MayWrite result → ⊥) → known_files (S.told shelf.new) ≡ known_files (S.told shelf.old) }
+    ensures other_files { ChangesOnly (output_of_words (job_of (map string_bytes words.now))) (known_files (S.told shelf.old)) (known_files (S.told shelf.new)) }
     ensures counts { CountsNeverFall
         (moment (shelf_moment (S.told shelf.old) (S.has_input shelf.old) (S.has_output shelf.old) (S.faults shelf.old)) (sink_moment (O.written out.old) (O.faults out.old)) (sink_moment (E.written err.old) (E.faults err.old)))
         (moment (shelf_moment (S.told shelf.new) (S.has_input shelf.new) (S.has_output shelf.new) (S.faults shelf.new)) (sink_moment (O.written out.new) (O.faults out.new)) (sink_moment (E.written err.new) (E.faults err.new))) }

@@ -5,6 +5,7 @@ mod faults;
 mod formulas;
 mod judging;
 mod outside;
+mod searches;
 
 use crate::run::run;
 use crate::status::Status;
@@ -22,20 +23,26 @@ fn words_of(alloc: Global, text: &str) -> Result<Vec<String>, AllocError> {
     Ok(words)
 }
 
-/// Which calls fail, by their numbers from 1 on; 0 for none.
+/// Which calls fail, by their numbers from 1 on, 0 for none; and how many bytes a read or a write of a file takes at most.
 #[derive(Clone, Copy)]
 struct Failing {
     open: u64,
     read: u64,
+    create: u64,
+    write: u64,
     out: u64,
     err: u64,
+    most: usize,
 }
 
 const NOTHING: Failing = Failing {
     open: 0,
     read: 0,
+    create: 0,
+    write: 0,
     out: 0,
     err: 0,
+    most: 1000,
 };
 
 /// A shelf with the files `f` and `p`.
@@ -46,16 +53,17 @@ fn shelf_of(alloc: Global, f: &[u8], p: &[u8], failing: Failing) -> Result<MemSh
     let plan = Plan {
         opens: vec![in alloc; failing.open]?,
         reads: vec![in alloc; failing.read]?,
-        creates: Vec::new(alloc),
-        writes: Vec::new(alloc),
+        creates: vec![in alloc; failing.create]?,
+        writes: vec![in alloc; failing.write]?,
     };
-    Ok(MemShelf::new(alloc, files, plan, 1000))
+    Ok(MemShelf::new(alloc, files, plan, failing.most.max(1)))
 }
 
 /// How a run ends, with what it wrote.
 #[derive(Drop)]
 struct Ended {
     status: Status,
+    shelf: MemShelf,
     out: MemSink,
     err: MemSink,
 }
@@ -72,7 +80,12 @@ fn run_over(
     let mut out = MemSink::new(alloc, vec![in alloc; failing.out]?, 3);
     let mut err = MemSink::new(alloc, vec![in alloc; failing.err]?, 1000);
     let status = run(alloc, words, &mut shelf, &mut out, &mut err);
-    Ok(Ended { status, out, err })
+    Ok(Ended {
+        status,
+        shelf,
+        out,
+        err,
+    })
 }
 
 /// A command line, the files `f` and `p`, the status that is wanted, and the text.

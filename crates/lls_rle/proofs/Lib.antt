@@ -17,3 +17,4 @@ pub mod Bodies
 pub mod RuleBytes
 pub mod Headers
 pub mod RoundTrip
+pub mod GridSizes

@@ -26,7 +26,7 @@ fn failures_of_the_outside(rt: HostRuntime) -> Result<(), Fail> {
             open,
             read,
             out,
-            err: 0,
+            ..NOTHING
         };
         let ended = run_over(alloc, &words, ONE_CELL, PROOF, failing)?;
         is_fault(&rt, alloc, &ended, Status::Outside, text)?;

@@ -1,15 +1,16 @@
 -- A refusal of the first input is the job's.
-use Rattle.std.proofs.Common.{Ok}
+use Rattle.std.proofs.Common.{Ok, subst, sym}
 use Rattle.std.proofs.lemmas.Result.{err_from_is_err_and}
+use Rattle.lls_hensel.specs.Isotropy.{IsIsotropic}
 use Rattle.lls_base.specs.Results.{and_then}
-use Rattle.lls_cli.specs.Question.{checks, refutes, judges, encodes, problem_in, formula_in, history_in}
+use Rattle.lls_cli.specs.Question.{checks, refutes, judges, encodes, problem_in, formula_in, pattern_in}
 use Rattle.lls_cli.proofs.Stopped.{Stops-along, first_refused, only_refused}
 use Rattle.lls_cli.proofs.ask.ask.Goals as goal
 
 pub returns-in_err-problem-in-Check-clause-read : goal.returns-in_err-problem-in-Check-clause-read
 returns-in_err-problem-in-Check-clause-read g c =
     let p = err_from_is_err_and c.from_residual.result c.from_residual.ensures.1 in
-    let read = c.in_err-problem-in-Check.ensures in
+    let read = c.in_err-problem-in-Check.ensures.read in
     rw (p.1, p.2, c.in-Check.is) record {
       kept = read.kept;
       counts = read.counts;
@@ -20,18 +21,18 @@ returns-in_err-problem-in-Check-clause-read g c =
 pub returns-in_err-problem-in-Judge-clause-read : goal.returns-in_err-problem-in-Judge-clause-read
 returns-in_err-problem-in-Judge-clause-read g c =
     let p = err_from_is_err_and c.from_residual-in_err-problem-in-Judge.result c.from_residual-in_err-problem-in-Judge.ensures.1 in
-    let read = c.in_err-problem-in-Judge.ensures in
+    let read = c.in_err-problem-in-Judge.ensures.read in
     rw (p.1, p.2, c.in-Judge.is) record {
       kept = read.kept;
       counts = read.counts;
       ok = tt;
-      err = Stops-along _ _ _ _ _ (first_refused _ _ c.in-Judge.pattern _ _ (λ first. and_then first (problem_in c.in-Judge.rule c.in-Judge.demands)) (λ second problem. and_then (and_then second history_in) (λ history. Ok (judges problem history))) _) read.err;
+      err = Stops-along _ _ _ _ _ (first_refused _ _ c.in-Judge.pattern _ _ (λ first. and_then first (problem_in c.in-Judge.rule c.in-Judge.demands)) (λ second problem. and_then (and_then second (pattern_in c.in-Judge.rle problem)) (λ history. Ok (judges problem history))) _) read.err;
     }
 
 pub returns-in_err-problem-in-Cnf-clause-read : goal.returns-in_err-problem-in-Cnf-clause-read
 returns-in_err-problem-in-Cnf-clause-read g c =
     let p = err_from_is_err_and c.from_residual-in_err-problem-in-Cnf.result c.from_residual-in_err-problem-in-Cnf.ensures.1 in
-    let read = c.in_err-problem-in-Cnf.ensures in
+    let read = c.in_err-problem-in-Cnf.ensures.read in
     rw (p.1, p.2, c.in-Cnf.is) record {
       kept = read.kept;
       counts = read.counts;
@@ -49,3 +50,8 @@ returns-in_err-formula-in-Lrat-clause-read g c =
       ok = tt;
       err = Stops-along _ _ _ _ _ (first_refused _ _ c.in-Lrat.proof _ _ (λ first. and_then first formula_in) (λ second formula. and_then second (λ proof. Ok (refutes formula proof))) _) read.err;
     }
+
+pub returns-in_ok-problem-in-Search-clause-printable : goal.returns-in_ok-problem-in-Search-clause-printable
+returns-in_ok-problem-in-Search-clause-printable g c =
+    let kept = rw c.in-Search.is at c.requires in
+    (subst IsIsotropic (sym c.in_ok-problem-in-Search.ensures.rule) kept.isotropic, kept.budgeted)

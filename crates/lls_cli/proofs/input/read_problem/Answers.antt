@@ -1,8 +1,8 @@
 use Rattle.lls_cli.proofs.Made.{problem_read}
 use Rattle.lls_cli.proofs.input.read_problem.Goals as goal
 
-pub returns : goal.returns
-returns g c =
+pub returns-clause-read : goal.returns-clause-read
+returns-clause-read g c =
     let read = c.in_ok-bytes.ensures.read in
     problem_read _ c.args.search.now _ c.args.rule c.args.demands c.in_ok-bytes.bytes.items c.problem_input.result _ _
-    read.kept read.counts read.ok.0 read.ok.1 (rw c.deref.ensures.value at c.problem_input.ensures)
+    read.kept read.counts read.ok.0 read.ok.1 (rw c.deref.ensures.value at c.problem_input.ensures.problem)

@@ -1,6 +1,11 @@
-use Rattle.std.proofs.Common.{ap}
+use Rattle.std.proofs.Common.{ap, refl}
+use Rattle.std.specs.Prelude.{map, string_bytes}
 use Rattle.lls_cli.specs.Moment.{SinkMoment}
-use Rattle.lls_cli.proofs.Consequences.{yes_means, no_means, words_alone, words_all, caused, meant, stays_silent, files_stay, counts_stay}
+use Rattle.lls_cli.proofs.Consequences.{yes_means, no_means, found_means, none_means, words_alone, words_all, caused, meant, stays_silent, counts_stay}
+use Rattle.lls_cli.proofs.Files.{files_stay, changes_only, leaves_proof, leaves_log}
+use Rattle.lls_cli.proofs.Complete.{completes}
+use Rattle.lls_cli.proofs.Apart.{apart}
+use Rattle.lls_cli.proofs.Published.{publishes}
 use Rattle.lls_cli.proofs.run.run.Goals as goal
 
 pub returns-clause-yes : goal.returns-clause-yes
@@ -19,7 +24,7 @@ pub returns-clause-outside : goal.returns-clause-outside
 returns-clause-outside g c = caused _ _ _ _ c.run_words.ensures
 
 pub returns-clause-nothing_failed : goal.returns-clause-nothing_failed
-returns-clause-nothing_failed g c = λ is. (meant _ _ _ _ c.run_words.ensures is).4
+returns-clause-nothing_failed g c = λ is. (meant _ _ _ _ c.run_words.ensures is).nothing_failed
 
 pub returns-clause-silent : goal.returns-clause-silent
 returns-clause-silent g c = λ silent. ap (λ (s : SinkMoment). s.written) (stays_silent _ _ _ _ c.run_words.ensures silent)
@@ -29,3 +34,25 @@ returns-clause-files g c = files_stay _ _ _ _ c.run_words.ensures
 
 pub returns-clause-counts : goal.returns-clause-counts
 returns-clause-counts g c = counts_stay _ _ _ _ c.run_words.ensures
+
+pub returns-clause-other_files : goal.returns-clause-other_files
+returns-clause-other_files g c = changes_only _ _ _ _ c.run_words.ensures
+
+pub returns-clause-found : goal.returns-clause-found
+returns-clause-found g c = found_means _ _ _ _ c.run_words.ensures
+
+pub returns-clause-absent : goal.returns-clause-absent
+returns-clause-absent g c = none_means _ _ _ _ c.run_words.ensures
+
+pub returns-clause-proof : goal.returns-clause-proof
+returns-clause-proof g c = leaves_proof _ _ _ _ c.run_words.ensures
+
+pub returns-clause-log : goal.returns-clause-log
+returns-clause-log g c = leaves_log _ _ _ _ c.run_words.ensures
+
+pub returns-clause-complete : goal.returns-clause-complete
+returns-clause-complete g c = completes _ _ _ _ _ refl c.run_words.ensures
+
+pub returns-clause-published : goal.returns-clause-published
+returns-clause-published g c = λ is.
+    publishes _ _ _ (apart (map string_bytes c.args.words.now)) (none_means _ _ _ _ c.run_words.ensures is) (leaves_proof _ _ _ _ c.run_words.ensures is) (changes_only _ _ _ _ c.run_words.ensures)

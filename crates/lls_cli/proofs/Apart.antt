@@ -1,0 +1,72 @@
+-- A search writes its proof to another file than it reads.
+use Rattle.std.proofs.Common.{◌≡◌, ◌≢◌, ℕ, Bool, true, false, List, [], ◌∷◌, Option, None, Some, Result, Ok, Err, refl, sym, ◌∙◌}
+use Rattle.std.specs.Prelude.{if◌then◌else◌}
+use Rattle.std.specs.Str.{bytes_eq}
+use Rattle.std.proofs.lemmas.Slice.Eq.{bytes_eq-Decides}
+use Rattle.lls_base.specs.Results.{and_then}
+use Rattle.lls_words.specs.declared.command.Command.{Command}
+use Rattle.lls_words.specs.declared.command.Command.TheVariants as commands
+use Rattle.lls_words.specs.declared.error.WordsError.{WordsError}
+use Rattle.lls_words.specs.declared.error.WordsError.TheVariants.{SameName}
+use Rattle.lls_words.specs.declared.job.Job.{Job}
+use Rattle.lls_words.specs.declared.job.Job.TheVariants as jobs
+use Rattle.lls_words.specs.Command.{command_of}
+use Rattle.lls_words.specs.Scan.{Operand, Given, scan}
+use Rattle.lls_words.specs.Job.{defaults, job_of, job_of_command, job_with, names_apart, rule_at, settled}
+
+abbrev pub IsApart : Job → Type 0
+IsApart (jobs.Search search_file proof rule demands budget keep_all rle) = search_file ≢ proof
+IsApart (jobs.Sat formula proof budget keep_all) = formula ≢ proof
+IsApart job = Unit {0}
+
+abbrev pub AreApart : Result Job WordsError → Type 0
+AreApart (Ok job) = IsApart job
+AreApart (Err error) = Unit {0}
+
+through : {A : Type 0} (part : Result A WordsError) (more : A → Result Job WordsError) → ((x : A) → AreApart (more x)) → AreApart (and_then part more)
+through (Ok x) more all = all x
+through (Err error) more all = tt
+
+different : (a b : Operand) (more : List ℕ × List ℕ → Result Job WordsError) → (a.word ≢ b.word → AreApart (more (a.word, b.word))) → AreApart (and_then (names_apart a b) more)
+different a b more all =
+    elim (bytes_eq a.word b.word) as (λ test. bytes_eq a.word b.word ≡ test → AreApart (and_then (if test then Err (SameName b.place) else Ok (a.word, b.word)) more)) [
+      | true ↦ λ same. tt
+      | false ↦ λ differ. all (λ same. let equal = (bytes_eq-Decides a.word b.word).1 same in cc)
+    ] refl
+
+apart_with : (command : Command) (operands : List Operand) (givens : List Given) → AreApart (job_with command operands givens)
+apart_with commands.Check [] givens = tt
+apart_with commands.Check (a ∷ []) givens = tt
+apart_with commands.Check (a ∷ b ∷ []) givens = through (settled defaults givens) _ (λ s. tt)
+apart_with commands.Check (a ∷ b ∷ more ∷ rest) givens = tt
+apart_with commands.Search [] givens = tt
+apart_with commands.Search (a ∷ []) givens = tt
+apart_with commands.Search (a ∷ b ∷ []) givens = through (settled defaults givens) _ (λ s. different a b _ (λ differ. differ))
+apart_with commands.Search (a ∷ b ∷ more ∷ rest) givens = tt
+apart_with commands.Judge [] givens = tt
+apart_with commands.Judge (a ∷ []) givens = tt
+apart_with commands.Judge (a ∷ b ∷ []) givens = through (settled defaults givens) _ (λ s. tt)
+apart_with commands.Judge (a ∷ b ∷ more ∷ rest) givens = tt
+apart_with commands.Cnf [] givens = tt
+apart_with commands.Cnf (a ∷ []) givens = through (settled defaults givens) _ (λ s. tt)
+apart_with commands.Cnf (a ∷ b ∷ rest) givens = tt
+apart_with commands.Sat [] givens = tt
+apart_with commands.Sat (a ∷ []) givens = tt
+apart_with commands.Sat (a ∷ b ∷ []) givens = through (settled defaults givens) _ (λ s. different a b _ (λ differ. differ))
+apart_with commands.Sat (a ∷ b ∷ more ∷ rest) givens = tt
+apart_with commands.Lrat [] givens = tt
+apart_with commands.Lrat (a ∷ []) givens = tt
+apart_with commands.Lrat (a ∷ b ∷ []) givens = tt
+apart_with commands.Lrat (a ∷ b ∷ more ∷ rest) givens = tt
+apart_with commands.Rule [] givens = tt
+apart_with commands.Rule (a ∷ []) givens = through (rule_at a.place a.word) _ (λ rule. tt)
+apart_with commands.Rule (a ∷ b ∷ rest) givens = tt
+
+apart_command : (command : Option Command) (words : List (List ℕ)) → AreApart (job_of_command command words)
+apart_command None words = tt
+apart_command (Some command) words = through (scan command words) _ (λ s. apart_with command s.operands s.givens)
+
+-- the job of any words
+pub apart : (words : List (List ℕ)) → AreApart (job_of words)
+apart [] = tt
+apart (name ∷ words) = apart_command (command_of name) words

@@ -1,0 +1,45 @@
+-- Where the inputs ask a question and nothing fails, the question is answered.
+use Rattle.std.proofs.Common.{◌≡◌, Option, None, Some, Result, Ok, Err, sym, subst, ◌∙◌, inl, inr, ◌⊎◌}
+use Rattle.lls_base.specs.Shelf.{Files}
+use Rattle.lls_words.specs.declared.error.WordsError.{WordsError}
+use Rattle.lls_words.specs.declared.job.Job.{Job}
+use Rattle.lls_cli.specs.declared.fault.Fault.{Fault}
+use Rattle.lls_cli.specs.declared.status.Status.{Status}
+use Rattle.lls_cli.specs.declared.status.Status.TheVariants as statuses
+use Rattle.lls_cli.specs.Question.{Question, question_of, Asks}
+use Rattle.lls_cli.specs.Answer.{Holds}
+use Rattle.lls_cli.specs.Moment.{Moment, files_at}
+use Rattle.lls_cli.specs.Ends.{End, refused, lacked, input_failed, answered, file_failed, output_failed, IsEnd}
+use Rattle.lls_cli.specs.Claims.{IsComplete}
+use Rattle.lls_cli.proofs.Consequences.{asks-question_of}
+
+-- what these files ask is one thing alone
+asked_once : (job : Job) (files : Option Files) (known : Files) (question : Question) (other : Result Question Fault) → files ≡ Some known → question_of job known ≡ Ok question
+    → Asks job files other → other ≡ Ok question
+asked_once job files known question other is asks asked = sym (asks-question_of job known other (subst (λ f. Asks job f other) is asked)) ∙ asks
+
+-- a right answer's status says what holds of the question
+answered_holds : (job : Job) (before after : Moment) (status : Status) (files : Files) (question asked : Question) → files_at before.shelf ≡ Some files → question_of job files ≡ Ok question
+    → Asks job (files_at before.shelf) (Ok asked) → Holds asked status → (status ≡ statuses.Memory) ⊎ Holds question status
+answered_holds job before after status files question asked told asks by holds =
+    let same : Ok asked ≡ Ok question = asked_once job (files_at before.shelf) files question (Ok asked) told asks by in
+    let is : asked ≡ question = cc in
+    inr (subst (λ q. Holds q status) is holds)
+
+completes_ok : (job : Job) (files : Files) (before after : Moment) (status : Status) → files_at before.shelf ≡ Some files → (end : End) × IsEnd (Ok job) before after status end
+    → IsComplete (Ok job) (Some files) before after status
+completes_ok job files before after status told (refused fault, ended) = λ question asks shelf out.
+    let same : Err fault ≡ Ok question = asked_once job (files_at before.shelf) files question (Err fault) told asks ended.1.1 in
+    absurd cc
+completes_ok job files before after status told (lacked, ended) = λ question asks shelf out. inl ended.1.status_is
+completes_ok job files before after status told (input_failed fault, ended) = λ question asks shelf out. absurd (shelf ended.1.1.shelf_rose)
+completes_ok job files before after status told (answered answer, ended) = λ question asks shelf out.
+    answered_holds job before after status files question ended.1.0 told asks ended.1.1 (subst (Holds ended.1.0) (sym ended.1.2.1.status_is) ended.1.2.0.holds)
+completes_ok job files before after status told (file_failed answer fault, ended) = λ question asks shelf out. absurd (shelf ended.1.2.1.shelf_rose)
+completes_ok job files before after status told (output_failed answer, ended) = λ question asks shelf out. absurd (out ended.1.2.1.out_rose)
+
+pub completes : (job : Result Job WordsError) (files : Option Files) (before after : Moment) (status : Status) → files_at before.shelf ≡ files → (end : End) × IsEnd job before after status end
+    → IsComplete job files before after status
+completes (Ok job) (Some files) before after status told ended = completes_ok job files before after status told ended
+completes (Ok job) None before after status told ended = tt
+completes (Err error) files before after status told ended = tt

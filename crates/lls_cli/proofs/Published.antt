@@ -1,0 +1,81 @@
+-- What a search found to be absent is checked again with the same words.
+use Rattle.std.proofs.Common.{◌≡◌, ◌≢◌, ◌≤◌, ℕ, Bool, true, false, List, Option, None, Some, Result, Ok, Err, refl, sym, ap, subst, ◌∙◌, arith, length}
+use Rattle.std.proofs.lemmas.Bool.{le-ltb}
+use Rattle.std.specs.FinMap as map
+use Rattle.std.specs.Option.{option_map}
+use Rattle.lls_base.specs.Results.{and_then}
+use Rattle.lls_base.specs.Shelf.{Files}
+use Rattle.lls_problem.specs.declared.demands.Demands.{Demands}
+use Rattle.lls_problem.specs.Problem.{PosedProblem}
+use Rattle.lls_encode.specs.Formula.{formula_of}
+use Rattle.lls_words.specs.declared.error.WordsError.{WordsError}
+use Rattle.lls_words.specs.declared.job.Job.{Job}
+use Rattle.lls_words.specs.declared.job.Job.TheVariants as jobs
+use Rattle.lls_cli.specs.declared.fault.Fault.{Fault}
+use Rattle.lls_cli.specs.declared.fault.Fault.TheVariants as faults
+use Rattle.lls_cli.specs.declared.input.TheConstants.{SEARCH_LIMIT, PROOF_LIMIT}
+use Rattle.lls_cli.specs.Question.{Question, Effort, checks, searches, check_question, effort_of, input_from, input_of, problem_in}
+use Rattle.lls_cli.specs.Evidence.{HasProof}
+use Rattle.lls_cli.specs.Answer.{IsNowhere}
+use Rattle.lls_cli.specs.Claims.{OfQuestion, Leaves, ChangesOnly, Publishes, output_of_words}
+use Rattle.lls_cli.proofs.Apart.{IsApart, AreApart}
+use Rattle.lls_cli.proofs.Files.{and_then-both}
+
+-- a file that is no longer than the limit is an input
+input_within : (files : Files) (name bytes : List ℕ) (limit : ℕ) → map.get files name ≡ Some bytes → length bytes ≤ limit → input_of files name limit ≡ Ok bytes
+input_within files name bytes limit found fits =
+    ap (input_from limit) found ∙ rw (le-ltb limit (length bytes) fits) refl
+
+-- the problem that a search asked of, and that it has the words' log
+pub record Asked (search_file proof : List ℕ) (rule : List Bool) (demands : Demands) (files : Files) (question : Question) (effort : Effort) (rle : Bool) : Type 0 where
+  pub problem : PosedProblem
+  pub made : and_then (input_of files search_file SEARCH_LIMIT) (problem_in rule demands) ≡ Ok problem
+  pub question_is : question ≡ searches problem effort rle
+
+asked_of : (search_file proof : List ℕ) (rule : List Bool) (demands : Demands) (files : Files) (question : Question) (effort : Effort) (rle : Bool) (part : Result PosedProblem Fault)
+    → part ≡ and_then (input_of files search_file SEARCH_LIMIT) (problem_in rule demands) → and_then part (λ problem. Ok (searches problem effort rle)) ≡ Ok question
+    → Asked search_file proof rule demands files question effort rle
+asked_of search_file proof rule demands files question effort rle (Ok problem) is asks = record { problem = problem; made = sym is; question_is = cc }
+asked_of search_file proof rule demands files question effort rle (Err fault) is asks = absurd cc
+
+search_publishes : (search_file proof : List ℕ) (rule : List Bool) (demands : Demands) (budget : ℕ) (keep_all rle : Bool) (before after : Files) → search_file ≢ proof
+    → OfQuestion IsNowhere (Ok (jobs.Search search_file proof rule demands budget keep_all rle)) (Some before)
+    → OfQuestion (Leaves HasProof (Some after)) (Ok (jobs.Search search_file proof rule demands budget keep_all rle)) (Some before)
+    → ChangesOnly (Some proof) (Some before) (Some after)
+    → Publishes (Ok (jobs.Search search_file proof rule demands budget keep_all rle)) (Some before) (Some after)
+search_publishes search_file proof rule demands budget keep_all rle before after apart nowhere leaves only =
+    let effort = effort_of budget keep_all proof in
+    let asked = asked_of search_file proof rule demands before leaves.0 effort rle (and_then (input_of before search_file SEARCH_LIMIT) (problem_in rule demands)) refl leaves.1 in
+    let problem = asked.problem in
+    let file = subst (Leaves HasProof (Some after)) asked.question_is leaves.2 in
+    let bytes = file.0 in
+    let twice : Ok nowhere.0 ≡ Ok leaves.0 = sym nowhere.1 ∙ leaves.1 in
+    let once : nowhere.0 ≡ leaves.0 = cc in
+    let none = subst IsNowhere (once ∙ asked.question_is) nowhere.2 in
+    let stays : Some (map.get after search_file) ≡ Some (map.get before search_file) = only search_file apart in
+    let same : map.get after search_file ≡ map.get before search_file = cc in (
+      problem,
+      bytes,
+      file.1,
+      (
+          λ fits.
+          ap (λ first. check_question rule demands first (input_of after proof PROOF_LIMIT)) (ap (input_from SEARCH_LIMIT) same)
+          ∙ ap (λ part. and_then part (λ p. and_then (input_of after proof PROOF_LIMIT) (λ text. Ok (checks p text)))) asked.made
+          ∙ ap (λ second. and_then second (λ text. Ok (checks problem text))) (input_within after proof bytes PROOF_LIMIT file.1 fits)
+          ),
+      (file.2.accepted, none),
+    )
+
+pub publishes : (job : Result Job WordsError) (before after : Option Files) → AreApart job → OfQuestion IsNowhere job before → OfQuestion (Leaves HasProof after) job before
+    → ChangesOnly (output_of_words job) before after → Publishes job before after
+publishes (Ok (jobs.Search one two rule demands budget keep_all rle)) (Some before) (Some after) apart nowhere leaves only =
+    search_publishes one two rule demands budget keep_all rle before after apart nowhere leaves only
+publishes (Ok (jobs.Search one two rule demands budget keep_all rle)) (Some before) None apart nowhere leaves only = tt
+publishes (Ok (jobs.Search one two rule demands budget keep_all rle)) None after apart nowhere leaves only = tt
+publishes (Ok (jobs.Sat one two budget keep_all)) before after apart nowhere leaves only = tt
+publishes (Ok (jobs.Check one two rule demands)) before after apart nowhere leaves only = tt
+publishes (Ok (jobs.Judge one two rule demands rle)) before after apart nowhere leaves only = tt
+publishes (Ok (jobs.Cnf one rule demands)) before after apart nowhere leaves only = tt
+publishes (Ok (jobs.Lrat one two)) before after apart nowhere leaves only = tt
+publishes (Ok (jobs.Rule rule)) before after apart nowhere leaves only = tt
+publishes (Err error) before after apart nowhere leaves only = tt

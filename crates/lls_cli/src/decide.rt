@@ -1,0 +1,43 @@
+// The search for an assignment that satisfies a formula.
+ghost use Rattle.std.specs.Prelude.{◌≤◌, IfOk};
+ghost use Rattle.lls_solver.specs.declared.solving.TheConstants.{MOST_BUDGET};
+ghost use Rattle.lls_cli.specs.Answer.{IsAnswer};
+ghost use Rattle.lls_cli.specs.Question.{decides};
+ghost use Rattle.lls_cli.specs.Seen.{seen_answer, seen_effort};
+
+use crate::answer::Answer;
+use crate::evidence::{check_proof, log_file};
+use crate::model::print_model;
+use crate::question::Effort;
+use crate::status::Status;
+use lls_base::Memory;
+use lls_cnf::Formula;
+use lls_prooflog::Log;
+use lls_solver::{Outcome, solve};
+use std::alloc::Global;
+
+/// The answer to the search for an assignment that satisfies a formula.
+pub fn decide(alloc: Global, formula: &Formula, effort: Effort) -> Result<Answer, Memory>
+    requires { effort.budget ≤ MOST_BUDGET }
+    ensures { IfOk result (λ answer. IsAnswer (decides formula.now (seen_effort effort)) (seen_answer answer)) }
+{
+    // What holds of every formula is known from here on.
+    let _vars = formula.vars();
+    let mut log = Log::new(alloc);
+    match solve(alloc, formula, effort.budget, &mut log)? {
+        Outcome::Sat(assignment) => Ok(Answer {
+            status: Status::Pattern,
+            text: print_model(alloc, &assignment)?,
+            file: None,
+        }),
+        Outcome::Unsat => {
+            let _checked = check_proof(alloc, formula, &log)?;
+            let file = log_file(alloc, &log, effort.proof)?;
+            Answer::of_text(alloc, Status::NoPattern, b"s UNSATISFIABLE\n", Some(file))
+        }
+        Outcome::Undecided => {
+            let file = log_file(alloc, &log, effort.proof)?;
+            Answer::of_text(alloc, Status::Undecided, b"s UNKNOWN\n", Some(file))
+        }
+    }
+}
