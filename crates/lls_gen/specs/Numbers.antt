@@ -1,0 +1,17 @@
+-- Numbers from a seed, by a linear congruential generator.
+use Rattle.std.specs.Prelude.{ℕ, zero, suc, ◌+◌, ◌*◌, ◌%◌, ◌^◌, List, map}
+use Rattle.std.specs.List.{range_with_len}
+use Rattle.lls_gen.specs.declared.numbers.TheConstants.{MULTIPLIER, INCREMENT}
+
+-- what comes after a number
+abbrev pub after : ℕ → ℕ
+after number = (MULTIPLIER * number + INCREMENT) % 2 ^ 64
+
+-- what comes k times after the seed
+unfoldable pub nth : ℕ → ℕ → ℕ
+nth seed zero = seed
+nth seed (suc k) = after (nth seed k)
+
+-- the first so many numbers after the seed
+abbrev pub numbers : ℕ → ℕ → List ℕ
+numbers seed count = map (nth seed) (range_with_len 1 count)
