@@ -23,16 +23,28 @@ fn searches(rt: &impl Abort, alloc: Global, row: Search) -> Result<(), Fail> {
     assert_eq!(rt; ended.status, status, "{line}");
     assert_eq!(rt; ended.out.bytes(), text.as_bytes(), "{line}");
     assert!(rt; ended.err.bytes().is_empty());
-    let (p, yes) = match ended.shelf.file("q") {
-        Some(proof) => (proof, "accepted\n"),
-        None => (ended.out.bytes(), "meets\n"),
-    };
-    if !again.is_empty() {
-        let words = words_of(alloc, again)?;
-        let looked = run_over(alloc, &words, f.as_bytes(), p, NOTHING)?;
-        assert_eq!(rt; looked.status, Status::Done, "{line}");
-        assert_eq!(rt; looked.out.bytes(), yes.as_bytes(), "{line}");
+    match ended.shelf.file("q") {
+        Some(proof) => looks(rt, alloc, again, f, proof, "accepted\n"),
+        None => looks(rt, alloc, again, f, ended.out.bytes(), "meets\n"),
     }
+}
+
+/// Looks at what came out of a search, where there is a command line for it.
+fn looks(
+    rt: &impl Abort,
+    alloc: Global,
+    line: &str,
+    f: &str,
+    p: &[u8],
+    yes: &str,
+) -> Result<(), Fail> {
+    if line.is_empty() {
+        return Ok(());
+    }
+    let words = words_of(alloc, line)?;
+    let ended = run_over(alloc, &words, f.as_bytes(), p, NOTHING)?;
+    assert_eq!(rt; ended.status, Status::Done, "{line}");
+    assert_eq!(rt; ended.out.bytes(), yes.as_bytes(), "{line}");
     Ok(())
 }
 
@@ -196,6 +208,51 @@ fn problems_are_searched(rt: HostRuntime) -> Result<(), Fail> {
     ];
     for row in rows {
         searches(&rt, rt.alloc(), row)?;
+    }
+    Ok(())
+}
+
+// The glider's first generation as a picture, and what is no picture.
+#[test]
+fn pictures_are_judged(rt: HostRuntime) -> Result<(), Fail> {
+    let alloc = rt.alloc();
+    let glider =
+        "* * * *\n* * * *\n* * * *\n* * * *\n\n* * * *\n* * * *\n* * * *\n* * * *\n\n* * * *\n* * * *\n* * * *\n* * * *\n\n* * * *\n* * * *\n* * * *\n* * * *\n\n0 0 0 0\n0 0 1 0\n0 0 0 1\n0 1 1 1\n";
+    let rows: [Row; 2] = [
+        (
+            "judge f p --period 4,1,1 --as rle",
+            glider,
+            "x = 3, y = 3, rule = B3/S23\nbob$2bo$3o!\n",
+            Status::Done,
+            "meets\n",
+        ),
+        (
+            "judge f p --as=rle",
+            glider,
+            "x = 3, y = 3\nbo$2bo$4o!\n",
+            Status::Refused,
+            "broken: Cell 4 1 1\n",
+        ),
+    ];
+    for row in rows {
+        answers(&rt, alloc, row)?;
+    }
+    let words = words_of(alloc, "judge f p --as rle")?;
+    for (picture, text) in [
+        ("x = 3, y = 3\nbob$2bo$3o", "content: NoEnd"),
+        ("bob$2bo$3o!", "content: NoHeader"),
+        ("x = 3, y = 3\n4o!", "content: TooWide 0"),
+        ("x = 3, y = 3\n3$o!", "content: TooHigh 3"),
+        ("x = 3, y = 3\nb o x!", "content: BadTag 2 5"),
+    ] {
+        let ended = run_over(
+            alloc,
+            &words,
+            b"* * *\n* * *\n* * *\n",
+            picture.as_bytes(),
+            NOTHING,
+        )?;
+        is_fault(&rt, alloc, &ended, Status::Content, text)?;
     }
     Ok(())
 }

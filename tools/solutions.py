@@ -1,0 +1,114 @@
+#!/usr/bin/env python3
+"""Says whether a small search file has a solution, by trying all histories.
+
+    solutions.py SEARCH [--rule=B../S..] [--edge=..] [--symmetry=..] [--period=P,DX,DY] [--live=..] [--differ=A,B]
+
+Prints `yes` or `no`. It tries every first generation and every value of a marked cell; the other cells follow by the rule.
+"""
+import itertools
+import sys
+
+GENERATORS = {
+    "C1": [],
+    "C2": [lambda y, x, h, w: (h - 1 - y, w - 1 - x)],
+    "C4": [lambda y, x, h, w: (x, h - 1 - y)],
+    "D2-": [lambda y, x, h, w: (h - 1 - y, x)],
+    "D2|": [lambda y, x, h, w: (y, w - 1 - x)],
+    "D2\\": [lambda y, x, h, w: (x, y)],
+    "D2/": [lambda y, x, h, w: (w - 1 - x, h - 1 - y)],
+}
+GENERATORS["D4+"] = GENERATORS["D2-"] + GENERATORS["D2|"]
+GENERATORS["D4x"] = GENERATORS["D2\\"] + GENERATORS["D2/"]
+GENERATORS["D8"] = GENERATORS["C4"] + GENERATORS["D2|"]
+
+
+class Problem:
+    def __init__(self, text, words):
+        options = dict(word[2:].split("=", 1) for word in words)
+        births, survivals = options.get("rule", "B3/S23").split("/")
+        self.rule = (set(map(int, births[1:])), set(map(int, survivals[1:])))
+        self.closed = options.get("edge", "closed") == "closed"
+        self.generators = GENERATORS[options.get("symmetry", "C1")]
+        self.period = [int(n) for n in (options["period"] + ",0,0").split(",")[:3]] if "period" in options else None
+        self.bounds = [bound.replace(":", "-").split("-") for bound in options["live"].split(",")] if "live" in options else []
+        self.differ = [int(n) for n in options["differ"].split(",")] if "differ" in options else None
+        self.cells = [[row.replace(",", " ").split() for row in part.split("\n")] for part in text.strip().split("\n\n")]
+        self.count, self.height, self.width = len(self.cells), len(self.cells[0]), len(self.cells[0][0])
+        self.grounds = [0]
+        while len(self.grounds) < self.count:
+            last = self.grounds[-1]
+            self.grounds.append(int(8 * last in self.rule[last]))
+
+    def at(self, history, t, y, x):
+        inside = 0 <= y < self.height and 0 <= x < self.width
+        return history[t][y][x] if inside else self.grounds[t]
+
+    def next(self, history, t, y, x):
+        around = sum(self.at(history, t, y + j, x + i) for j in (-1, 0, 1) for i in (-1, 0, 1))
+        middle = self.at(history, t, y, x)
+        return int(around - middle in self.rule[middle])
+
+    def marked(self, t, y, x):
+        return self.cells[t][y][x].endswith("'")
+
+    def histories(self, history):
+        """All that begin so, with free values where a mark frees them."""
+        t = len(history)
+        if t == self.count:
+            yield history
+            return
+        choices = [[0, 1] if t == 0 or self.marked(t, y, x) else [self.next(history, t - 1, y, x)]
+                   for y in range(self.height) for x in range(self.width)]
+        for values in itertools.product(*choices):
+            rows = [values[k:k + self.width] for k in range(0, len(values), self.width)]
+            if self.fits_cells(t, rows):
+                yield from self.histories(history + [rows])
+
+    def fits_cells(self, t, rows):
+        kinds = [(word.rstrip("'"), rows[y][x]) for y, row in enumerate(self.cells[t]) for x, word in enumerate(row)]
+        return all(word not in "01" or int(word) == value for word, value in kinds)
+
+    def is_solution(self, history):
+        places = [(y, x) for y in range(self.height) for x in range(self.width)]
+        names = {}
+        for t in range(self.count):
+            for y, x in places:
+                word = self.cells[t][y][x].rstrip("'")
+                if word not in ("0", "1", "*"):
+                    value = history[t][y][x] ^ word.startswith("-")
+                    if names.setdefault(word.lstrip("-"), value) != value:
+                        return False
+        for t, generation in enumerate(history):
+            for image in self.generators:
+                for y, x in places:
+                    other = image(y, x, self.height, self.width)
+                    if generation[y][x] != generation[other[0]][other[1]]:
+                        return False
+        ring = [(y, x) for y in range(-1, self.height + 1) for x in range(-1, self.width + 1) if (y, x) not in places]
+        for t in range(1, self.count):
+            if self.closed and any(self.grounds[t] != self.next(history, t - 1, y, x) for y, x in ring):
+                return False
+        if self.period:
+            length, dx, dy = self.period
+            for t in range(self.count - length):
+                if self.grounds[t] != self.grounds[t + length]:
+                    return False
+                for y, x in places:
+                    if self.at(history, t + length, y + dy, x + dx) != history[t][y][x] or \
+                            history[t + length][y][x] != self.at(history, t, y - dy, x - dx):
+                        return False
+        for t, low, high in self.bounds:
+            population = sum(map(sum, history[int(t)]))
+            if population < int(low or 0) or high and population > int(high):
+                return False
+        return not self.differ or history[self.differ[0]] != history[self.differ[1]]
+
+
+def main():
+    with open(sys.argv[1]) as file:
+        problem = Problem(file.read(), sys.argv[2:])
+    print("yes" if any(map(problem.is_solution, problem.histories([]))) else "no")
+
+
+if __name__ == "__main__":
+    main()
