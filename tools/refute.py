@@ -66,7 +66,9 @@ class Formula:
         self.generations = generations
         self.height, self.width = len(generations[0]), len(generations[0][0])
         self.count = len(generations) * self.height * self.width
-        self.successor, self.closed = successor, closed
+        self.closed = closed
+        rows = [[bool(row >> (9 - i) & 1) for i in range(10)] for row in range(1024)]
+        self.forbidden = [bits for bits in rows if successor(bits[:9]) != bits[9]]
         self.background = [False]
         for _ in generations[1:]:
             self.background.append(successor([self.background[-1]] * 9))
@@ -191,10 +193,7 @@ class Formula:
         steps = (-1, 0, 1)
         inputs = [self.place(t - 1, y + dy, x + dx) for dy in steps for dx in steps]
         inputs.append(self.place(t, y, x))
-        for row in range(1024):
-            bits = [bool(row >> (9 - i) & 1) for i in range(10)]
-            if self.successor(bits[:9]) == bits[9]:
-                continue
+        for bits in self.forbidden:
             pairs = list(zip(inputs, bits))
             if all(value == bit for value, bit in pairs if isinstance(value, bool)):
                 self.clauses.append([-v if bit else v for v, bit in pairs if not isinstance(v, bool)])

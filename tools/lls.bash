@@ -1,0 +1,63 @@
+# Completion of lls's words in bash: `. tools/lls.bash`, or a link to it in ~/.local/share/bash-completion/completions/lls.
+# It serves `lls` and `./lls`.
+
+_lls_problem='--rule --edge --symmetry --period --live --differ'
+
+# The options that a command takes.
+_lls_options() {
+    case $1 in
+    check | cnf) echo "$_lls_problem" ;;
+    judge) echo "$_lls_problem --as" ;;
+    search) echo "$_lls_problem --budget --keep --as" ;;
+    sat) echo '--budget --keep' ;;
+    esac
+}
+
+# The values of an option that has few of them.
+_lls_values() {
+    case $1 in
+    --edge) echo 'closed open' ;;
+    --symmetry) echo 'C1 C2 C4 D2- D2| D2\ D2/ D4+ D4x D8' ;;
+    --keep) echo 'all half' ;;
+    --as) echo 'rows rle' ;;
+    --rule) echo 'B3/S23 B36/S23 B2/S B368/S245' ;;
+    esac
+}
+
+# Puts those of the words that begin with the word before the cursor into COMPREPLY.
+_lls_reply() {
+    local current=$1 word
+    shift
+    COMPREPLY=()
+    for word in "$@"; do
+        [[ $word != "$current"* ]] || COMPREPLY+=("$(printf %q "$word")")
+    done
+}
+
+_lls() {
+    local current=${COMP_WORDS[COMP_CWORD]} previous=${COMP_WORDS[COMP_CWORD - 1]} commands='check cnf judge lrat rule sat search'
+    local first=1 words=()
+    [ "${COMP_WORDS[1]-}" != --unproved ] || first=2
+    # `--edge=open` comes as three words.
+    if [ "$current" = = ]; then
+        current=
+    elif [ "$previous" = = ]; then
+        previous=${COMP_WORDS[COMP_CWORD - 2]}
+    fi
+    if [ "$COMP_CWORD" -eq "$first" ]; then
+        [ "$first" -eq 2 ] || commands="$commands --help --version --unproved"
+        read -ra words <<<"$commands"
+    elif [ "$previous" = --help ]; then
+        read -ra words <<<"$commands"
+    elif [[ $previous = --* && $previous != --unproved ]]; then
+        read -ra words <<<"$(_lls_values "$previous")"
+    elif [[ $current = -* ]]; then
+        read -ra words <<<"$(_lls_options "${COMP_WORDS[first]}")"
+    else
+        COMPREPLY=()
+        return
+    fi
+    _lls_reply "$current" "${words[@]}"
+}
+
+complete -o default -F _lls lls

@@ -1,0 +1,162 @@
+#!/usr/bin/env python3
+"""Writes the search file of a common question, and says which options go with it.
+
+    pose.py still W H [--margin N]                 a still life in a box of W columns and H rows
+    pose.py oscillator W H P [--margin N]          an oscillator of period P whose first phase lies in the box
+    pose.py spaceship W H P DX DY [--margin N]     a pattern in the box that is there again P generations later, moved by
+                                                   DX columns to the right and DY rows down
+    pose.py predecessor FILE.rle [--margin N]      a generation before a pattern
+
+The search file goes to the standard output, the options to the standard error:
+
+    pose.py oscillator 5 5 2 > q.lls
+    options: --period 2 --differ 0,1
+
+The margin is N rows and columns more on each side, 0 where it isn't given. Generation 0 is dead there, and later ones may use it;
+of a predecessor it is the other way round. A spaceship's grid also has the room that it moves through. Round the grid everything
+stays dead, unless `--edge open` is added.
+"""
+import argparse
+import math
+import sys
+
+from rle import BadRle, read_rles
+
+MOST_GENERATIONS, MOST_ROWS, MOST_CELLS = 64, 64, 8192
+
+
+class BadQuestion(Exception):
+    """A question that no search file can ask, with why."""
+
+
+class Question:
+    """Generations of words of search files, the options that go with them, and what the asker has to know besides."""
+
+    def __init__(self, generations, options, note=None):
+        self.generations, self.options, self.note = generations, options, note
+
+
+def still(width, height, margin):
+    first = boxed(width + 2 * margin, height + 2 * margin, margin, margin, width, height)
+    return Question([first, unknown_like(first)], ["--period 1", "--live 0:1-"])
+
+
+def oscillator(width, height, period, margin):
+    if period < 2:
+        raise BadQuestion("the period of an oscillator is 2 or more; `still` asks for a still life")
+    first = boxed(width + 2 * margin, height + 2 * margin, margin, margin, width, height)
+    apart = period // least_factor(period)
+    left = [divisor for divisor in range(2, period) if period % divisor == 0 and apart % divisor]
+    note = f"oscillators of period {' and '.join(map(str, left))} fit too" if left else None
+    return Question([first] + [unknown_like(first)] * period, [f"--period {period}", f"--differ 0,{apart}"], note)
+
+
+def least_factor(number):
+    return next(factor for factor in range(2, number + 1) if number % factor == 0)
+
+
+def spaceship(width, height, period, right, down, margin):
+    if period < 1:
+        raise BadQuestion("the period of a spaceship is 1 or more")
+    if right == 0 and down == 0:
+        raise BadQuestion("a spaceship moves; `oscillator` asks for a pattern that stays")
+    left, top = margin + max(0, -right), margin + max(0, -down)
+    first = boxed(width + 2 * margin + abs(right), height + 2 * margin + abs(down), left, top, width, height)
+    times = math.gcd(period, right, down)
+    note = f"what is there again {period // times} generations later, moved by {right // times},{down // times}, fits too"
+    options = [f"--period {period},{right},{down}", "--live 0:1-"]
+    return Question([first] + [unknown_like(first)] * period, options, note if times > 1 else None)
+
+
+def predecessor(name, margin):
+    try:
+        with open(name, encoding="utf-8", errors="replace") as file:
+            patterns = read_rles(file.read())
+    except OSError as fault:
+        raise BadQuestion(f"{name}: {fault.strerror}") from None
+    except BadRle as fault:
+        raise BadQuestion(f"{name}: {fault}") from None
+    pattern = patterns[0]
+    if not pattern.rows or not pattern.rows[0]:
+        raise BadQuestion(f"{name}: a pattern without cells")
+    side = ["0"] * margin
+    rows = [side + [str(cell) for cell in row] + side for row in pattern.rows]
+    dead = [["0"] * len(rows[0]) for _ in range(margin)]
+    wanted = dead + rows + dead
+    return Question([unknown_like(wanted), wanted], [f"--rule {pattern.rule}"] if pattern.rule else [])
+
+
+def boxed(width, height, left, top, box_width, box_height):
+    """Returns a generation that is unknown in a box and dead elsewhere."""
+    column_in = lambda x: left <= x < left + box_width
+    row_in = lambda y: top <= y < top + box_height
+    return [["*" if column_in(x) and row_in(y) else "0" for x in range(width)] for y in range(height)]
+
+
+def unknown_like(rows):
+    return [["*"] * len(row) for row in rows]
+
+
+def test_limits(generations):
+    """Refuses what is beyond the limits of search files."""
+    count, height, width = len(generations), len(generations[0]), len(generations[0][0])
+    if count > MOST_GENERATIONS:
+        raise BadQuestion(f"{count} generations, more than {MOST_GENERATIONS}")
+    if max(height, width) > MOST_ROWS:
+        raise BadQuestion(f"{height} rows and {width} columns, more than {MOST_ROWS}")
+    if count * height * width > MOST_CELLS:
+        raise BadQuestion(f"{count * height * width} cells, more than {MOST_CELLS}")
+
+
+def size(word):
+    number = int(word)
+    if number < 1:
+        raise ValueError
+    return number
+
+
+def margin_size(word):
+    number = int(word)
+    if number < 0:
+        raise ValueError
+    return number
+
+
+def question_of_words():
+    parser = argparse.ArgumentParser(description=__doc__, formatter_class=argparse.RawDescriptionHelpFormatter)
+    kinds = parser.add_subparsers(dest="kind", required=True, metavar="still|oscillator|spaceship|predecessor")
+    for kind in (still, oscillator, spaceship):
+        words = kinds.add_parser(kind.__name__)
+        words.add_argument("width", metavar="W", type=size)
+        words.add_argument("height", metavar="H", type=size)
+        if kind is not still:
+            words.add_argument("period", metavar="P", type=int)
+        if kind is spaceship:
+            words.add_argument("right", metavar="DX", type=int)
+            words.add_argument("down", metavar="DY", type=int)
+        words.set_defaults(ask=kind)
+    words = kinds.add_parser("predecessor")
+    words.add_argument("name", metavar="FILE.rle")
+    words.set_defaults(ask=predecessor)
+    for words in kinds.choices.values():
+        words.add_argument("--margin", metavar="N", type=margin_size, default=0)
+    values = vars(parser.parse_args())
+    values.pop("kind")
+    return values.pop("ask")(**values)
+
+
+def main():
+    try:
+        question = question_of_words()
+        test_limits(question.generations)
+    except BadQuestion as fault:
+        print(f"pose.py: {fault}", file=sys.stderr)
+        sys.exit(2)
+    print("\n\n".join("\n".join(" ".join(row) for row in rows) for rows in question.generations))
+    print("options:", " ".join(question.options) or "none", file=sys.stderr)
+    if question.note:
+        print("note:", question.note, file=sys.stderr)
+
+
+if __name__ == "__main__":
+    main()

@@ -1,0 +1,225 @@
+#!/usr/bin/env python3
+"""Draws generations of cells, in the terminal or as an SVG.
+
+    show.py [FILE ..] [--svg FILE [--animate]] [--width COLUMNS]
+
+A FILE is a history (rows of 0 and 1, an empty line between generations), a search file, or patterns in RLE, one behind the other.
+With no FILE the standard input is read, so `lls search .. | show.py` works; its answers `no pattern` and `undecided` are handed on.
+
+In the terminal two rows share a line. A file with cells that aren't known is drawn one row a line and two columns a cell: `??`
+is an unknown cell, a name stands for itself, and a mark as in search files says that the rule needn't hold into the cell.
+
+--svg draws a strip of the generations instead, one strip a file, into FILE or for `-` to the standard output; --animate draws one
+generation after the other in one place.
+--width is the terminal's width, where it isn't to be found out.
+"""
+import argparse
+import re
+import shutil
+import sys
+
+from refute import read_search_file
+from rle import HEADER, BadRle, read_rles
+
+CELL = re.compile(r"(?:[01*]|-?[A-Za-z][A-Za-z0-9]{0,31})'?")
+ANSWERS = ("no pattern", "undecided")
+
+
+class BadInput(Exception):
+    """A text that can't be drawn, with why."""
+
+
+def read_generations(text):
+    """Returns the generations of a text of any of the three forms, all as words of search files."""
+    first = next((line for line in text.splitlines() if line.strip() and not line.startswith("#")), "")
+    if HEADER.match(first):
+        try:
+            patterns = [pattern.rows for pattern in read_rles(text)]
+        except BadRle as fault:
+            raise BadInput(str(fault)) from None
+        return same_sizes([[[str(cell) for cell in row] for row in rows] for rows in patterns])
+    generations = read_search_file(text)
+    if not generations:
+        raise BadInput("no rows of cells")
+    for word in (word for rows in generations for row in rows for word in row):
+        if not CELL.fullmatch(word):
+            raise BadInput(f"no cell: {word!r}")
+    return same_sizes(generations)
+
+
+def same_sizes(generations):
+    """Fills up smaller generations with dead cells, since an RLE may leave them out."""
+    height = max(len(rows) for rows in generations)
+    width = max(len(row) for rows in generations for row in rows)
+    filled = [[row + ["0"] * (width - len(row)) for row in rows] for rows in generations]
+    return [rows + [["0"] * width for _ in range(height - len(rows))] for rows in filled]
+
+
+def is_known(generations):
+    return all(word in ("0", "1") for rows in generations for row in rows for word in row)
+
+
+# Drawing in the terminal.
+
+
+def half_blocks(rows):
+    """Returns the lines of a generation, two rows a line."""
+    below = rows[1:] + [["0"] * len(rows[0])]
+    blocks = {("0", "0"): " ", ("1", "0"): "▀", ("0", "1"): "▄", ("1", "1"): "█"}
+    return ["".join(blocks[pair] for pair in zip(rows[y], below[y])) for y in range(0, len(rows), 2)]
+
+
+def wide_cells(rows):
+    """Returns the lines of a generation, one row a line."""
+    blocks = {"0": " ·", "1": "██", "*": "??"}
+    cells = [[blocks.get(word, word) for word in row] for row in rows]
+    size = max([2] + [len(cell) for row in cells for cell in row])
+    return ["".join(cell.rjust(size) for cell in row) for row in cells]
+
+
+def framed(number, lines):
+    """Returns lines with a frame round them and a generation's number above."""
+    width = len(lines[0])
+    rim = "─" * width
+    return [str(number).ljust(width + 2), f"┌{rim}┐"] + [f"│{line}│" for line in lines] + [f"└{rim}┘"]
+
+
+def drawn(generations, columns):
+    """Returns the lines of all generations, as many side by side as the columns hold."""
+    draw = half_blocks if is_known(generations) else wide_cells
+    pictures = [framed(number, draw(rows)) for number, rows in enumerate(generations)]
+    beside = max(1, (columns + 1) // (len(pictures[0][0]) + 1))
+    lines = []
+    for start in range(0, len(pictures), beside):
+        lines += [" ".join(parts).rstrip() for parts in zip(*pictures[start : start + beside])]
+    return lines
+
+
+# Drawing as an SVG.
+
+SIZE = 16
+STYLE = """<style>
+.ground { fill: #ffffff; } .grid { stroke: #c8ccd0; stroke-width: 1; } .live { fill: #1f4e79; } .open { fill: #f3dfae; }
+.mark { fill: none; stroke: #b03a2e; } text { font: 11px sans-serif; fill: #404448; text-anchor: middle; }
+</style>"""
+
+
+def escaped(text):
+    return text.replace("&", "&amp;").replace("<", "&lt;").replace(">", "&gt;")
+
+
+def cell_elements(word, x, y):
+    """Returns the elements of one cell whose top left corner is given."""
+    plain, square = word.rstrip("'"), f'x="{x}" y="{y}" width="{SIZE}" height="{SIZE}"'
+    elements = []
+    if plain == "1":
+        elements.append(f'<rect class="live" {square}/>')
+    elif plain != "0":
+        text = "?" if plain == "*" else escaped(plain)
+        elements.append(f'<rect class="open" {square}/><text x="{x + SIZE / 2:g}" y="{y + 12}">{text}</text>')
+    if word.endswith("'"):
+        elements.append(f'<circle class="mark" cx="{x + SIZE / 2:g}" cy="{y + SIZE / 2:g}" r="{SIZE / 2 - 2:g}"/>')
+    return elements
+
+
+def generation_elements(rows, number, left, top):
+    """Returns the elements of a generation, with its number below the grid."""
+    height, width = len(rows) * SIZE, len(rows[0]) * SIZE
+    elements = [f'<rect class="ground" x="{left}" y="{top}" width="{width}" height="{height}"/>']
+    for y, row in enumerate(rows):
+        for x, word in enumerate(row):
+            elements += cell_elements(word, left + x * SIZE, top + y * SIZE)
+    lines = [f"M{left} {top + y * SIZE}h{width}" for y in range(len(rows) + 1)]
+    lines += [f"M{left + x * SIZE} {top}v{height}" for x in range(len(rows[0]) + 1)]
+    elements.append(f'<path class="grid" d="{"".join(lines)}"/>')
+    elements.append(f'<text x="{left + width / 2:g}" y="{top + height + 13}">{number}</text>')
+    return elements
+
+
+def document(width, height, elements):
+    head = f'<svg xmlns="http://www.w3.org/2000/svg" width="{width}" height="{height}" viewBox="0 0 {width} {height}">'
+    return "\n".join([head, STYLE, f'<rect class="ground" width="{width}" height="{height}"/>', *elements, "</svg>", ""])
+
+
+def strips(files):
+    """Returns an SVG with one strip a file, its generations side by side."""
+    elements, top, right = [], SIZE, 0
+    for generations in files:
+        step = (len(generations[0][0]) + 1) * SIZE
+        for number, rows in enumerate(generations):
+            elements += generation_elements(rows, number, SIZE + number * step, top)
+        right = max(right, SIZE + len(generations) * step)
+        top += (len(generations[0]) + 2) * SIZE
+    return document(right, top, elements)
+
+
+def animation(files):
+    """Returns an SVG that shows one generation after the other, the files side by side."""
+    elements, left, bottom = [], SIZE, 0
+    for generations in files:
+        # Where the last generation is the first one again, it would be seen twice in a row.
+        is_closed = len(generations) > 1 and generations[-1] == generations[0]
+        count = len(generations) - is_closed
+        for number, rows in enumerate(generations[:count]):
+            values = ";".join("visible" if number == shown else "hidden" for shown in range(count))
+            shown = "visible" if number == 0 else "hidden"
+            elements.append(f'<g visibility="{shown}">')
+            elements.append(
+                f'<animate attributeName="visibility" calcMode="discrete" values="{values}" '
+                f'dur="{count / 2:g}s" repeatCount="indefinite"/>'
+            )
+            elements += generation_elements(rows, number, left, SIZE) + ["</g>"]
+        left += (len(generations[0][0]) + 1) * SIZE
+        bottom = max(bottom, (len(generations[0]) + 3) * SIZE)
+    return document(left, bottom, elements)
+
+
+def read_inputs(names):
+    """Returns the texts of the named files, or that of the standard input."""
+    if not names:
+        return [sys.stdin.read()]
+    texts = []
+    for name in names:
+        with open(name, encoding="utf-8", errors="replace") as file:
+            texts.append(file.read())
+    return texts
+
+
+def write(name, text):
+    if name == "-":
+        sys.stdout.write(text)
+        return
+    with open(name, "w", encoding="utf-8") as file:
+        file.write(text)
+
+
+def main():
+    parser = argparse.ArgumentParser(description=__doc__, formatter_class=argparse.RawDescriptionHelpFormatter)
+    parser.add_argument("files", metavar="FILE", nargs="*")
+    parser.add_argument("--svg", metavar="FILE")
+    parser.add_argument("--animate", action="store_true")
+    parser.add_argument("--width", metavar="COLUMNS", type=int)
+    words = parser.parse_args()
+    if words.animate and not words.svg:
+        parser.error("--animate goes with --svg FILE")
+    sys.stdout.reconfigure(encoding="utf-8")
+    try:
+        texts = read_inputs(words.files)
+        if len(texts) == 1 and texts[0].strip() in ANSWERS:
+            print(texts[0].strip())
+            return
+        files = [read_generations(text) for text in texts]
+        if words.svg:
+            write(words.svg, animation(files) if words.animate else strips(files))
+            return
+    except OSError as fault:
+        sys.exit(f"show.py: {fault.filename}: {fault.strerror}")
+    except BadInput as fault:
+        sys.exit(f"show.py: {fault}")
+    columns = words.width or shutil.get_terminal_size().columns
+    for generations in files:
+        print("\n".join(drawn(generations, columns)))
+
+
+if __name__ == "__main__":
+    main()

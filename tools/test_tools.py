@@ -1,0 +1,340 @@
+#!/usr/bin/env python3
+"""Tests of the scripts for people: show.py, pose.py, rle.py, documents.py, the wrapper's own words, the completion and the man page.
+
+    test_tools.py
+
+Takes a few seconds and needs neither the proved program nor a package. What is expected was worked out by hand.
+"""
+import os
+import re
+import subprocess
+import sys
+import tempfile
+import unittest
+import xml.etree.ElementTree
+
+import documents
+import rle
+import show
+
+TOP = os.path.dirname(os.path.dirname(os.path.abspath(__file__)))
+GLIDER = "#C a glider\nx = 3, y = 3, rule = B3/S23\nbob$2bo$3o!\n"
+
+
+def ran(*words, text="", folder=TOP):
+    """Returns the status of a command and what it prints on its two streams."""
+    if words[0].endswith(".py"):
+        words = (sys.executable, *words)
+    done = subprocess.run(words, input=text, capture_output=True, text=True, encoding="utf-8", cwd=folder, check=False)
+    return done.returncode, done.stdout, done.stderr
+
+
+def scratch(case, name, text):
+    """Returns the path of a new file with a text, which goes when the test ends."""
+    folder = tempfile.TemporaryDirectory()
+    case.addCleanup(folder.cleanup)
+    path = os.path.join(folder.name, name)
+    with open(path, "w", encoding="utf-8") as file:
+        file.write(text)
+    return path
+
+
+class Rle(unittest.TestCase):
+    def test_glider(self):
+        (pattern,) = rle.read_rles(GLIDER)
+        self.assertEqual(pattern.rows, [[0, 1, 0], [0, 0, 1], [1, 1, 1]])
+        self.assertEqual(pattern.rule, "B3/S23")
+
+    def test_counts_rows_and_line_ends(self):
+        (pattern,) = rle.read_rles("x=4,y=4\n2\no $ $\n3b\no2$2o! what follows\n")
+        self.assertEqual(pattern.rows, [[1, 1, 0, 0], [0, 0, 0, 0], [0, 0, 0, 1], [0, 0, 0, 0], [1, 1, 0, 0]])
+        self.assertIsNone(pattern.rule)
+
+    def test_header_says_the_size(self):
+        patterns = rle.read_rles("x = 2, y = 2\n!\nx = 3, y = 1\no!\n")
+        self.assertEqual([pattern.rows for pattern in patterns], [[[0, 0], [0, 0]], [[1, 0, 0]]])
+
+    def test_faults(self):
+        for text in ("", "bo$!", "x = 3, y = 3\nbob", "x = 3, y = 3\n2a!", "x = 3, y = 3\n2 2o!"):
+            with self.subTest(text), self.assertRaises(rle.BadRle):
+                rle.read_rles(text)
+
+
+class Show(unittest.TestCase):
+    def shown(self, text, *words):
+        status, out, err = ran("tools/show.py", *words, text=text)
+        self.assertEqual((status, err), (0, ""))
+        return out
+
+    def test_history(self):
+        text = "0 1 0\n0 0 1\n1 1 1\n\n0 0 0\n1 0 1\n0 1 1\n"
+        self.assertEqual(self.shown(text), "0     1\n┌───┐ ┌───┐\n│ ▀▄│ │▄ ▄│\n│▀▀▀│ │ ▀▀│\n└───┘ └───┘\n")
+
+    def test_rle_is_drawn_as_rows_are(self):
+        self.assertEqual(self.shown(GLIDER), self.shown("0 1 0\n0 0 1\n1 1 1\n"))
+
+    def test_rles_one_behind_the_other_are_generations(self):
+        self.assertEqual(self.shown("x = 3, y = 2\n2$!\nx = 3, y = 2\n3o!\n"), self.shown("0 0 0\n0 0 0\n\n1 1 1\n0 0 0\n"))
+
+    def test_narrow_terminal(self):
+        out = self.shown("1\n\n0\n\n1\n", "--width", "7")
+        self.assertEqual(out, "0   1\n┌─┐ ┌─┐\n│▀│ │ │\n└─┘ └─┘\n2\n┌─┐\n│▀│\n└─┘\n")
+
+    def test_search_file(self):
+        out = self.shown("# unknown, named, marked\n1 * a\n0 -a' 1'\n")
+        self.assertEqual(out, "0\n┌─────────┐\n│ ██ ??  a│\n│  ·-a' 1'│\n└─────────┘\n")
+
+    def test_names_are_no_header(self):
+        self.assertEqual(self.shown("x y\n"), "0\n┌────┐\n│ x y│\n└────┘\n")
+
+    def test_answers_without_a_pattern_are_handed_on(self):
+        for answer in ("no pattern\n", "undecided\n"):
+            self.assertEqual(self.shown(answer), answer)
+
+    def test_faults(self):
+        for text in ("", "0 2\n", "x = 1, y = 1\no\n", "accepted; done\n"):
+            status, out, err = ran("tools/show.py", text=text)
+            self.assertEqual((status, out), (1, ""))
+            self.assertRegex(err, r"^show\.py: .+\n$")
+
+    def svg(self, *words):
+        path = scratch(self, "picture.svg", "")
+        self.assertEqual(ran("tools/show.py", "--svg", path, *words), (0, "", ""))
+        with open(path, encoding="utf-8") as file:
+            self.assertEqual(ran("tools/show.py", "--svg", "-", *words), (0, file.read(), ""))
+        return xml.etree.ElementTree.parse(path).getroot()
+
+    def test_svg_has_each_live_and_unknown_cell(self):
+        rects = [rect.get("class") for rect in self.svg("examples/blinker.lls").iter("{http://www.w3.org/2000/svg}rect")]
+        self.assertEqual((rects.count("live"), rects.count("open")), (3, 9))
+
+    def test_svg_places(self):
+        path = scratch(self, "one.lls", "0 0\n0 1\n\n1 0\n0 0\n")
+        rects = [rect for rect in self.svg(path).iter("{http://www.w3.org/2000/svg}rect") if rect.get("class") == "live"]
+        first, second = [(int(rect.get("x")), int(rect.get("y"))) for rect in rects]
+        # The grids are two cells wide and a cell apart: the second one's left end is three cells right of the first one's.
+        self.assertEqual((second[0] - first[0], second[1] - first[1]), (2 * show.SIZE, -show.SIZE))
+
+    def test_animation_has_a_step_a_generation(self):
+        steps = list(self.svg("--animate", "examples/glider.pattern").iter("{http://www.w3.org/2000/svg}animate"))
+        self.assertEqual([step.get("values").split(";").index("visible") for step in steps], [0, 1, 2, 3, 4])
+
+    def test_animation_goes_round(self):
+        path = scratch(self, "blinker.pattern", "000\n111\n000\n\n010\n010\n010\n\n000\n111\n000\n".replace("0", "0 ").replace("1", "1 "))
+        self.assertEqual(len(list(self.svg("--animate", path).iter("{http://www.w3.org/2000/svg}animate"))), 2)
+
+    def test_animation_needs_a_file(self):
+        self.assertEqual(ran("tools/show.py", "--animate", "examples/glider.pattern")[0], 2)
+
+
+class Pose(unittest.TestCase):
+    def posed(self, *words):
+        status, out, err = ran("tools/pose.py", *map(str, words))
+        self.assertEqual(status, 0, err)
+        return out, err
+
+    def test_still(self):
+        out, err = self.posed("still", 3, 2)
+        self.assertEqual(out, "* * *\n* * *\n\n* * *\n* * *\n")
+        self.assertEqual(err, "options: --period 1 --live 0:1-\n")
+
+    def test_oscillator_with_a_margin(self):
+        out, err = self.posed("oscillator", 2, 1, 2, "--margin", 1)
+        free = "* * * *\n* * * *\n* * * *\n"
+        self.assertEqual(out, "0 0 0 0\n0 * * 0\n0 0 0 0\n\n" + free + "\n" + free)
+        self.assertEqual(err, "options: --period 2 --differ 0,1\n")
+
+    def test_oscillators_of_smaller_periods_are_kept_out(self):
+        rows = {3: ("0,1", None), 4: ("0,2", None), 6: ("0,3", "2"), 9: ("0,3", None), 12: ("0,6", "4"), 30: ("0,15", "2 and 6 and 10")}
+        for period, (differ, left) in rows.items():
+            err = self.posed("oscillator", 1, 1, period)[1]
+            note = f"note: oscillators of period {left} fit too\n" if left else ""
+            self.assertEqual(err, f"options: --period {period} --differ {differ}\n{note}")
+
+    def test_spaceship_has_room_to_move(self):
+        out, err = self.posed("spaceship", 2, 1, 1, -1, 2)
+        self.assertEqual(out, "0 * *\n0 0 0\n0 0 0\n\n* * *\n* * *\n* * *\n")
+        self.assertEqual(err, "options: --period 1,-1,2 --live 0:1-\n")
+
+    def test_slower_twins_are_named(self):
+        err = self.posed("spaceship", 4, 4, 4, 2, 0)[1]
+        self.assertEqual(err.split("\n")[1], "note: what is there again 2 generations later, moved by 1,0, fits too")
+
+    def test_predecessor(self):
+        path = scratch(self, "p.rle", "x = 2, y = 1, rule = B36/S23\nbo!\n")
+        out, err = self.posed("predecessor", path, "--margin", 1)
+        free = "* * * *\n* * * *\n* * * *\n"
+        self.assertEqual(out, free + "\n0 0 0 0\n0 0 1 0\n0 0 0 0\n")
+        self.assertEqual(err, "options: --rule B36/S23\n")
+
+    def test_refusals(self):
+        rows = ["still 0 3", "still 65 3", "still 3", "oscillator 5 5 1", "oscillator 5 5 64", "oscillator 64 64 2", "spaceship 3 3 4 0 0"]
+        for words in rows + ["spaceship 3 3 0 1 0", "predecessor no-such-file", "still 3 3 --margin -1", "glider", ""]:
+            status, out, err = ran("tools/pose.py", *words.split())
+            self.assertEqual((status, out), (2, ""), words)
+            self.assertNotEqual(err, "")
+            self.assertNotIn("Traceback", err)
+
+    def test_limits_themselves_are_within(self):
+        for words in ("still 64 64", "oscillator 1 1 63", "spaceship 63 1 1 1 0"):
+            self.posed(*words.split())
+
+
+class Documents(unittest.TestCase):
+    def faults(self, document):
+        folder = tempfile.TemporaryDirectory()
+        self.addCleanup(folder.cleanup)
+        return documents.faults_of(document, folder.name)
+
+    def test_right_documents(self):
+        text = "    $ echo a\n    a\n    $ echo; echo b > c; cat c\n\n    b\n\n```\n$ cat d\ncat: d: No such file or directory\n$ echo $?\n1\n```\n"
+        self.assertEqual(self.faults(text), (4, []))
+
+    def test_wrong_documents(self):
+        rows = ["    $ echo a\n    b\n", "    $ echo a\n", "    $ echo\n    b\n", "    $ echo a\n    a\n    b\n", "    $ curl a\n"]
+        for text in rows + ["    $ cat no-such-file 2> e\n    $ echo $?\n    0\n"]:
+            count, faults = self.faults(text)
+            self.assertEqual(len(faults), 1, text)
+            self.assertGreater(count, 0)
+
+    def test_text_outside_of_blocks_is_no_command(self):
+        self.assertEqual(self.faults("$ echo a\n\n    echo b\n"), (0, []))
+
+
+class Wrapper(unittest.TestCase):
+    def test_help_of_a_command(self):
+        for command in commands_of_usage():
+            status, out, err = ran("./lls", "--help", command)
+            self.assertEqual((status, err), (0, ""))
+            self.assertTrue(out.startswith(f"    lls {command} "))
+            self.assertEqual(len(re.findall(r"^    lls ", out, re.MULTILINE)), 1)
+            self.assertNotIn("Exit status", out)
+
+    def test_help_of_no_command(self):
+        self.assertEqual(ran("./lls", "--help", "fly"), (2, "", "lls: no command 'fly'; ./lls --help names them\n"))
+
+    def test_version_in_a_repository_and_outside(self):
+        self.assertRegex(ran("./lls", "--version")[1].split("\n")[-2], r"^(commit [0-9a-f]{40}(, with changes)?|no commit)$")
+        with open(f"{TOP}/lls", encoding="utf-8") as file:
+            copy = scratch(self, "lls", file.read())
+        self.assertEqual(ran("bash", copy, "--version")[1].split("\n")[-2], "no commit")
+
+    def test_a_link_finds_the_repository(self):
+        link = os.path.join(os.path.dirname(scratch(self, "x", "")), "lls")
+        os.symlink(f"{TOP}/lls", link)
+        self.assertEqual(ran(link, "--help", folder="/"), ran("./lls", "--help"))
+
+
+class Building(unittest.TestCase):
+    """The wrapper over another `rt`, in a small repository: what it says, and whose status it ends with."""
+
+    def setUp(self):
+        with open(f"{TOP}/lls", encoding="utf-8") as file:
+            self.wrapper = scratch(self, "lls", file.read())
+        self.top = os.path.dirname(self.wrapper)
+        os.makedirs(f"{self.top}/crates/lls_cli/out")
+        os.makedirs(f"{self.top}/bin")
+        self.write("crates.txt", "# crates\nlow:\nmid: low kit_crate\nother: low\nlls_cli: mid\n")
+        self.program = f"{self.top}/crates/lls_cli/out/lls_cli"
+
+    def write(self, name, text):
+        path = f"{self.top}/{name}"
+        with open(path, "w", encoding="utf-8") as file:
+            file.write(text)
+        os.chmod(path, 0o755)
+        return path
+
+    def lls(self, rt, *words):
+        self.write("bin/rt", f"#!/bin/bash\n{rt}\n")
+        script = 'PATH=$1:$PATH; shift; exec bash "$@"'
+        return ran("bash", "-c", script, "bash", f"{self.top}/bin", self.wrapper, *words, folder=self.top)
+
+    MAKES = "printf '#!/bin/bash\\necho new \"$@\"\\nexit 10\\n' > out/lls_cli; chmod +x out/lls_cli"
+
+    def test_says_the_crates_and_runs_what_was_made(self):
+        says = "echo 'rt: chose --jobs 2 for low'; sleep 1.5; echo 'fn mid::a::b: proved'; echo 'library low: modules loaded=1'; sleep 1.5"
+        status, out, err = self.lls(f"{says}; {self.MAKES}", "search", "a b")
+        self.assertEqual((status, out), (10, "new search a b\n"))
+        crates = [line for line in err.split("\n") if line.startswith("lls: at ")]
+        self.assertEqual(crates, ["lls: at low; crates left after it: 2", "lls: at mid; crates left after it: 1"])
+        self.assertIn("--unproved", err)
+        self.assertEqual(os.listdir(f"{self.top}/crates/lls_cli"), ["out"])
+
+    def test_a_failed_build_runs_nothing(self):
+        self.write("crates/lls_cli/out/lls_cli", "#!/bin/bash\necho old\n")
+        self.write("crates/lls_cli/main.rt", "newer")
+        os.utime(self.program, (1, 1))
+        status, out, err = self.lls("echo 'not proved'; exit 1", "rule", "B3/S23")
+        self.assertEqual((status, out), (1, ""))
+        self.assertIn("the program wasn't built", err)
+        with open(f"{self.top}/crates/lls_cli/build.log", encoding="utf-8") as file:
+            self.assertEqual(file.read(), "not proved\n")
+
+    def test_a_program_that_is_there_is_run_at_once(self):
+        path = self.write("crates/lls_cli/out/lls_cli", "#!/bin/bash\necho there\nexit 3\n")
+        os.utime(path, (2**31, 2**31))
+        self.assertEqual(self.lls("echo built >&2", "judge"), (3, "there\n", ""))
+
+    def test_unproved(self):
+        rt = 'printf "%s\\n" "$@"; echo "checked: ended status=20" >&2; echo "lls: words: Fault" >&2; echo "run=ended status=20 runners=1 proved=no" >&2; exit 20'
+        words = ["search", "q.lls", "--rule", "B3/S23", "--edge=open", "/p"]
+        status, out, err = self.lls(rt, "--unproved", *words)
+        self.assertEqual(status, 20)
+        self.assertEqual(out.split("\n")[-7:-1], ["search", f"{self.top}/q.lls", "--rule", "B3/S23", "--edge=open", "/p"])
+        self.assertEqual(err, "lls: compiling without proofs; nothing is proved of this answer\nlls: words: Fault\n")
+        self.assertEqual(self.lls(rt, "--unproved", "rule", "B3/S23")[1].split("\n")[-3:-1], ["rule", "B3/S23"])
+
+    def test_unproved_without_an_answer(self):
+        status, out, err = self.lls("echo 'src/main.rt:1:1: error' >&2; echo 'run=none proved=no' >&2; exit 0", "--unproved", "rule")
+        self.assertEqual((status, out), (1, ""))
+        self.assertIn("error", err)
+
+
+class Completion(unittest.TestCase):
+    def replies(self, *words):
+        script = '. tools/lls.bash; COMP_WORDS=("$@"); COMP_CWORD=$(($# - 1)); _lls; printf "%s\\n" "${COMPREPLY[@]}"'
+        return ran("bash", "-c", script, "bash", "lls", *words)[1].split()
+
+    def test_words(self):
+        self.assertEqual(self.replies("ju"), ["judge"])
+        self.assertEqual(self.replies("--help", "ju"), ["judge"])
+        self.assertEqual(self.replies("--unproved", "ju"), ["judge"])
+        self.assertEqual(self.replies("check", "a.lls", "--edge", "o"), ["open"])
+        self.assertEqual(self.replies("check", "a.lls", "--edge", "="), ["closed", "open"])
+        self.assertEqual(self.replies("check", "a.lls", "--symmetry", "D2"), ["D2-", "D2\\|", "D2\\\\", "D2/"])
+        self.assertEqual(self.replies("check", "exa"), [])
+
+    def test_options_are_those_of_the_usage(self):
+        for command in commands_of_usage():
+            self.assertEqual(set(self.replies(command, "--")), options_of(command), command)
+
+
+class ManPage(unittest.TestCase):
+    def test_names_each_command_and_option(self):
+        with open(f"{TOP}/docs/lls.1", encoding="utf-8") as file:
+            page = file.read().replace("\\-", "-")
+        for command in commands_of_usage():
+            self.assertIn(f".B lls {command}\n", page)
+            self.assertIn(f".TP\n.B {command}\n", page)
+            for option in options_of(command):
+                self.assertRegex(page, rf"\.TP\n\.\w+ {option}\b")
+
+
+def usage():
+    with open(f"{TOP}/docs/usage.md", encoding="utf-8") as file:
+        return file.read()
+
+
+def commands_of_usage():
+    return re.findall(r"^    lls ([a-z]+) ", usage(), re.MULTILINE)
+
+
+def options_of(command):
+    """The options in the head of a command's part: its first line, and lines that go on with an option."""
+    head = re.search(rf"^    lls {command} .*\n(?: +\[--.*\n)*", usage(), re.MULTILINE).group(0)
+    return set(re.findall(r"--[a-z]+", head))
+
+
+if __name__ == "__main__":
+    os.environ["COLUMNS"] = "80"
+    sys.exit(not unittest.main(exit=False, verbosity=0).result.wasSuccessful())
