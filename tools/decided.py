@@ -5,7 +5,8 @@
 
 PROGRAM is the built program; FOLDER gets the files. Each formula has at most 12 variables and is decided twice: with all clauses
 kept and a budget of 3 to the number of variables, and with a budget of 9 to it, both at most 10,000,000. An assignment that is
-printed has to satisfy the formula, and a proof has to be accepted by `lrat`. Ends with a failure where an answer differs.
+printed has to satisfy the formula, and a proof has to be accepted by `lrat`. At the end a formula of 200 variables that some
+assignment satisfies has to be decided within a second. Ends with a failure where an answer differs.
 """
 import itertools
 import os
@@ -45,6 +46,24 @@ def is_right(program, file, proof, options, count, clauses, satisfiable):
     return ended.returncode == 20 and ended.stdout == "s UNSATISFIABLE\n" and checked.stdout == "accepted\n"
 
 
+def planted(file):
+    """Writes a formula of 200 variables that a random assignment satisfies."""
+    values = [random.choice([1, -1]) * n for n in range(1, 201)]
+    clauses = []
+    while len(clauses) < 700:
+        clause = [random.choice([1, -1]) * n for n in random.sample(range(1, 201), 3)]
+        if any(lit in values for lit in clause):
+            clauses.append(clause)
+    write(file, 200, clauses)
+    return clauses
+
+
+def write(file, variables, clauses):
+    with open(file, "w") as text:
+        text.write(f"p cnf {variables} {len(clauses)}\n")
+        text.writelines(" ".join(map(str, clause + [0])) + "\n" for clause in clauses)
+
+
 def main():
     program, seed, count, folder = sys.argv[1:]
     random.seed(int(seed))
@@ -52,14 +71,21 @@ def main():
     failed = 0
     for _ in range(int(count)):
         variables, clauses = formula()
-        with open(file, "w") as text:
-            text.write(f"p cnf {variables} {len(clauses)}\n")
-            text.writelines(" ".join(map(str, clause + [0])) + "\n" for clause in clauses)
+        write(file, variables, clauses)
         satisfiable = is_satisfiable(variables, clauses)
         for options in (["--keep=all", f"--budget={min(3 ** variables, MOST_BUDGET)}"], [f"--budget={min(9 ** variables, MOST_BUDGET)}"]):
             if not is_right(program, file, proof, options, variables, clauses, satisfiable):
                 print(f"decided: another answer to {variables} {clauses} with {options}", file=sys.stderr)
                 failed = 1
+    clauses = planted(file)
+    try:
+        ended = subprocess.run([program, "sat", file, proof], capture_output=True, text=True, timeout=1)
+        is_found = ended.returncode == 10 and is_model(ended.stdout, 200, clauses)
+    except subprocess.TimeoutExpired:
+        is_found = False
+    if not is_found:
+        print("decided: 200 variables are not decided within a second", file=sys.stderr)
+        failed = 1
     sys.exit(failed)
 
 
