@@ -10,7 +10,7 @@ use lls_rule::Rule;
 pub struct Effort {
     /// How many clauses it may learn.
     pub budget: u32,
-    /// Whether it keeps all of them.
+    /// Whether it keeps all of them. The solver deletes none yet, so it does in either case.
     pub keep_all: bool,
     /// The file of its log.
     pub proof: Name,
