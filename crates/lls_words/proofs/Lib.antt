@@ -3,3 +3,14 @@ pub mod Steps
 pub mod Lists
 pub mod Entries
 pub mod Counts
+pub mod Table
+pub mod Rows
+pub mod Walks
+pub mod Operands
+pub mod Parsers
+pub mod Readings
+pub mod Fitting
+pub mod Rules
+pub mod Dashes
+pub mod Pairs
+pub mod Jobs

@@ -1,6 +1,8 @@
 pub mod Command
 pub mod Items
 pub mod Scan
+pub mod Form
+pub mod Parser
 pub mod Values
 pub mod Job
 pub mod Texts

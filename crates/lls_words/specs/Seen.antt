@@ -1,5 +1,5 @@
 -- For private contracts alone: items, operands and options as contracts see them, without where their bytes lie in memory.
-use Rattle.std.specs.Prelude.{ℕ, List, map, string_bytes, Result, Ok, Err}
+use Rattle.std.specs.Prelude.{ℕ, ◌+◌, List, map, take, drop, string_bytes, Result, Ok, Err}
 use Rattle.std.specs.Borrow.{Bor}
 use Rattle.std.specs.Option.{option_copied}
 use Rattle.lls_words.specs.declared.item.Item as items
@@ -23,6 +23,10 @@ seen_item (forms.Odd place) = odd place
 -- two parts of a text
 abbrev pub seen_pair : Bor (List ℕ) × Bor (List ℕ) → List ℕ × List ℕ
 seen_pair parts = (parts.0.now, parts.1.now)
+
+-- what stands before a place of a text, and behind it
+abbrev pub cut : List ℕ → ℕ → List ℕ × List ℕ
+cut text at = (take at text, drop (at + 1) text)
 
 -- the items that are left
 abbrev pub items_left : left.Items → List Item

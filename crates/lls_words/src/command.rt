@@ -1,6 +1,8 @@
 // The table of commands: what each is called, how many operands it has and which options it takes.
-ghost use Rattle.std.specs.Prelude.{◌≡◌};
-ghost use Rattle.lls_words.specs.Command.{command_of, operand_count, setting_of, takes};
+ghost use Rattle.std.specs.Prelude.{◌≡◌, map};
+ghost use Rattle.lls_words.specs.Command.{command_of, operand_count, options_of, setting_of, takes};
+ghost use Rattle.lls_words.specs.Form.{option_name};
+ghost use Rattle.lls_words.specs.Parser.{operand_names};
 
 /// A command.
 #[derive(Clone, Copy, Debug, PartialEq, Eq)]
@@ -27,6 +29,47 @@ pub enum Setting {
     Keep,
     As,
 }
+
+/// The rule and the demands of a problem.
+static PROBLEM_OPTIONS: [Setting; 6] = [
+    Setting::Rule,
+    Setting::Edge,
+    Setting::Symmetry,
+    Setting::Period,
+    Setting::Live,
+    Setting::Differ,
+];
+
+static SEARCH_OPTIONS: [Setting; 9] = [
+    Setting::Rule,
+    Setting::Edge,
+    Setting::Symmetry,
+    Setting::Period,
+    Setting::Live,
+    Setting::Differ,
+    Setting::Budget,
+    Setting::Keep,
+    Setting::As,
+];
+
+static JUDGE_OPTIONS: [Setting; 7] = [
+    Setting::Rule,
+    Setting::Edge,
+    Setting::Symmetry,
+    Setting::Period,
+    Setting::Live,
+    Setting::Differ,
+    Setting::As,
+];
+
+/// How far a search goes.
+static SAT_OPTIONS: [Setting; 2] = [Setting::Budget, Setting::Keep];
+
+static NO_OPTIONS: [Setting; 0] = [];
+
+static ONE_OPERAND: [&str; 1] = ["first"];
+
+static TWO_OPERANDS: [&str; 2] = ["first", "second"];
 
 impl Command {
     /// The command of that name.
@@ -62,27 +105,57 @@ impl Command {
         }
     }
 
+    /// The options that the command takes, in the order of the table.
+    pub fn options(self) -> &'static [Setting]
+        ensures { result.now ≡ options_of self }
+    {
+        match self {
+            Command::Check | Command::Cnf => PROBLEM_OPTIONS.as_slice(),
+            Command::Search => SEARCH_OPTIONS.as_slice(),
+            Command::Judge => JUDGE_OPTIONS.as_slice(),
+            Command::Sat => SAT_OPTIONS.as_slice(),
+            Command::Lrat | Command::Rule => NO_OPTIONS.as_slice(),
+        }
+    }
+
+    /// What the command's operands are called.
+    pub fn operand_names(self) -> &'static [&'static str]
+        ensures { map (λ name. name.now) result.now ≡ operand_names self }
+    {
+        match self {
+            Command::Check | Command::Search | Command::Judge | Command::Sat | Command::Lrat => {
+                TWO_OPERANDS.as_slice()
+            }
+            Command::Cnf | Command::Rule => ONE_OPERAND.as_slice(),
+        }
+    }
+
     /// Whether the command takes the option.
     pub fn takes(self, setting: Setting) -> bool
         ensures { result ≡ takes self setting }
     {
-        match setting {
-            Setting::Rule
-            | Setting::Edge
-            | Setting::Symmetry
-            | Setting::Period
-            | Setting::Live
-            | Setting::Differ => matches!(
-                self,
-                Command::Check | Command::Search | Command::Judge | Command::Cnf,
-            ),
-            Setting::Budget | Setting::Keep => matches!(self, Command::Search | Command::Sat),
-            Setting::As => matches!(self, Command::Search | Command::Judge),
-        }
+        self.options().iter().any(|option| *option == setting)
     }
 }
 
 impl Setting {
+    /// What the option is called, without its two dashes.
+    pub fn name(self) -> &'static str
+        ensures { result.now ≡ option_name self }
+    {
+        match self {
+            Setting::Rule => "rule",
+            Setting::Edge => "edge",
+            Setting::Symmetry => "symmetry",
+            Setting::Period => "period",
+            Setting::Live => "live",
+            Setting::Differ => "differ",
+            Setting::Budget => "budget",
+            Setting::Keep => "keep",
+            Setting::As => "as",
+        }
+    }
+
     /// The option of that name, without its two dashes.
     pub fn from_name(name: &[u8]) -> Option<Setting>
         ensures { result ≡ setting_of name.now }

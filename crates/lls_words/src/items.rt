@@ -38,8 +38,8 @@ impl<'w> Iterator for Items<'w> {
 
     fn next(&mut self) -> Option<Item<'w>> {
         let (word, behind) = self.words.split_first()?;
-        let item = read_item(self.place, word.as_str(), first_bytes(behind));
-        let taken = words_taken(word.as_bytes(), behind.len());
+        let item = read_item(self.place, word.as_str(), first_text(behind));
+        let taken = words_taken(word.as_str(), behind.len());
         self.place += taken as u64;
         self.words = &self.words[taken..];
         Some(item)
@@ -47,18 +47,18 @@ impl<'w> Iterator for Items<'w> {
 }
 
 /// How many words the item of a word takes, behind which stand that many.
-fn words_taken(word: &[u8], behind: usize) -> usize
+fn words_taken(word: &str, behind: usize) -> usize
     ensures { result ≡ words_taken word.now behind }
 {
     if behind > 0 && takes_next(word) { 2 } else { 1 }
 }
 
-/// The bytes of the first word.
-fn first_bytes(words: &[String]) -> Option<&[u8]>
+/// The first word.
+fn first_text(words: &[String]) -> Option<&str>
     ensures { option_copied result ≡ slice_get (map string_bytes words.now) 0 }
 {
     match words.split_first() {
-        Some((first, _)) => Some(first.as_bytes()),
+        Some((first, _)) => Some(first.as_str()),
         None => None,
     }
 }

@@ -3,9 +3,11 @@
 
 mod command;
 mod error;
+mod form;
 mod item;
 mod items;
 mod job;
+mod parser;
 mod scan;
 mod settings;
 mod values;

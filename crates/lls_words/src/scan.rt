@@ -19,7 +19,7 @@ pub struct Given<'w> {
     /// The place of its word, from 1.
     pub place: u64,
     pub setting: Setting,
-    pub value: &'w [u8],
+    pub value: &'w str,
 }
 
 /// The operands and options of a command line, from the left.
@@ -58,11 +58,11 @@ fn setting_at(
     command: Command,
     givens: &[Given],
     place: u64,
-    name: &[u8],
+    name: &str,
 ) -> Result<Setting, WordsError>
     ensures { result ≡ setting_at command (map seen_given givens.now) place (setting_of name.now) }
 {
-    match Setting::from_name(name) {
+    match Setting::from_name(name.as_bytes()) {
         Some(setting) if command.takes(setting) => {
             if is_given(givens, setting) {
                 return Err(WordsError::RepeatedOption(place));
@@ -81,7 +81,7 @@ fn is_given(givens: &[Given], setting: Setting) -> bool
 }
 
 /// The value of an option, which isn't empty and doesn't begin with `-`.
-fn value_at(place: u64, value: Option<&[u8]>) -> Result<&[u8], WordsError>
+fn value_at(place: u64, value: Option<&str>) -> Result<&str, WordsError>
     ensures { seen_value result ≡ value_at place (option_copied value.entry) }
 {
     match value {

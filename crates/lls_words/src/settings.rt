@@ -53,23 +53,22 @@ impl Settings {
         ensures allowed { IfOk result (λ s. AreAllowed s.rule s.demands s.budget) }
     {
         let mut settings = self;
+        let value = given.value.as_bytes();
         let fault = WordsError::BadValue(given.place);
         match given.setting {
-            Setting::Rule => settings.rule = rule_at(given.place, given.value)?,
-            Setting::Edge => settings.demands.edge = edge_in(given.value).ok_or(fault)?,
-            Setting::Symmetry => settings.demands.symmetry = read_symmetry(given.value).ok_or(
-                fault,
-            )?,
-            Setting::Period => settings.demands.period = Some(period_at(given.place, given.value)?),
+            Setting::Rule => settings.rule = rule_at(given.place, value)?,
+            Setting::Edge => settings.demands.edge = edge_in(value).ok_or(fault)?,
+            Setting::Symmetry => settings.demands.symmetry = read_symmetry(value).ok_or(fault)?,
+            Setting::Period => settings.demands.period = Some(period_at(given.place, value)?),
             Setting::Live => {
-                settings.demands.bounds = bounds_at(alloc, given.place, given.value)?;
+                settings.demands.bounds = bounds_at(alloc, given.place, value)?;
             }
             Setting::Differ => {
-                settings.demands.differ = Some(generations_in(given.value).ok_or(fault)?);
+                settings.demands.differ = Some(generations_in(value).ok_or(fault)?);
             }
-            Setting::Budget => settings.budget = budget_at(given.place, given.value)?,
-            Setting::Keep => settings.keep_all = keep_all_in(given.value).ok_or(fault)?,
-            Setting::As => settings.rle = rle_in(given.value).ok_or(fault)?,
+            Setting::Budget => settings.budget = budget_at(given.place, value)?,
+            Setting::Keep => settings.keep_all = keep_all_in(value).ok_or(fault)?,
+            Setting::As => settings.rle = rle_in(value).ok_or(fault)?,
         }
         Ok(settings)
     }

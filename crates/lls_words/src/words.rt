@@ -1,13 +1,16 @@
 // The job of a command line.
 ghost use Rattle.std.specs.Prelude.{◌≡◌, Ok, [], ◌∷◌, map, string_bytes, IfOk};
 ghost use Rattle.lls_base.specs.Results.{and_then, Gives};
+ghost use Rattle.lls_words.specs.Form.{FitsForm};
 ghost use Rattle.lls_words.specs.Job.{defaults, job_with, job_of, names_apart, settled, AreAllowed, KeepsLimits};
 ghost use Rattle.lls_words.specs.Seen.{seen_given, seen_operand, seen_scan};
 
 use crate::command::Command;
 use crate::error::WordsError;
+use crate::form::form_words;
 use crate::item::Operand;
 use crate::job::Job;
+use crate::parser::read_words;
 use crate::scan::{Given, Scan, scan_words};
 use crate::settings::{Settings, rule_at, settle};
 use lls_base::Name;
@@ -189,6 +192,23 @@ fn job_with(alloc: Global, command: Command, scan: &Scan) -> Result<Job, WordsEr
     }
 }
 
+/// The job of a command by its scan: where the operands are as many as the command has, from what
+/// `clap` reads.
+fn scanned_job(alloc: Global, command: Command, scan: &Scan) -> Result<Job, WordsError>
+    requires { FitsForm command (seen_scan scan.now) }
+    ensures job { Gives WordsError.Memory (λ job. job) result
+        (job_with command (seen_scan scan.now).operands (seen_scan scan.now).givens) }
+    ensures limits { IfOk result KeepsLimits }
+{
+    let found = scan.operands.as_slice().len() as u64;
+    if found != command.operand_count() {
+        return Err(WordsError::Operands(command.operand_count(), found));
+    }
+    let form = form_words(alloc, command, scan)?;
+    let read = read_words(alloc, command, scan, &form)?;
+    job_with(alloc, command, &read)
+}
+
 /// The job of the words behind the program's name, or the first fault: of the command, of the words
 /// from the left, of the number of operands, of the values from the left, of the names.
 pub fn read_job(alloc: Global, words: &[String]) -> Result<Job, WordsError>
@@ -202,5 +222,5 @@ pub fn read_job(alloc: Global, words: &[String]) -> Result<Job, WordsError>
         return Err(WordsError::UnknownCommand);
     };
     let scan = scan_words(alloc, command, behind)?;
-    job_with(alloc, command, &scan)
+    scanned_job(alloc, command, &scan)
 }

@@ -1,0 +1,86 @@
+-- What holds of each option, by the table of all.
+use Rattle.std.proofs.Common.{◌≡◌, ℕ, Bool, true, false, List, [], ◌∷◌, map, get_or, codes, Option, Some, None, refl, ap, ◌∙◌}
+use Rattle.std.specs.Prelude.{if◌then◌else◌}
+use Rattle.std.specs.Str.{bytes_eq}
+use Rattle.clap.specs.Lexer.{long_of}
+use Rattle.clap.specs.Walk.{Rule, arg_by_long}
+use Rattle.clap.specs.Simple.{built, filled, is_simple}
+use Rattle.lls_words.specs.declared.command.Command.{Command}
+use Rattle.lls_words.specs.declared.command.Command.TheVariants as commands
+use Rattle.lls_words.specs.declared.command.Setting.{Setting}
+use Rattle.lls_words.specs.declared.command.Setting.TheVariants as settings
+use Rattle.lls_words.specs.Command.{same_setting, takes}
+use Rattle.lls_words.specs.Form.{option_name, option_word}
+use Rattle.lls_words.specs.Parser.{parser_of, option_rule}
+
+abbrev pub all_options : List Setting
+all_options = settings.Rule ∷ settings.Edge ∷ settings.Symmetry ∷ settings.Period ∷ settings.Live ∷ settings.Differ ∷ settings.Budget ∷ settings.Keep ∷ settings.As ∷ []
+
+-- two functions that agree along the table agree at each option
+pub by_table : {X : Type 0} (f g : Setting → X) → map f all_options ≡ map g all_options → (s : Setting) → f s ≡ g s
+by_table f g same settings.Rule = ap (λ xs. get_or xs 0 (f settings.Rule)) same
+by_table f g same settings.Edge = ap (λ xs. get_or xs 1 (f settings.Rule)) same
+by_table f g same settings.Symmetry = ap (λ xs. get_or xs 2 (f settings.Rule)) same
+by_table f g same settings.Period = ap (λ xs. get_or xs 3 (f settings.Rule)) same
+by_table f g same settings.Live = ap (λ xs. get_or xs 4 (f settings.Rule)) same
+by_table f g same settings.Differ = ap (λ xs. get_or xs 5 (f settings.Rule)) same
+by_table f g same settings.Budget = ap (λ xs. get_or xs 6 (f settings.Rule)) same
+by_table f g same settings.Keep = ap (λ xs. get_or xs 7 (f settings.Rule)) same
+by_table f g same settings.As = ap (λ xs. get_or xs 8 (f settings.Rule)) same
+
+-- options are the same by their names
+pub same_names : (a b : Setting) → bytes_eq (option_name a) (option_name b) ≡ same_setting a b
+same_names settings.Rule b = by_table (λ t. bytes_eq (option_name settings.Rule) (option_name t)) (λ t. same_setting settings.Rule t) refl b
+same_names settings.Edge b = by_table (λ t. bytes_eq (option_name settings.Edge) (option_name t)) (λ t. same_setting settings.Edge t) refl b
+same_names settings.Symmetry b = by_table (λ t. bytes_eq (option_name settings.Symmetry) (option_name t)) (λ t. same_setting settings.Symmetry t) refl b
+same_names settings.Period b = by_table (λ t. bytes_eq (option_name settings.Period) (option_name t)) (λ t. same_setting settings.Period t) refl b
+same_names settings.Live b = by_table (λ t. bytes_eq (option_name settings.Live) (option_name t)) (λ t. same_setting settings.Live t) refl b
+same_names settings.Differ b = by_table (λ t. bytes_eq (option_name settings.Differ) (option_name t)) (λ t. same_setting settings.Differ t) refl b
+same_names settings.Budget b = by_table (λ t. bytes_eq (option_name settings.Budget) (option_name t)) (λ t. same_setting settings.Budget t) refl b
+same_names settings.Keep b = by_table (λ t. bytes_eq (option_name settings.Keep) (option_name t)) (λ t. same_setting settings.Keep t) refl b
+same_names settings.As b = by_table (λ t. bytes_eq (option_name settings.As) (option_name t)) (λ t. same_setting settings.As t) refl b
+
+pub not_first : (s : Setting) → bytes_eq (option_name s) (codes "first") ≡ false
+not_first = by_table _ _ refl
+
+pub not_second : (s : Setting) → bytes_eq (option_name s) (codes "second") ≡ false
+not_second = by_table _ _ refl
+
+-- how an option's word is read
+pub long_of-option : (s : Setting) (value : List ℕ) → long_of (option_word s value) ≡ Some (option_name s, Some value)
+long_of-option s value = by_table (λ s. long_of (option_word s value)) (λ s. Some (option_name s, Some value)) refl s
+
+pub no_dashes : (s : Setting) (value : List ℕ) → bytes_eq (option_word s value) (45 ∷ 45 ∷ []) ≡ false
+no_dashes s value = by_table (λ s. bytes_eq (option_word s value) (45 ∷ 45 ∷ [])) (λ _. false) refl s
+
+abbrev pub rules : Command → List Rule
+rules command = (built (parser_of command)).top.rules
+
+abbrev pub found_if : Bool → Setting → Option Rule
+found_if b s = if b then Some (filled (option_rule s)) else None
+
+-- the parser of a command has the options that the command takes
+abbrev pub Finds : Command → Type 0
+Finds command = map (λ s. arg_by_long (rules command) (option_name s)) all_options ≡ map (λ s. found_if (takes command s) s) all_options
+
+finds : (command : Command) → Finds command
+finds commands.Check = refl
+finds commands.Search = refl
+finds commands.Judge = refl
+finds commands.Cnf = refl
+finds commands.Sat = refl
+finds commands.Lrat = refl
+finds commands.Rule = refl
+
+pub arg_by_long-option : (command : Command) (s : Setting) → takes command s ≡ true → arg_by_long (rules command) (option_name s) ≡ Some (filled (option_rule s))
+arg_by_long-option command s taken =
+    by_table (λ s. arg_by_long (rules command) (option_name s)) (λ s. found_if (takes command s) s) (finds command) s ∙ ap (λ b. found_if b s) taken
+
+pub is_simple-parser : (command : Command) → is_simple (parser_of command) ≡ true
+is_simple-parser commands.Check = refl
+is_simple-parser commands.Search = refl
+is_simple-parser commands.Judge = refl
+is_simple-parser commands.Cnf = refl
+is_simple-parser commands.Sat = refl
+is_simple-parser commands.Lrat = refl
+is_simple-parser commands.Rule = refl

@@ -1,0 +1,71 @@
+// The one form of the words of a command: each given option as one word with its value, in the
+// order of the table, then the operands.
+ghost use Rattle.std.specs.Prelude.{◌≡◌, find, map, string_bytes, IfOk};
+ghost use Rattle.std.specs.Option.{option_copied};
+ghost use Rattle.lls_words.specs.Command.{same_setting};
+ghost use Rattle.lls_words.specs.Form.{form_words, option_word, option_words, value_of};
+ghost use Rattle.lls_words.specs.Seen.{seen_given, seen_scan};
+
+use crate::command::{Command, Setting};
+use crate::item::Operand;
+use crate::scan::{Given, Scan};
+use std::alloc::{AllocError, Global};
+
+/// The option as it is given, where it is.
+fn given_of<'w>(givens: &[Given<'w>], setting: Setting) -> Option<Given<'w>>
+    ensures { result ≡ find (λ given. same_setting given.setting setting) givens.now }
+{
+    for given in givens {
+        if given.setting == setting {
+            return Some(*given);
+        }
+    }
+    None
+}
+
+#[tactic(auto, using(crate::proofs::Lists::mapped))]
+/// The value of an option, where it is given.
+fn value_of<'w>(givens: &[Given<'w>], setting: Setting) -> Option<&'w str>
+    ensures { option_copied result ≡ value_of (map seen_given givens.now) setting }
+{
+    match given_of(givens, setting) {
+        Some(given) => Some(given.value),
+        None => None,
+    }
+}
+
+/// An option and its value in one word.
+fn option_word(alloc: Global, setting: Setting, value: &str) -> Result<String, AllocError>
+    ensures { IfOk result (λ word. string_bytes word ≡ option_word setting value.now) }
+{
+    let name = setting.name();
+    format!(in alloc; "--{name}={value}")
+}
+
+/// The given ones of these options, in their order.
+fn option_words(
+    alloc: Global,
+    settings: &[Setting],
+    givens: &[Given],
+) -> Result<Vec<String>, AllocError>
+    ensures { IfOk result (λ words. map string_bytes words.items ≡ option_words (map seen_given givens.now) settings.now) }
+{
+    let mut words = Vec::new(alloc);
+    for setting in settings {
+        if let Some(value) = value_of(givens, *setting) {
+            words.push(option_word(alloc, *setting, value)?)?;
+        }
+    }
+    Ok(words)
+}
+
+/// The words of a command in the one form.
+pub fn form_words(alloc: Global, command: Command, scan: &Scan) -> Result<Vec<String>, AllocError>
+    ensures { IfOk result (λ words. map string_bytes words.items ≡ form_words command (seen_scan scan.now)) }
+{
+    let mut words = option_words(alloc, command.options(), &scan.givens)?;
+    for operand in &scan.operands {
+        words.push(String::from_str(alloc, operand.word)?)?;
+    }
+    Ok(words)
+}
