@@ -1,0 +1,266 @@
+#!/usr/bin/env python3
+"""Says what a command line of `lls` asks for, or its first fault.
+
+    words.py [WORD..]
+    words.py --random COUNT SEED
+
+The first form prints the job of the words behind the program's name, or `lls: words: ` and the fault. The second prints COUNT
+lines, each an answer, a tab and a command line whose words are quoted for a shell; the answer is `ok` or the fault. Names of
+files in them are of no file.
+
+It is written from docs/formats.md, and shares nothing with the program: lines that it makes are given to both.
+"""
+import random
+import re
+import shlex
+import sys
+
+PROBLEM = ["rule", "edge", "symmetry", "period", "live", "differ"]
+COMMANDS = {
+    "check": (["search", "proof"], PROBLEM),
+    "search": (["search", "proof"], PROBLEM + ["budget", "keep", "as"]),
+    "judge": (["search", "pattern"], PROBLEM + ["as"]),
+    "cnf": (["search"], PROBLEM),
+    "sat": (["formula", "proof"], ["budget", "keep"]),
+    "lrat": (["formula", "proof"], []),
+    "rule": (["text"], []),
+}
+# the commands that write a proof, which may not have the name of what they read
+WRITERS = {"search", "sat"}
+CHOICES = {
+    "edge": ["closed", "open"],
+    "symmetry": ["C1", "C2", "C4", "D2-", "D2|", "D2\\", "D2/", "D4+", "D4x", "D8"],
+    "keep": ["all", "half"],
+    "as": ["rows", "rle"],
+}
+# Hensel's letters by the number of live neighbours
+LETTERS = ["", "ce", "aceikn", "aceijknqry", "aceijknqrtwyz", "aceijknqry", "aceikn", "ce", ""]
+
+
+class Fault(Exception):
+    """The first fault of a command line."""
+
+
+def number(text, low, high):
+    """The number that a text writes in at most twenty digits, where it lies between the two."""
+    if not re.fullmatch("[0-9]{1,20}", text) or not low <= int(text) <= high:
+        raise ValueError(text)
+    return int(text)
+
+
+def shift(text):
+    return -number(text[1:], 0, 64) if text[:1] == "-" else number(text, 0, 64)
+
+
+def period(text):
+    parts = text.split(",")
+    if len(parts) == 1:
+        return (number(text, 1, 63), 0, 0)
+    if len(parts) != 3:
+        raise ValueError(text)
+    return (number(parts[0], 1, 63), shift(parts[1]), shift(parts[2]))
+
+
+def bound(text):
+    found = re.fullmatch("([0-9]+):([0-9]*)-([0-9]*)", text)
+    if not found:
+        raise ValueError(text)
+    generation, low, high = found.groups()
+    return (
+        number(generation, 0, 63),
+        number(low, 0, 8192) if low else 0,
+        number(high, 0, 8192) if high else None,
+    )
+
+
+def generations(text):
+    first, second = text.split(",")
+    return (number(first, 0, 63), number(second, 0, 63))
+
+
+def side_fault(side, start):
+    """The first fault of one side of a rule text, whose first byte stands in this column."""
+    seen, count, letters = set(), None, None
+    for at, char in enumerate(side):
+        column = start + at
+        if char in "012345678":
+            if char in seen:
+                return ("RepeatedDigit", column)
+            seen.add(char)
+            count, letters = int(char), ""
+        elif char == "-" and count is not None and side[at - 1] == str(count):
+            if not re.match("[a-z]", side[at + 1 :]):
+                return ("NoLetters", column)
+        elif not re.fullmatch("[a-z]", char):
+            return ("Stray", column)
+        elif count is None or char not in LETTERS[count]:
+            return ("BadLetter", column)
+        elif char in letters:
+            return ("RepeatedLetter", column)
+        else:
+            letters += char
+    return None
+
+
+def rule_fault(text):
+    """The first fault of a rule text, and its column, which counts bytes."""
+    text = text.encode(errors="surrogateescape").decode("latin-1")
+    if text[:1] in ("B", "b"):
+        birth = re.match("[^/Ss]*", text[1:]).group()
+        fault = side_fault(birth, 2)
+        column = 2 + len(birth)
+        if not fault and text[column - 1 : column] == "/":
+            column += 1
+        if not fault and text[column - 1 : column] not in ("S", "s"):
+            fault = ("Stray", column)
+        return fault or side_fault(text[column:], column + 1)
+    survival, slash, birth = text.partition("/")
+    fault = side_fault(survival, 1)
+    if not fault and not slash:
+        fault = ("Stray", len(text) + 1)
+    return fault or side_fault(birth, len(survival) + 2)
+
+
+def value(place, option, text):
+    """What the value of an option says."""
+    if option == "rule":
+        fault = rule_fault(text)
+        if fault:
+            raise Fault(f"{fault[0]} {place} {fault[1]}")
+        return text
+    try:
+        if option in CHOICES:
+            return CHOICES[option][CHOICES[option].index(text)]
+        if option == "period":
+            return period(text)
+        if option == "live":
+            return [bound(part) for part in text.split(",")]
+        if option == "differ":
+            return generations(text)
+        return number(text, 0, 10_000_000)
+    except ValueError:
+        raise Fault(f"BadValue {place}") from None
+
+
+def is_plain(word):
+    return word != "" and word[0] != "-"
+
+
+def scan(words, options):
+    """The operands and the options that are given, each with its place."""
+    operands, given, at = [], {}, 1
+    while at < len(words):
+        word, place = words[at], at + 1
+        at += 1
+        if is_plain(word):
+            operands.append((place, word))
+            continue
+        if not word.startswith("--") or word == "--":
+            raise Fault(f"BadWord {place}")
+        name, equals, text = word[2:].partition("=")
+        if name not in options:
+            raise Fault(f"UnknownOption {place}")
+        if name in given:
+            raise Fault(f"RepeatedOption {place}")
+        if not equals:
+            text = words[at] if at < len(words) else ""
+            at += 1
+        if not is_plain(text):
+            raise Fault(f"MissingValue {place}")
+        given[name] = (place, text)
+    return operands, given
+
+
+def job(words):
+    """The command that words name, and the values of its operands and options."""
+    if not words:
+        raise Fault("NoCommand")
+    if words[0] not in COMMANDS:
+        raise Fault("UnknownCommand")
+    names, options = COMMANDS[words[0]]
+    operands, given = scan(words, options)
+    if len(operands) != len(names):
+        raise Fault(f"Operands {len(names)} {len(operands)}")
+    values = {name: value(place, name, text) for name, (place, text) in given.items()}
+    for name, (place, text) in zip(names, operands):
+        values[name] = value(place, "rule", text) if name == "text" else text
+    if words[0] in WRITERS and operands[0][1] == operands[1][1]:
+        raise Fault(f"SameName {operands[1][0]}")
+    return words[0], values
+
+
+def answer(words):
+    try:
+        job(words)
+    except Fault as fault:
+        return str(fault)
+    return "ok"
+
+
+GOOD = {
+    "rule": ["B3/S23", "b36s23", "23/3", "B2-a/S12", "B3/S2-i34q", "/", "B/S", "B0123478/S01234678"],
+    "period": ["1", "63", "4,1,-1", "04,-64,64", "2,0,0", "00000000000000000007"],
+    "live": ["0:1-2", "0:-", "63:-8192", "0:1-,2:-7", "1:3-2"],
+    "differ": ["0,1", "63,0", "5,5"],
+    "budget": ["0", "10000000", "7", "00000000000000000100"],
+    **CHOICES,
+}
+BAD = {
+    "rule": ["B9/S", "B1k/S", "B33/S", "B2aa/S", "B2-/S", "B3", "3", "B3/23", "B2-3/S", "Ba/S", "B3S2/3", "23/3/", "B3//S", "2--a/3", "8c/"],
+    "period": ["0", "64", "4,1", "4,1,1,1", "4,65,0", "4,0,-65", "4,+1,0", "4,,1", "4,--1,0", "000000000000000000004", "x"],
+    "live": ["0", "0:", "0:1", "1-2", ":1-2", "64:1-2", "0:8193-", "0:1-2-3", "0:1:2", "0:1-2,", ",0:1-2", "0:000000000000000000001-"],
+    "differ": ["0", "0,64", "0,1,2", "0,-1", ","],
+    "budget": ["10000001", "1.5", "000000000000000000007", "all"],
+    "edge": ["shut", "Open", "closed,open"],
+    "symmetry": ["C3", "c2", "D2", "D8 "],
+    "keep": ["some", "All"],
+    "as": ["RLE", "row"],
+}
+ODD = ["", "-", "--", "-x", "-4", "---", "--best", "--best=1", "--=x", "--edge=", "--rule=-", "--help", "--edge", "--keep"]
+
+
+def some_line(choose):
+    """A random command line: of a right one, perhaps with a few words changed."""
+    command = choose.choice(list(COMMANDS))
+    names, options = COMMANDS[command]
+    chosen = [name for name in options if choose.random() < 0.35]
+    if choose.random() < 0.1:
+        chosen.append(choose.choice(list(GOOD)))
+    parts = []
+    for name in names:
+        good = choose.random() < 0.4
+        parts.append([choose.choice(GOOD["rule"] if good else BAD["rule"]) if name == "text" else "no-" + choose.choice("abcde")])
+    for name in chosen:
+        text = choose.choice(GOOD[name] if choose.random() < 0.75 else BAD[name])
+        parts.append([f"--{name}={text}"] if choose.random() < 0.5 else [f"--{name}", text])
+    choose.shuffle(parts)
+    words = [command] + [word for part in parts for word in part]
+    for _ in range(choose.choice([0, 0, 0, 1, 1, 2])):
+        at = choose.randrange(1, len(words) + 1)
+        if choose.random() < 0.5:
+            words.insert(at, choose.choice(ODD + ["no-x", "no=x", "a--b"]))
+        elif len(words) > 1:
+            del words[min(at, len(words) - 1)]
+    if choose.random() < 0.02:
+        words[0] = choose.choice(["guess", "Check", "--help", "--edge=open"])
+    return words
+
+
+def main():
+    words = sys.argv[1:]
+    if words[:1] == ["--random"]:
+        choose = random.Random(int(words[2]))
+        for _ in range(int(words[1])):
+            line = some_line(choose)
+            print(answer(line), shlex.join(line), sep="\t")
+        return
+    try:
+        command, values = job(words)
+    except Fault as fault:
+        print("lls: words:", fault)
+        sys.exit(2)
+    print(command, *(f"{name}={text!r}" for name, text in values.items()))
+
+
+if __name__ == "__main__":
+    main()
