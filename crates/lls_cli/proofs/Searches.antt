@@ -1,7 +1,8 @@
 -- What a search comes to is a right answer.
-use Rattle.std.proofs.Common.{◌≡◌, ◌≤◌, ◌+◌, ◌&&◌, ℕ, Bool, true, List, [], ◌∷◌, length, refl, sym, ap, subst, ◌∙◌, arith}
+use Rattle.std.proofs.Common.{◌≡◌, ◌≤◌, ◌+◌, ◌++◌, ◌&&◌, ℕ, Bool, true, List, [], ◌∷◌, length, refl, sym, ap, subst, ◌∙◌, arith}
 use Rattle.std.specs.Prelude.{codes}
 use Rattle.std.specs.List.{list_all}
+use Rattle.std.proofs.lemmas.List.{length-append}
 use Rattle.lls_lit.specs.Formula.{Cnf, IsUnsatisfiable}
 use Rattle.lls_grid.specs.History.{History}
 use Rattle.lls_problem.specs.Problem.{PosedProblem}
@@ -27,12 +28,17 @@ numbered_additions n [] numbered = refl
 numbered_additions n (Add id lits hints ∷ steps) numbered = numbered_additions (n + 1) steps numbered.1
 numbered_additions n (Del ids ∷ steps) numbered = absurd numbered
 
+-- steps with one more behind them
+one_more : (learnt : List Step) (last : Step) (steps : List Step) (budget : ℕ) → steps ≡ learnt ++ last ∷ [] → length learnt ≤ budget → length steps ≤ budget + 1
+one_more learnt last steps budget ends within = omega (arith, ap length ends, length-append learnt (last ∷ []), within)
+
 -- the file of a refutation has a proof
-proof_of : (formula : Cnf) (effort : Effort) (steps : List Step) (file : NamedFile) → file ≡ record { name = effort.proof; bytes = log_text steps } → IsRefutation formula steps
+proof_of : (formula : Cnf) (effort : Effort) (steps : List Step) (file : NamedFile) → file ≡ record { name = effort.proof; bytes = log_text steps } → IsRefutation formula effort.budget steps
     → verdict formula file.bytes ≡ Accepted → HasProof formula effort file
 proof_of formula effort steps file is refutation accepted = record {
   steps = steps;
   log = record { file_is = is; all_kept = λ all. numbered_additions _ steps refutation.numbered_on };
+  within = one_more refutation.learnt refutation.last steps effort.budget refutation.ends refutation.log.within;
   accepted = accepted;
 }
 
@@ -54,7 +60,7 @@ satisfied_answer formula effort values answer model is =
     subst (IsAnswer (decides formula effort)) (sym is) (record { answers = satisfied values model; holds = (values, model) })
 
 pub unsatisfied_answer : (formula : Cnf) (effort : Effort) (steps : List Step) (file : NamedFile) (answer : GivenAnswer) → file ≡ record { name = effort.proof; bytes = log_text steps }
-    → IsRefutation formula steps → verdict formula file.bytes ≡ Accepted → IsUnsatisfiable formula → answer ≡ said_behind file statuses.NoPattern (codes "s UNSATISFIABLE")
+    → IsRefutation formula effort.budget steps → verdict formula file.bytes ≡ Accepted → IsUnsatisfiable formula → answer ≡ said_behind file statuses.NoPattern (codes "s UNSATISFIABLE")
     → IsAnswer (decides formula effort) answer
 unsatisfied_answer formula effort steps file answer named refutation accepted none is =
     subst (IsAnswer (decides formula effort)) (sym is) (record { answers = unsatisfied file (proof_of formula effort steps file named refutation accepted); holds = none })
@@ -70,7 +76,7 @@ found_answer problem effort rle history answer solution is =
     subst (IsAnswer (searches problem effort rle)) (sym is) (record { answers = found history solution; holds = (history, solution, plane_law problem history solution) })
 
 pub absent_answer : (problem : PosedProblem) (effort : Effort) (rle : Bool) (steps : List Step) (file : NamedFile) → file ≡ record { name = effort.proof; bytes = log_text steps }
-    → IsRefutation (formula_of problem) steps → verdict (formula_of problem) file.bytes ≡ Accepted → IsAbsent problem → IsAnswer (searches problem effort rle) (none_behind file)
+    → IsRefutation (formula_of problem) effort.budget steps → verdict (formula_of problem) file.bytes ≡ Accepted → IsAbsent problem → IsAnswer (searches problem effort rle) (none_behind file)
 absent_answer problem effort rle steps file named refutation accepted none =
     record { answers = absent file (proof_of (formula_of problem) effort steps file named refutation accepted); holds = none }
 

@@ -1,5 +1,5 @@
 -- A log that grows: good steps, and the clauses that are live after them.
-use Rattle.std.proofs.Common.{◌≡◌, ℕ, ◌+◌, ◌<◌, Bool, true, false, not, List, [], ◌∷◌, ◌++◌, length, None, refl, sym, ap, subst, ◌∙◌, arith, append_assoc}
+use Rattle.std.proofs.Common.{◌≡◌, ℕ, ◌+◌, ◌<◌, ◌≤◌, Bool, true, false, not, List, [], ◌∷◌, ◌++◌, length, None, refl, sym, ap, subst, ◌∙◌, arith, append_assoc}
 use Rattle.std.specs.Prelude.{ℤ, fold, count_by, ◌||◌, ◌&&◌}
 use Rattle.std.specs.List.{list_all}
 use Rattle.std.proofs.lemmas.Bool.{and_from, and_parts}
@@ -59,8 +59,14 @@ accepted_from state (step ∷ steps) last each good empty =
       or_true true = refl
       or_true false = refl
 
-pub refutation_push : (formula : Cnf) (steps : List Step) (id : ℕ) (hints : List ℤ) → IsGoodLog formula steps → length formula.clauses + 1 + length steps ≡ id → fault_of (live_after formula steps) (Add id [] hints) ≡ None → IsRefutation formula (steps ++ Add id [] hints ∷ [])
-refutation_push formula steps id hints h is good = record {
+pub refutation_push : (formula : Cnf) (budget : ℕ) (steps : List Step) (id : ℕ) (hints : List ℤ) → IsGoodLog formula steps → length steps ≤ budget → length formula.clauses + 1 + length steps ≡ id
+    → fault_of (live_after formula steps) (Add id [] hints) ≡ None → IsRefutation formula budget (steps ++ Add id [] hints ∷ [])
+refutation_push formula budget steps id hints h within is good = record {
+  learnt = steps;
+  last = Add id [] hints;
+  log = record { log = h; within = within };
+  ends = refl;
+  empties = refl;
   accepted = accepted_from (log_start formula) steps (Add id [] hints) h.good good refl;
   numbered_on = numbered_push (length formula.clauses + 1) steps id [] hints h.numbered_on is;
 }

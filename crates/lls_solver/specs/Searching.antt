@@ -1,5 +1,5 @@
 -- A search under way: what holds of its clauses and of its log.
-use Rattle.std.specs.Prelude.{◌≡◌, ℕ, ◌+◌, Bool, true, not, List, [], ◌∷◌, ◌++◌, map, length}
+use Rattle.std.specs.Prelude.{◌≡◌, ◌≤◌, ℕ, ◌+◌, Bool, true, not, List, [], ◌∷◌, ◌++◌, map, length}
 use Rattle.std.specs.List.{list_all, range_with_len}
 use Rattle.lls_lit.specs.Formula.{Cnf, satisfies}
 use Rattle.lls_prooflog.specs.UnitWalk.{Live, numbered}
@@ -51,8 +51,18 @@ pub record IsModel (formula : Cnf) (values : List Bool) : Type 0 where
   pub many : length values ≡ formula.vars
   pub satisfied : satisfies values formula.clauses ≡ true
 
--- a log that shows that nothing satisfies the formula: good additions, and the empty clause behind them
-pub record IsRefutation (formula : Cnf) (steps : List Step) : Type 0 where
+-- a good log of what was learnt within a budget
+pub record IsLogWithin (formula : Cnf) (budget : ℕ) (steps : List Step) : Type 0 where
+  pub log : IsGoodLog formula steps
+  pub within : length steps ≤ budget
+
+-- a log that shows that nothing satisfies the formula: what was learnt within a budget, and the empty clause behind it
+pub record IsRefutation (formula : Cnf) (budget : ℕ) (steps : List Step) : Type 0 where
+  pub learnt : List Step
+  pub last : Step
+  pub log : IsLogWithin formula budget learnt
+  pub ends : steps ≡ learnt ++ last ∷ []
+  pub empties : is_empty_addition last ≡ true
   pub accepted : are_accepted (numbered formula.clauses) steps ≡ true
   pub numbered_on : AreNumberedFrom (length formula.clauses + 1) steps
 

@@ -1,10 +1,10 @@
 // The search for an assignment: descents and conflicts in turn.
-ghost use Rattle.std.specs.Prelude.{◌≡◌, ◌≤◌, ◌<◌, ◌+◌, Bool, true, List, [], length, Ok, IfOk, OnOk, OnErr};
+ghost use Rattle.std.specs.Prelude.{◌≡◌, ◌≤◌, ◌<◌, ◌+◌, ℕ, Bool, true, List, [], length, Ok, IfOk, OnOk, OnErr};
 ghost use Rattle.lls_prooflog.specs.Spent.{SomeCanBeLearnt, live_after};
 ghost use Rattle.lls_store.specs.Store.{IsConflict};
 ghost use Rattle.lls_analyse.specs.Learnt.{IsCurrentConflict};
 ghost use Rattle.lls_solver.specs.Course.{IsComplete};
-ghost use Rattle.lls_solver.specs.Searching.{HoldsFormula, IsExhausted, IsGoodLog, IsModel, IsRefutation, IsSearching};
+ghost use Rattle.lls_solver.specs.Searching.{HoldsFormula, IsExhausted, IsLogWithin, IsModel, IsRefutation, IsSearching};
 
 use crate::conflict::go_to_conflict;
 use crate::course::Course;
@@ -26,7 +26,7 @@ pub const MOST_BUDGET: u32 = 10_000_000;
 /// (Marques-Silva, Sakallah, *GRASP*, 1996; Eén, Sörensson, *An Extensible SAT-solver*, 2003). The log gets the clauses that
 /// were learnt, as many as the budget allows, each as a step of a proof; their ids run upwards from the number of the formula's
 /// clauses plus 1. Unit propagation over the clauses before it gives none of them. After `Undecided` one more could be learnt.
-/// After `Memory` the log holds good steps.
+/// After `Memory` the log holds what was learnt until then.
 pub fn solve(
     alloc: Global,
     formula: &Formula,
@@ -36,9 +36,10 @@ pub fn solve(
     requires none { log.old.steps ≡ [] }
     requires budget { budget ≤ MOST_BUDGET }
     ensures sat { (values : List Bool) → result ≡ Ok (Outcome.Sat values) → IsModel formula.now values }
-    ensures unsat { result ≡ Ok Outcome.Unsat → IsRefutation formula.now log.new.steps }
+    ensures learnt { (values : List Bool) → result ≡ Ok (Outcome.Sat values) → IsLogWithin formula.now budget log.new.steps }
+    ensures unsat { result ≡ Ok Outcome.Unsat → IsRefutation formula.now budget log.new.steps }
     ensures undecided { result ≡ Ok Outcome.Undecided → IsExhausted formula.now budget log.new.steps }
-    ensures memory { OnErr result (IsGoodLog formula.now log.new.steps) }
+    ensures memory { OnErr result (IsLogWithin formula.now budget log.new.steps) }
 {
     let vars = formula.vars();
     let mut store = ScanStore::new(alloc, vars);
@@ -72,9 +73,10 @@ pub(crate) fn solve_over<S: Store>(
     requires none { log.old.steps ≡ [] }
     requires budget { budget ≤ MOST_BUDGET }
     ensures sat { (values : List Bool) → result ≡ Ok (Outcome.Sat values) → IsModel formula.now values }
-    ensures unsat { result ≡ Ok Outcome.Unsat → IsRefutation formula.now log.new.steps }
+    ensures learnt { (values : List Bool) → result ≡ Ok (Outcome.Sat values) → IsLogWithin formula.now budget log.new.steps }
+    ensures unsat { result ≡ Ok Outcome.Unsat → IsRefutation formula.now budget log.new.steps }
     ensures undecided { result ≡ Ok Outcome.Undecided → IsExhausted formula.now budget log.new.steps }
-    ensures memory { OnErr result (IsGoodLog formula.now log.new.steps) }
+    ensures memory { OnErr result (IsLogWithin formula.now budget log.new.steps) }
 {
     loop {
         let conflict = match descend(store, course) {
@@ -184,7 +186,7 @@ fn refute_by<S: Store>(
     requires few { length log.old.steps ≤ MOST_BUDGET }
     requires level { course.now.trail.current ≡ 0 }
     requires conflict { IsConflict (S.state store.old).live course.now.trail conflict }
-    ensures refutation { OnOk result (IsRefutation formula.now log.new.steps) }
+    ensures refutation { OnOk result ((budget : ℕ) → length log.old.steps ≤ budget → IsRefutation formula.now budget log.new.steps) }
     ensures err { OnErr result (log.new.steps ≡ log.old.steps) }
 {
     analyser.reserve_conflict(store, log)?;

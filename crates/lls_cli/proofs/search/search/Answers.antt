@@ -30,8 +30,8 @@ returns-in-Unsat-clause-right c =
     let file = seen_file c.in_ok-log_file-in-Unsat.field-0 in
     let made = c.in_ok-log_file-in-Unsat.ensures in
     let checked = c.in_ok-checked-in-Unsat.ensures in
-    let refutation : IsRefutation (formula_of problem) c.solve.new.log.steps =
-    subst (λ (f : Cnf). IsRefutation f c.solve.new.log.steps) c.requires.formula (c.in_ok-assignment.ensures.unsat (ap Ok c.in-Unsat.is)) in
+    let refutation : IsRefutation (formula_of problem) c.args.effort.budget c.solve.new.log.steps =
+    subst (λ (f : Cnf). IsRefutation f c.args.effort.budget c.solve.new.log.steps) c.requires.formula (c.in_ok-assignment.ensures.unsat (ap Ok c.in-Unsat.is)) in
     let accepted : verdict (formula_of problem) file.bytes ≡ Accepted =
     subst (λ (f : Cnf). verdict f file.bytes ≡ Accepted) c.requires.formula (checked.accepted file.bytes made.read_again) in
     let none : IsUnsatisfiable (formula_of problem) = subst IsUnsatisfiable c.requires.formula checked.unsatisfiable in

@@ -37,5 +37,5 @@ returns-clause-refutation g c =
     let good = refutes.step.good (live_after formula steps) spelled in
     let count : c.additions.result ≡ count_by is_addition steps = c.additions.ensures ∙ ap (count_by is_addition) same in
     let next : length formula.clauses + 1 + length steps ≡ id = omega (arith, c.len.ensures.len, count, count-additions steps h.log.additions) in
-    subst (IsRefutation formula) (sym (refutes.step.logged ∙ ap (λ (ss : List Step). ss ++ Add id [] refutes.hints ∷ []) same))
-    (refutation_push formula steps id refutes.hints h.log next good)
+    λ budget within. subst (IsRefutation formula budget) (sym (refutes.step.logged ∙ ap (λ (ss : List Step). ss ++ Add id [] refutes.hints ∷ []) same))
+    (refutation_push formula budget steps id refutes.hints h.log within next good)
