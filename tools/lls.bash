@@ -35,7 +35,7 @@ _lls_reply() {
 }
 
 _lls() {
-    local current=${COMP_WORDS[COMP_CWORD]} previous=${COMP_WORDS[COMP_CWORD - 1]} commands='check cnf judge lrat rule sat search'
+    local current=${COMP_WORDS[COMP_CWORD]} previous=${COMP_WORDS[COMP_CWORD - 1]} commands='check cnf judge lrat make rule sat search'
     local first=1 words=()
     [ "${COMP_WORDS[1]-}" != --unproved ] || first=2
     # `--edge=open` comes as three words.

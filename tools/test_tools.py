@@ -283,6 +283,8 @@ class Building(unittest.TestCase):
         self.assertEqual(out.split("\n")[-7:-1], ["search", f"{self.top}/q.lls", "--rule", "B3/S23", "--edge=open", "/p"])
         self.assertEqual(err, "lls: compiling without proofs; nothing is proved of this answer\nlls: words: Fault\n")
         self.assertEqual(self.lls(rt, "--unproved", "rule", "B3/S23")[1].split("\n")[-3:-1], ["rule", "B3/S23"])
+        made = ["make", "0", "2", f"{self.top}/f", "/p"]
+        self.assertEqual(self.lls(rt, "--unproved", "make", "0", "2", "f", "/p")[1].split("\n")[-6:-1], made)
 
     def test_unproved_without_an_answer(self):
         status, out, err = self.lls("echo 'src/main.rt:1:1: error' >&2; echo 'run=none proved=no' >&2; exit 0", "--unproved", "rule")

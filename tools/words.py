@@ -6,7 +6,7 @@
 
 The first form prints the job of the words behind the program's name, or `lls: words: ` and the fault. The second prints COUNT
 lines, each an answer, a tab and a command line whose words are quoted for a shell; the answer is `ok` or the fault. Names of
-files in them are of no file.
+files in right ones are in a folder that isn't there, so that the program can neither read nor make one.
 
 It is written from docs/formats.md, and shares nothing with the program: lines that it makes are given to both.
 """
@@ -24,9 +24,14 @@ COMMANDS = {
     "sat": (["formula", "proof"], ["budget", "keep"]),
     "lrat": (["formula", "proof"], []),
     "rule": (["text"], []),
+    "make": (["seed", "size", "search", "proof"], []),
 }
-# the commands that write a proof, which may not have the name of what they read
-WRITERS = {"search", "sat"}
+# the commands that write a proof, which may not have the name of the file before it
+WRITERS = {"search", "sat", "make"}
+# the numbers that may be said
+RANGES = {"budget": (0, 10_000_000), "seed": (0, 2**64 - 1), "size": (1, 64)}
+# the operands that are no names of files
+VALUES = {"text": "rule", "seed": "seed", "size": "size"}
 CHOICES = {
     "edge": ["closed", "open"],
     "symmetry": ["C1", "C2", "C4", "D2-", "D2|", "D2\\", "D2/", "D4+", "D4x", "D8"],
@@ -122,7 +127,7 @@ def rule_fault(text):
 
 
 def value(place, option, text):
-    """What the value of an option says."""
+    """What the value of an option or an operand says."""
     if option == "rule":
         fault = rule_fault(text)
         if fault:
@@ -137,7 +142,7 @@ def value(place, option, text):
             return [bound(part) for part in text.split(",")]
         if option == "differ":
             return generations(text)
-        return number(text, 0, 10_000_000)
+        return number(text, *RANGES[option])
     except ValueError:
         raise Fault(f"BadValue {place}") from None
 
@@ -183,9 +188,9 @@ def job(words):
         raise Fault(f"Operands {len(names)} {len(operands)}")
     values = {name: value(place, name, text) for name, (place, text) in given.items()}
     for name, (place, text) in zip(names, operands):
-        values[name] = value(place, "rule", text) if name == "text" else text
-    if words[0] in WRITERS and operands[0][1] == operands[1][1]:
-        raise Fault(f"SameName {operands[1][0]}")
+        values[name] = value(place, VALUES[name], text) if name in VALUES else text
+    if words[0] in WRITERS and operands[-2][1] == operands[-1][1]:
+        raise Fault(f"SameName {operands[-1][0]}")
     return words[0], values
 
 
@@ -203,6 +208,8 @@ GOOD = {
     "live": ["0:1-2", "0:-", "63:-8192", "0:1-,2:-7", "1:3-2"],
     "differ": ["0,1", "63,0", "5,5"],
     "budget": ["0", "10000000", "7", "00000000000000000100"],
+    "seed": ["0", "18446744073709551615", "18446744073709551609", "07", "00000000000000000001"],
+    "size": ["1", "64", "8", "08", "00000000000000000064"],
     **CHOICES,
 }
 BAD = {
@@ -211,12 +218,23 @@ BAD = {
     "live": ["0", "0:", "0:1", "1-2", ":1-2", "64:1-2", "0:8193-", "0:1-2-3", "0:1:2", "0:1-2,", ",0:1-2", "0:000000000000000000001-"],
     "differ": ["0", "0,64", "0,1,2", "0,-1", ","],
     "budget": ["10000001", "1.5", "000000000000000000007", "all"],
+    "seed": ["18446744073709551616", "99999999999999999999", "000000000000000000001", "+1", "1e3", "x"],
+    "size": ["0", "65", "000000000000000000001", "+8", "8x", "18446744073709551617"],
     "edge": ["shut", "Open", "closed,open"],
     "symmetry": ["C3", "c2", "D2", "D8 "],
     "keep": ["some", "All"],
     "as": ["RLE", "row"],
 }
 ODD = ["", "-", "--", "-x", "-4", "---", "--best", "--best=1", "--=x", "--edge=", "--rule=-", "--help", "--edge", "--keep"]
+
+
+def some_operand(choose, name):
+    """A random operand of that name, right or not."""
+    if name not in VALUES:
+        return "no/" + choose.choice("abcde")
+    # most rule texts are bad, since their faults are many
+    right = 0.4 if name == "text" else 0.8
+    return choose.choice((GOOD if choose.random() < right else BAD)[VALUES[name]])
 
 
 def some_line(choose):
@@ -226,19 +244,20 @@ def some_line(choose):
     chosen = [name for name in options if choose.random() < 0.35]
     if choose.random() < 0.1:
         chosen.append(choose.choice(list(GOOD)))
-    parts = []
-    for name in names:
-        good = choose.random() < 0.4
-        parts.append([choose.choice(GOOD["rule"] if good else BAD["rule"]) if name == "text" else "no-" + choose.choice("abcde")])
+    operands = [some_operand(choose, name) for name in names]
+    # None is the next operand
+    parts = [None] * len(operands)
     for name in chosen:
         text = choose.choice(GOOD[name] if choose.random() < 0.75 else BAD[name])
-        parts.append([f"--{name}={text}"] if choose.random() < 0.5 else [f"--{name}", text])
+        # a value alone, whose option is gone, would be a file that `make` can make
+        inline = command == "make" or choose.random() < 0.5
+        parts.append([f"--{name}={text}"] if inline else [f"--{name}", text])
     choose.shuffle(parts)
-    words = [command] + [word for part in parts for word in part]
+    words = [command] + [word for part in parts for word in part or [operands.pop(0)]]
     for _ in range(choose.choice([0, 0, 0, 1, 1, 2])):
         at = choose.randrange(1, len(words) + 1)
         if choose.random() < 0.5:
-            words.insert(at, choose.choice(ODD + ["no-x", "no=x", "a--b"]))
+            words.insert(at, choose.choice(ODD + ["no/x", "no/=x", "no/a--b"]))
         elif len(words) > 1:
             del words[min(at, len(words) - 1)]
     if choose.random() < 0.02:

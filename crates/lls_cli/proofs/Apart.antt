@@ -1,4 +1,4 @@
--- A search writes its proof to another file than it reads.
+-- A search writes its proof to another file than it reads or writes before.
 use Rattle.std.proofs.Common.{◌≡◌, ◌≢◌, ℕ, Bool, true, false, List, [], ◌∷◌, Option, None, Some, Result, Ok, Err, refl, sym, ◌∙◌}
 use Rattle.std.specs.Prelude.{if◌then◌else◌}
 use Rattle.std.specs.Str.{bytes_eq}
@@ -12,11 +12,13 @@ use Rattle.lls_words.specs.declared.job.Job.{Job}
 use Rattle.lls_words.specs.declared.job.Job.TheVariants as jobs
 use Rattle.lls_words.specs.Command.{command_of}
 use Rattle.lls_words.specs.Scan.{Operand, Given, scan}
-use Rattle.lls_words.specs.Job.{defaults, job_of, job_of_command, job_with, names_apart, rule_at, settled}
+use Rattle.lls_words.specs.Values.{seed_in, size_in}
+use Rattle.lls_words.specs.Job.{defaults, job_of, job_of_command, job_with, names_apart, rule_at, settled, value_or}
 
 abbrev pub IsApart : Job → Type 0
 IsApart (jobs.Search search_file proof rule demands budget keep_all rle) = search_file ≢ proof
 IsApart (jobs.Sat formula proof budget keep_all) = formula ≢ proof
+IsApart (jobs.Make seed size search_file proof) = search_file ≢ proof
 IsApart job = Unit {0}
 
 abbrev pub AreApart : Result Job WordsError → Type 0
@@ -61,6 +63,13 @@ apart_with commands.Lrat (a ∷ b ∷ more ∷ rest) givens = tt
 apart_with commands.Rule [] givens = tt
 apart_with commands.Rule (a ∷ []) givens = through (rule_at a.place a.word) _ (λ rule. tt)
 apart_with commands.Rule (a ∷ b ∷ rest) givens = tt
+apart_with commands.Make [] givens = tt
+apart_with commands.Make (a ∷ []) givens = tt
+apart_with commands.Make (a ∷ b ∷ []) givens = tt
+apart_with commands.Make (a ∷ b ∷ c ∷ []) givens = tt
+apart_with commands.Make (a ∷ b ∷ c ∷ d ∷ []) givens =
+    through (value_or a.place (seed_in a.word)) _ (λ seed. through (value_or b.place (size_in b.word)) _ (λ size. different c d _ (λ differ. differ)))
+apart_with commands.Make (a ∷ b ∷ c ∷ d ∷ more ∷ rest) givens = tt
 
 apart_command : (command : Option Command) (words : List (List ℕ)) → AreApart (job_of_command command words)
 apart_command None words = tt

@@ -1,5 +1,6 @@
 -- Where the inputs ask a question and nothing fails, the question is answered.
 use Rattle.std.proofs.Common.{◌≡◌, Option, None, Some, Result, Ok, Err, sym, subst, ◌∙◌, inl, inr, ◌⊎◌}
+use Rattle.lls_base.specs.Faults.{Rose}
 use Rattle.lls_base.specs.Shelf.{Files}
 use Rattle.lls_words.specs.declared.error.WordsError.{WordsError}
 use Rattle.lls_words.specs.declared.job.Job.{Job}
@@ -9,9 +10,10 @@ use Rattle.lls_cli.specs.declared.status.Status.TheVariants as statuses
 use Rattle.lls_cli.specs.Question.{Question, question_of, Asks}
 use Rattle.lls_cli.specs.Answer.{Holds}
 use Rattle.lls_cli.specs.Moment.{Moment, files_at}
-use Rattle.lls_cli.specs.Ends.{End, refused, lacked, input_failed, answered, file_failed, output_failed, IsEnd}
+use Rattle.lls_cli.specs.Ends.{End, refused, lacked, input_failed, ahead_failed, answered, file_failed, output_failed, ahead_of, IsEnd}
 use Rattle.lls_cli.specs.Claims.{IsComplete}
-use Rattle.lls_cli.proofs.Consequences.{asks-question_of}
+use Rattle.lls_cli.proofs.Behind.{ahead_faults, answer_of, lacking}
+use Rattle.lls_cli.proofs.Consequences.{ahead_part, asks-question_of}
 
 -- what these files ask is one thing alone
 asked_once : (job : Job) (files : Option Files) (known : Files) (question : Question) (other : Result Question Fault) → files ≡ Some known → question_of job known ≡ Ok question
@@ -31,12 +33,17 @@ completes_ok : (job : Job) (files : Files) (before after : Moment) (status : Sta
 completes_ok job files before after status told (refused fault, ended) = λ question asks shelf out.
     let same : Err fault ≡ Ok question = asked_once job (files_at before.shelf) files question (Err fault) told asks ended.1.1 in
     absurd cc
-completes_ok job files before after status told (lacked, ended) = λ question asks shelf out. inl ended.1.status_is
+completes_ok job files before after status told (lacked, ended) = λ question asks shelf out. inl (lacking job (files_at before.shelf) before after status ended.1).lacks.status_is
 completes_ok job files before after status told (input_failed fault, ended) = λ question asks shelf out. absurd (shelf ended.1.1.shelf_rose)
+completes_ok job files before after status told (ahead_failed fault, ended) = λ question asks shelf out. absurd (shelf (ahead_part ended.1.0 before after status fault ended.1.2).shelf_rose)
 completes_ok job files before after status told (answered answer, ended) = λ question asks shelf out.
-    answered_holds job before after status files question ended.1.0 told asks ended.1.1 (subst (Holds ended.1.0) (sym ended.1.2.1.status_is) ended.1.2.0.holds)
-completes_ok job files before after status told (file_failed answer fault, ended) = λ question asks shelf out. absurd (shelf ended.1.2.1.shelf_rose)
-completes_ok job files before after status told (output_failed answer, ended) = λ question asks shelf out. absurd (out ended.1.2.1.out_rose)
+    let given = answer_of job (files_at before.shelf) before after status (answered answer) tt ended.1 in
+    answered_holds job before after status files question ended.1.0 told asks ended.1.1 (subst (Holds ended.1.0) (sym given.ended.1.status_is) given.ended.0.holds)
+completes_ok job files before after status told (file_failed answer fault, ended) = λ question asks shelf out.
+    let given = answer_of job (files_at before.shelf) before after status (file_failed answer fault) tt ended.1 in
+    absurd (shelf (subst (λ n. Rose n after.shelf.faults) (ahead_faults (ahead_of ended.1.0) before.shelf given.mid given.wrote) given.ended.1.shelf_rose))
+completes_ok job files before after status told (output_failed answer, ended) = λ question asks shelf out.
+    absurd (out (answer_of job (files_at before.shelf) before after status (output_failed answer) tt ended.1).ended.1.out_rose)
 
 pub completes : (job : Result Job WordsError) (files : Option Files) (before after : Moment) (status : Status) → files_at before.shelf ≡ files → (end : End) × IsEnd job before after status end
     → IsComplete job files before after status

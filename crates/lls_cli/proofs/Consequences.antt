@@ -2,6 +2,7 @@
 use Rattle.std.proofs.Common.{◌≡◌, ◌≤◌, ℕ, Option, None, Some, Result, Ok, Err, refl, ap, sym, subst, ◌∙◌, inl, inr, arith, ◌⊎◌}
 use Rattle.std.specs.Prelude.{IsErr}
 use Rattle.std.specs.Option.{option_map}
+use Rattle.lls_base.specs.Faults.{Rose}
 use Rattle.lls_base.specs.Shelf.{Files}
 use Rattle.lls_lrat.specs.declared.error.CheckError.{CheckError}
 use Rattle.lls_search_file.specs.declared.error.PosedError.{PosedError}
@@ -27,8 +28,9 @@ use Rattle.lls_cli.specs.Fault.{status_of, words_status, posed_status, demand_st
 use Rattle.lls_cli.specs.Evidence.{NamedFile}
 use Rattle.lls_cli.specs.Answer.{GivenAnswer, IsAnswer, Holds, YesHolds, NoHolds, IsThere, IsNowhere}
 use Rattle.lls_cli.specs.Question.{Question, question_of, Asks}
-use Rattle.lls_cli.specs.Moment.{ShelfMoment, SinkMoment, Moment, files_at}
-use Rattle.lls_cli.specs.Ends.{WroteFile, IsDecided, with_file, End, refused, lacked, input_failed, answered, file_failed, output_failed, IsEnd}
+use Rattle.lls_cli.specs.Moment.{ShelfMoment, SinkMoment, Moment, with_shelf, files_at}
+use Rattle.lls_cli.specs.Ends.{LacksMemory, FileFailed, WroteFile, IsDecided, with_file, End, refused, lacked, input_failed, ahead_failed, answered, file_failed, output_failed, IsEndOf, IsEndBehind, Ends, ahead_of, IsEnd}
+use Rattle.lls_cli.proofs.Behind.{answer_of, WroteAhead, ahead_faults, lacking}
 use Rattle.lls_cli.specs.Claims.{OfQuestion, IsSilent, IsAnswered, MissesFile, HasCause, NothingFailed, CountsNeverFall}
 
 -- the statuses of faults
@@ -207,17 +209,29 @@ silent_answered status given silent = no_fault_status status (silent_fault statu
   silent_fault statuses.NoPattern silent = absurd silent
   silent_fault statuses.Undecided silent = absurd silent
 
+-- what a file that failed ahead did
+pub ahead_part : (question : Question) (before after : Moment) (status : Status) (fault : Fault) → Ends question before after status (ahead_failed fault)
+    → FileFailed (ahead_of question) fault before after status
+ahead_part question before after status fault ended = part (ahead_of question) ended where
+  part : (ahead : Option NamedFile) → IsEndBehind ahead question before after status (ahead_failed fault) → FileFailed ahead fault before after status
+  part None ended = absurd ended
+  part (Some file) ended = ended
+
 -- the standard output has nothing new
 pub stays_silent : (job : Result Job WordsError) (before after : Moment) (status : Status) → (end : End) × IsEnd job before after status end → IsSilent status → after.out ≡ before.out
 stays_silent (Ok job) before after status (refused fault, ended) silent = ended.1.2.out
-stays_silent (Ok job) before after status (lacked, ended) silent = ended.1.out
+stays_silent (Ok job) before after status (lacked, ended) silent = (lacking job (files_at before.shelf) before after status ended.1).lacks.out
 stays_silent (Ok job) before after status (input_failed fault, ended) silent = ended.1.1.out
-stays_silent (Ok job) before after status (answered answer, ended) silent = absurd (silent_answered status (is_answered ended.1.0 answer status ended.1.2.0 ended.1.2.1.status_is) silent)
-stays_silent (Ok job) before after status (file_failed answer fault, ended) silent = ended.1.2.1.out
-stays_silent (Ok job) before after status (output_failed answer, ended) silent = absurd (subst IsSilent ended.1.2.1.status_is silent)
+stays_silent (Ok job) before after status (ahead_failed fault, ended) silent = (ahead_part ended.1.0 before after status fault ended.1.2).out
+stays_silent (Ok job) before after status (answered answer, ended) silent =
+    let given = answer_of job (files_at before.shelf) before after status (answered answer) tt ended.1 in
+    absurd (silent_answered status (is_answered ended.1.0 answer status given.ended.0 given.ended.1.status_is) silent)
+stays_silent (Ok job) before after status (file_failed answer fault, ended) silent = (answer_of job (files_at before.shelf) before after status (file_failed answer fault) tt ended.1).ended.1.out
+stays_silent (Ok job) before after status (output_failed answer, ended) silent = absurd (subst IsSilent (answer_of job (files_at before.shelf) before after status (output_failed answer) tt ended.1).ended.1.status_is silent)
 stays_silent (Err error) before after status (refused fault, ended) silent = ended.2.out
 stays_silent (Err error) before after status (lacked, ended) silent = ended.1.out
 stays_silent (Err error) before after status (input_failed fault, ended) silent = absurd ended
+stays_silent (Err error) before after status (ahead_failed fault, ended) silent = absurd ended
 stays_silent (Err error) before after status (answered answer, ended) silent = absurd ended
 stays_silent (Err error) before after status (file_failed answer fault, ended) silent = absurd ended
 stays_silent (Err error) before after status (output_failed answer, ended) silent = absurd ended
@@ -230,6 +244,7 @@ asks-question_of (jobs.Sat one two budget keep_all) files question asked = rw (�
 asks-question_of (jobs.Cnf one rule demands) files question asked = rw (← asked.input_is) (sym asked.made)
 asks-question_of (jobs.Lrat one two) files question asked = rw (← asked.first_is, ← asked.second_is) (sym asked.made)
 asks-question_of (jobs.Rule rule) files question asked = sym asked
+asks-question_of (jobs.Make seed size one two) files question asked = sym asked
 
 misses : (job : Job) (files : Option Files) (fault : Fault) → Asks job files (Err fault) → fault ≡ faults.Outside outside.NoFile → MissesFile (Ok job) files
 misses job None fault asked is = tt
@@ -239,17 +254,22 @@ misses job (Some files) fault asked is = asks-question_of job files (Err fault) 
 pub caused : (job : Result Job WordsError) (before after : Moment) (status : Status) → (end : End) × IsEnd job before after status end → status ≡ statuses.Outside → HasCause job before after
 caused (Ok job) before after status (refused fault, ended) is =
     inr (inr (misses job (files_at before.shelf) fault ended.1.1 (decided_outside fault ended.1.0 (sym ended.1.2.status_is ∙ is))))
-caused (Ok job) before after status (lacked, ended) is = let memory = ended.1.status_is in absurd cc
+caused (Ok job) before after status (lacked, ended) is = let memory = (lacking job (files_at before.shelf) before after status ended.1).lacks.status_is in absurd cc
 caused (Ok job) before after status (input_failed fault, ended) is = inl ended.1.1.shelf_rose
+caused (Ok job) before after status (ahead_failed fault, ended) is = inl (ahead_part ended.1.0 before after status fault ended.1.2).shelf_rose
 caused (Ok job) before after status (answered answer, ended) is =
-    absurd (no_fault_status statuses.Outside tt (subst IsAnswered is (is_answered ended.1.0 answer status ended.1.2.0 ended.1.2.1.status_is)))
-caused (Ok job) before after status (file_failed answer fault, ended) is = inl ended.1.2.1.shelf_rose
-caused (Ok job) before after status (output_failed answer, ended) is = inr (inl ended.1.2.1.out_rose)
+    let given = answer_of job (files_at before.shelf) before after status (answered answer) tt ended.1 in
+    absurd (no_fault_status statuses.Outside tt (subst IsAnswered is (is_answered ended.1.0 answer status given.ended.0 given.ended.1.status_is)))
+caused (Ok job) before after status (file_failed answer fault, ended) is =
+    let given = answer_of job (files_at before.shelf) before after status (file_failed answer fault) tt ended.1 in
+    inl (subst (λ n. Rose n after.shelf.faults) (ahead_faults (ahead_of ended.1.0) before.shelf given.mid given.wrote) given.ended.1.shelf_rose)
+caused (Ok job) before after status (output_failed answer, ended) is = inr (inl (answer_of job (files_at before.shelf) before after status (output_failed answer) tt ended.1).ended.1.out_rose)
 caused (Err error) before after status (refused fault, ended) is =
     let other : words_status error ≡ statuses.Outside = sym (ap status_of ended.0) ∙ (sym ended.2.status_is ∙ is) in
     absurd (elim (words_status-cases error) [ inl w ↦ cc | inr m ↦ cc ])
 caused (Err error) before after status (lacked, ended) is = let memory = ended.1.status_is in absurd cc
 caused (Err error) before after status (input_failed fault, ended) is = absurd ended
+caused (Err error) before after status (ahead_failed fault, ended) is = absurd ended
 caused (Err error) before after status (answered answer, ended) is = absurd ended
 caused (Err error) before after status (file_failed answer fault, ended) is = absurd ended
 caused (Err error) before after status (output_failed answer, ended) is = absurd ended
@@ -258,12 +278,14 @@ caused (Err error) before after status (output_failed answer, ended) is = absurd
 pub words_alone : (job : Result Job WordsError) (before after : Moment) (status : Status) → (end : End) × IsEnd job before after status end → status ≡ statuses.Words → IsErr job
 words_alone (Err error) before after status ended is = refl
 words_alone (Ok job) before after status (refused fault, ended) is = absurd (decided_words fault ended.1.0 (sym ended.1.2.status_is ∙ is))
-words_alone (Ok job) before after status (lacked, ended) is = let memory = ended.1.status_is in absurd cc
+words_alone (Ok job) before after status (lacked, ended) is = let memory = (lacking job (files_at before.shelf) before after status ended.1).lacks.status_is in absurd cc
 words_alone (Ok job) before after status (input_failed fault, ended) is = let outside_is = ended.1.1.status_is in absurd cc
+words_alone (Ok job) before after status (ahead_failed fault, ended) is = let outside_is = (ahead_part ended.1.0 before after status fault ended.1.2).status_is in absurd cc
 words_alone (Ok job) before after status (answered answer, ended) is =
-    absurd (no_fault_status statuses.Words tt (subst IsAnswered is (is_answered ended.1.0 answer status ended.1.2.0 ended.1.2.1.status_is)))
-words_alone (Ok job) before after status (file_failed answer fault, ended) is = let outside_is = ended.1.2.1.status_is in absurd cc
-words_alone (Ok job) before after status (output_failed answer, ended) is = let outside_is = ended.1.2.1.status_is in absurd cc
+    let given = answer_of job (files_at before.shelf) before after status (answered answer) tt ended.1 in
+    absurd (no_fault_status statuses.Words tt (subst IsAnswered is (is_answered ended.1.0 answer status given.ended.0 given.ended.1.status_is)))
+words_alone (Ok job) before after status (file_failed answer fault, ended) is = let outside_is = (answer_of job (files_at before.shelf) before after status (file_failed answer fault) tt ended.1).ended.1.status_is in absurd cc
+words_alone (Ok job) before after status (output_failed answer, ended) is = let outside_is = (answer_of job (files_at before.shelf) before after status (output_failed answer) tt ended.1).ended.1.status_is in absurd cc
 
 pub words_all : (job : Result Job WordsError) (before after : Moment) (status : Status) → (end : End) × IsEnd job before after status end → IsErr job → (status ≡ statuses.Words) ⊎ (status ≡ statuses.Memory)
 words_all (Ok job) before after status ended is = absurd cc
@@ -274,6 +296,7 @@ words_all (Err error) before after status (refused fault, ended) is =
     ]
 words_all (Err error) before after status (lacked, ended) is = inr ended.1.status_is
 words_all (Err error) before after status (input_failed fault, ended) is = absurd ended
+words_all (Err error) before after status (ahead_failed fault, ended) is = absurd ended
 words_all (Err error) before after status (answered answer, ended) is = absurd ended
 words_all (Err error) before after status (file_failed answer fault, ended) is = absurd ended
 words_all (Err error) before after status (output_failed answer, ended) is = absurd ended
@@ -287,36 +310,55 @@ of_this Fact question (Ok job) None asked fact = tt
 of_this Fact question (Ok job) (Some files) asked fact = (asked.0, asked.1, subst Fact asked.2 fact)
 of_this Fact question (Err error) files asked fact = absurd asked
 
+-- that a command line's job asks this
+abbrev pub IsAsked : Result Job WordsError → Option Files → Question → Type 0
+IsAsked (Ok job) files question = Asks job files (Ok question)
+IsAsked (Err error) files question = ⊥
+
 -- an end at an answer's status is an answer that was given
 pub record Meant (job : Result Job WordsError) (before after : Moment) (status : Status) : Type 0 where
   pub question : Question
   pub answer : GivenAnswer
   pub status_is : status ≡ answer.status
   pub right : IsAnswer question answer
-  pub wrote : WroteFile answer.file before.shelf after.shelf
+  pub mid : ShelfMoment
+  pub ahead : WroteAhead (ahead_of question) before.shelf mid
+  pub wrote : WroteFile answer.file mid after.shelf
   pub nothing_failed : NothingFailed before after
   pub asked : OfQuestion (λ q. question ≡ q) job (files_at before.shelf)
+  pub asks : IsAsked job (files_at before.shelf) question
 
 pub meant : (job : Result Job WordsError) (before after : Moment) (status : Status) → (end : End) × IsEnd job before after status end → IsAnswered status → Meant job before after status
 meant (Ok job) before after status (answered answer, ended) is =
-    let given = ended.1.2.1 in
+    let behind_it = answer_of job (files_at before.shelf) before after status (answered answer) tt ended.1 in
+    let given = behind_it.ended.1 in
     record {
       question = ended.1.0;
       answer = answer;
       status_is = given.status_is;
-      right = ended.1.2.0;
+      right = behind_it.ended.0;
+      mid = behind_it.mid;
+      ahead = behind_it.wrote;
       wrote = given.shelf;
-      nothing_failed = record { shelf = given.shelf.faults; out = given.out_faults; err = given.err };
+      nothing_failed = record {
+        shelf = given.shelf.faults ∙ ahead_faults (ahead_of ended.1.0) before.shelf behind_it.mid behind_it.wrote;
+        out = given.out_faults;
+        err = given.err;
+      };
       asked = of_question (λ q. ended.1.0 ≡ q) job (files_at before.shelf) ended.1.0 ended.1.1 refl;
+      asks = ended.1.1;
     }
 meant (Ok job) before after status (refused fault, ended) is = absurd (no_fault_status status (subst IsFaultStatus (sym ended.1.2.status_is) (status_of-is fault)) is)
-meant (Ok job) before after status (lacked, ended) is = absurd (no_fault_status status (subst IsFaultStatus (sym ended.1.status_is) tt) is)
+meant (Ok job) before after status (lacked, ended) is = absurd (no_fault_status status (subst IsFaultStatus (sym (lacking job (files_at before.shelf) before after status ended.1).lacks.status_is) tt) is)
 meant (Ok job) before after status (input_failed fault, ended) is = absurd (no_fault_status status (subst IsFaultStatus (sym ended.1.1.status_is) tt) is)
-meant (Ok job) before after status (file_failed answer fault, ended) is = absurd (no_fault_status status (subst IsFaultStatus (sym ended.1.2.1.status_is) tt) is)
-meant (Ok job) before after status (output_failed answer, ended) is = absurd (no_fault_status status (subst IsFaultStatus (sym ended.1.2.1.status_is) tt) is)
+meant (Ok job) before after status (ahead_failed fault, ended) is =
+    absurd (no_fault_status status (subst IsFaultStatus (sym (ahead_part ended.1.0 before after status fault ended.1.2).status_is) tt) is)
+meant (Ok job) before after status (file_failed answer fault, ended) is = absurd (no_fault_status status (subst IsFaultStatus (sym (answer_of job (files_at before.shelf) before after status (file_failed answer fault) tt ended.1).ended.1.status_is) tt) is)
+meant (Ok job) before after status (output_failed answer, ended) is = absurd (no_fault_status status (subst IsFaultStatus (sym (answer_of job (files_at before.shelf) before after status (output_failed answer) tt ended.1).ended.1.status_is) tt) is)
 meant (Err error) before after status (refused fault, ended) is = absurd (no_fault_status status (subst IsFaultStatus (sym ended.2.status_is) (status_of-is fault)) is)
 meant (Err error) before after status (lacked, ended) is = absurd (no_fault_status status (subst IsFaultStatus (sym ended.1.status_is) tt) is)
 meant (Err error) before after status (input_failed fault, ended) is = absurd ended
+meant (Err error) before after status (ahead_failed fault, ended) is = absurd ended
 meant (Err error) before after status (answered answer, ended) is = absurd ended
 meant (Err error) before after status (file_failed answer fault, ended) is = absurd ended
 meant (Err error) before after status (output_failed answer, ended) is = absurd ended
@@ -353,25 +395,40 @@ same_count before after e = same-≤ before.faults after.faults (ap (λ (s : Sin
 same_shelf : (before after : ShelfMoment) → after ≡ before → before.faults ≤ after.faults
 same_shelf before after e = same-≤ before.faults after.faults (ap (λ (s : ShelfMoment). s.faults) e)
 
+-- the count of the shelf from before a file that was written ahead
+from_ahead : (ahead : Option NamedFile) (before mid : ShelfMoment) (count : ℕ) → WroteAhead ahead before mid → mid.faults ≤ count → before.faults ≤ count
+from_ahead ahead before mid count wrote less = omega (arith, ahead_faults ahead before mid wrote, less)
+
 -- no count of faults falls
 pub counts_stay : (job : Result Job WordsError) (before after : Moment) (status : Status) → (end : End) × IsEnd job before after status end → CountsNeverFall before after
 counts_stay (Ok job) before after status (refused fault, ended) =
     let r = ended.1.2 in record { shelf = same-≤ _ _ r.shelf_faults; out = same_count _ _ r.out; err = r.err.counts.never_falls }
 counts_stay (Ok job) before after status (lacked, ended) =
-    let r = ended.1 in record { shelf = r.shelf_counts.never_falls; out = same_count _ _ r.out; err = r.err.counts.never_falls }
+    let behind_it = lacking job (files_at before.shelf) before after status ended.1 in
+    let r = behind_it.lacks in
+    record { shelf = from_ahead behind_it.ahead before.shelf behind_it.mid after.shelf.faults behind_it.wrote r.shelf_counts.never_falls; out = same_count _ _ r.out; err = r.err.counts.never_falls }
 counts_stay (Ok job) before after status (input_failed fault, ended) =
     let r = ended.1.1 in record { shelf = r.shelf_counts.never_falls; out = same_count _ _ r.out; err = r.err.counts.never_falls }
+counts_stay (Ok job) before after status (ahead_failed fault, ended) =
+    let r = ahead_part ended.1.0 before after status fault ended.1.2 in record { shelf = r.shelf_counts.never_falls; out = same_count _ _ r.out; err = r.err.counts.never_falls }
 counts_stay (Ok job) before after status (answered answer, ended) =
-    let r = ended.1.2.1 in record { shelf = same-≤ _ _ r.shelf.faults; out = same-≤ _ _ r.out_faults; err = same_count _ _ r.err }
+    let given = answer_of job (files_at before.shelf) before after status (answered answer) tt ended.1 in
+    let r = given.ended.1 in
+    record { shelf = from_ahead (ahead_of ended.1.0) before.shelf given.mid after.shelf.faults given.wrote (same-≤ _ _ r.shelf.faults); out = same-≤ _ _ r.out_faults; err = same_count _ _ r.err }
 counts_stay (Ok job) before after status (file_failed answer fault, ended) =
-    let r = ended.1.2.1 in record { shelf = r.shelf_counts.never_falls; out = same_count _ _ r.out; err = r.err.counts.never_falls }
+    let given = answer_of job (files_at before.shelf) before after status (file_failed answer fault) tt ended.1 in
+    let r = given.ended.1 in
+    record { shelf = from_ahead (ahead_of ended.1.0) before.shelf given.mid after.shelf.faults given.wrote r.shelf_counts.never_falls; out = same_count _ _ r.out; err = r.err.counts.never_falls }
 counts_stay (Ok job) before after status (output_failed answer, ended) =
-    let r = ended.1.2.1 in record { shelf = same-≤ _ _ r.shelf.faults; out = r.out_counts.never_falls; err = r.err.counts.never_falls }
+    let given = answer_of job (files_at before.shelf) before after status (output_failed answer) tt ended.1 in
+    let r = given.ended.1 in
+    record { shelf = from_ahead (ahead_of ended.1.0) before.shelf given.mid after.shelf.faults given.wrote (same-≤ _ _ r.shelf.faults); out = r.out_counts.never_falls; err = r.err.counts.never_falls }
 counts_stay (Err error) before after status (refused fault, ended) =
     let r = ended.2 in record { shelf = same_shelf _ _ ended.1; out = same_count _ _ r.out; err = r.err.counts.never_falls }
 counts_stay (Err error) before after status (lacked, ended) =
     let r = ended.1 in record { shelf = same_shelf _ _ ended.0; out = same_count _ _ r.out; err = r.err.counts.never_falls }
 counts_stay (Err error) before after status (input_failed fault, ended) = absurd ended
+counts_stay (Err error) before after status (ahead_failed fault, ended) = absurd ended
 counts_stay (Err error) before after status (answered answer, ended) = absurd ended
 counts_stay (Err error) before after status (file_failed answer fault, ended) = absurd ended
 counts_stay (Err error) before after status (output_failed answer, ended) = absurd ended

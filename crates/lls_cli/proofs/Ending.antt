@@ -17,9 +17,9 @@ use Rattle.lls_cli.specs.declared.status.Status.TheVariants as statuses
 use Rattle.lls_cli.specs.Fault.{fault_line, words_fault}
 use Rattle.lls_cli.specs.Evidence.{NamedFile}
 use Rattle.lls_cli.specs.Answer.{GivenAnswer, IsAnswer}
-use Rattle.lls_cli.specs.Question.{Question, prints, Asks}
-use Rattle.lls_cli.specs.Moment.{ShelfMoment, SinkMoment, Moment, moment, files_at}
-use Rattle.lls_cli.specs.Ends.{GrewBy, KeepsFiles, LacksMemory, IsOfInput, WroteFile, LeavesPart, LeavesShelf, HasInputs, IsDecided, with_file, End, refused, lacked, input_failed, answered, file_failed, output_failed, IsEndOf, IsEnd}
+use Rattle.lls_cli.specs.Question.{Question, prints, makes, default_effort, Asks}
+use Rattle.lls_cli.specs.Moment.{ShelfMoment, SinkMoment, Moment, moment, with_shelf, files_at}
+use Rattle.lls_cli.specs.Ends.{GrewBy, KeepsFiles, LacksMemory, IsOfInput, WroteFile, FileFailed, LeavesPart, LeavesShelf, HasInputs, IsDecided, with_file, End, refused, lacked, input_failed, ahead_failed, answered, file_failed, output_failed, IsEndOf, IsEndBehind, Ends, ahead_of, IsEnd}
 use Rattle.lls_cli.specs.Steps.{Stops, Says, IsDelivery, LeavesPrinting}
 
 -- a right answer that was delivered
@@ -31,6 +31,7 @@ delivered question answer before after status right (output_failed given, d) = (
 delivered question answer before after status right (lacked, d) = absurd d
 delivered question answer before after status right (refused fault, d) = absurd d
 delivered question answer before after status right (input_failed fault, d) = absurd d
+delivered question answer before after status right (ahead_failed fault, d) = absurd d
 
 KeepsFiles-refl : (shelf : ShelfMoment) → KeepsFiles shelf shelf
 KeepsFiles-refl shelf = record { files = refl; target = refl; has_output = refl }
@@ -56,12 +57,13 @@ LeavesShelf-refl (jobs.Cnf one rule demands) shelf = tt
 LeavesShelf-refl (jobs.Lrat one two) shelf = tt
 LeavesShelf-refl (jobs.Search one two rule demands budget keep_all rle) shelf = tt
 LeavesShelf-refl (jobs.Sat one two budget keep_all) shelf = tt
+LeavesShelf-refl (jobs.Make seed size one two) shelf = tt
 
 -- want of memory while the words are read
 words_lack : (job : Result Job WordsError) (shelf : ShelfMoment) (out err_before err_after : SinkMoment) (status : Status) → shelf.faults < 2 ^ 64
     → Says faults.Memory status err_before err_after → (end : End) × IsEnd job (moment shelf out err_before) (moment shelf out err_after) status end
-words_lack (Ok job) shelf out err_before err_after status fits (inl said) = (lacked, (LeavesShelf-refl job shelf, lacks shelf out err_before err_after status fits said.0 said.1))
-words_lack (Ok job) shelf out err_before err_after status fits (inr said) = (lacked, (LeavesShelf-refl job shelf, lacks shelf out err_before err_after status fits said.0 said.1))
+words_lack (Ok job) shelf out err_before err_after status fits (inl said) = (lacked, (LeavesShelf-refl job shelf, inl (lacks shelf out err_before err_after status fits said.0 said.1)))
+words_lack (Ok job) shelf out err_before err_after status fits (inr said) = (lacked, (LeavesShelf-refl job shelf, inl (lacks shelf out err_before err_after status fits said.0 said.1)))
 words_lack (Err error) shelf out err_before err_after status fits (inl said) = (lacked, (refl, lacks shelf out err_before err_after status fits said.0 said.1))
 words_lack (Err error) shelf out err_before err_after status fits (inr said) = (lacked, (refl, lacks shelf out err_before err_after status fits said.0 said.1))
 
@@ -70,7 +72,7 @@ stopped_lacking : (job : Job) (before after : ShelfMoment) (out err_before err_a
     → LeavesShelf job before after → KeepsFiles before after → Counts before.faults after.faults → status ≡ statuses.Memory → GrewBy (fault_line faults.Memory) err_before err_after
     → (end : End) × IsEnd (Ok job) (moment before out err_before) (moment after out err_after) status end
 stopped_lacking job before after out err_before err_after status leaves kept counts is line =
-    (lacked, (leaves, record { status_is = is; shelf = kept; shelf_counts = counts; out = refl; err = line }))
+    (lacked, (leaves, inl (record { status_is = is; shelf = kept; shelf_counts = counts; out = refl; err = line })))
 
 -- a job whose inputs were refused
 stopped_refused : (job : Job) (fault : Fault) (before after : ShelfMoment) (out err_before err_after : SinkMoment) (status : Status)
@@ -170,6 +172,7 @@ leaves_both (jobs.Cnf one rule demands) question files before mid after asked fi
 leaves_both (jobs.Lrat one two) question files before mid after asked first second = tt
 leaves_both (jobs.Search one two rule demands budget keep_all rle) question files before mid after asked first second = tt
 leaves_both (jobs.Sat one two budget keep_all) question files before mid after asked first second = tt
+leaves_both (jobs.Make seed size one two) question files before mid after asked first second = tt
 
 WroteFile-after : (file : Option NamedFile) (before mid after : ShelfMoment) → KeepsFiles before mid → mid.faults ≡ before.faults → WroteFile file mid after → WroteFile file before after
 WroteFile-after None before mid after kept same wrote = record {
@@ -183,87 +186,124 @@ WroteFile-after (Some file) before mid after kept same wrote = record {
   faults = wrote.faults ∙ same;
 }
 
+FileFailed-after : (file : Option NamedFile) (fault : Fault) (before mid after : ShelfMoment) (out_before out_after err_before err_after : SinkMoment) (status : Status)
+    → KeepsFiles before mid → mid.faults ≡ before.faults → FileFailed file fault (moment mid out_before err_before) (moment after out_after err_after) status
+    → FileFailed file fault (moment before out_before err_before) (moment after out_after err_after) status
+FileFailed-after file fault before mid after out_before out_after err_before err_after status kept same failed = record {
+  file = failed.file;
+  file_is = failed.file_is;
+  part = subst (λ files. LeavesPart fault failed.file files (files_at after)) kept.files failed.part;
+  status_is = failed.status_is;
+  shelf_counts = subst (λ n. Counts n after.faults) same failed.shelf_counts;
+  shelf_rose = subst (λ n. Rose n after.faults) same failed.shelf_rose;
+  out = failed.out;
+  err = failed.err;
+}
+
+LacksMemory-after : (before mid after : ShelfMoment) (out_before out_after err_before err_after : SinkMoment) (status : Status)
+    → KeepsFiles before mid → mid.faults ≡ before.faults → LacksMemory (moment mid out_before err_before) (moment after out_after err_after) status
+    → LacksMemory (moment before out_before err_before) (moment after out_after err_after) status
+LacksMemory-after before mid after out_before out_after err_before err_after status kept same lacking = record {
+  status_is = lacking.status_is;
+  shelf = record { files = lacking.shelf.files ∙ kept.files; target = lacking.shelf.target ∙ kept.target; has_output = lacking.shelf.has_output ∙ kept.has_output };
+  shelf_counts = subst (λ n. Counts n after.faults) same lacking.shelf_counts;
+  out = lacking.out;
+  err = lacking.err;
+}
+
+-- a question's end, from before the inputs were read
+IsEndOf-after : (question : Question) (before mid after : ShelfMoment) (out_before out_after err_before err_after : SinkMoment) (status : Status) (end : End)
+    → KeepsFiles before mid → mid.faults ≡ before.faults → IsEndOf question (moment mid out_before err_before) (moment after out_after err_after) status end
+    → IsEndOf question (moment before out_before err_before) (moment after out_after err_after) status end
+IsEndOf-after question before mid after out_before out_after err_before err_after status (answered answer) kept same ended = (
+  ended.0,
+  record {
+    status_is = ended.1.status_is;
+    shelf = WroteFile-after answer.file before mid after kept same ended.1.shelf;
+    out = ended.1.out;
+    out_faults = ended.1.out_faults;
+    err = ended.1.err;
+  },
+)
+IsEndOf-after question before mid after out_before out_after err_before err_after status (file_failed answer fault) kept same ended =
+    (ended.0, FileFailed-after answer.file fault before mid after out_before out_after err_before err_after status kept same ended.1)
+IsEndOf-after question before mid after out_before out_after err_before err_after status (output_failed answer) kept same ended = (
+  ended.0,
+  record {
+    status_is = ended.1.status_is;
+    shelf = WroteFile-after answer.file before mid after kept same ended.1.shelf;
+    out = ended.1.out;
+    out_counts = ended.1.out_counts;
+    out_rose = ended.1.out_rose;
+    err = ended.1.err;
+  },
+)
+IsEndOf-after question before mid after out_before out_after err_before err_after status lacked kept same ended =
+    LacksMemory-after before mid after out_before out_after err_before err_after status kept same ended
+IsEndOf-after question before mid after out_before out_after err_before err_after status (refused fault) kept same ended = absurd ended
+IsEndOf-after question before mid after out_before out_after err_before err_after status (input_failed fault) kept same ended = absurd ended
+IsEndOf-after question before mid after out_before out_after err_before err_after status (ahead_failed fault) kept same ended = absurd ended
+
+IsEndBehind-after : (ahead : Option NamedFile) (question : Question) (before mid after : ShelfMoment) (out_before out_after err_before err_after : SinkMoment) (status : Status) (end : End)
+    → KeepsFiles before mid → mid.faults ≡ before.faults → IsEndBehind ahead question (moment mid out_before err_before) (moment after out_after err_after) status end
+    → IsEndBehind ahead question (moment before out_before err_before) (moment after out_after err_after) status end
+IsEndBehind-after None question before mid after out_before out_after err_before err_after status end kept same ended =
+    IsEndOf-after question before mid after out_before out_after err_before err_after status end kept same ended
+IsEndBehind-after (Some file) question before mid after out_before out_after err_before err_after status (ahead_failed fault) kept same ended =
+    FileFailed-after (Some file) fault before mid after out_before out_after err_before err_after status kept same ended
+IsEndBehind-after (Some file) question before mid after out_before out_after err_before err_after status lacked kept same (inl lacking) =
+    inl (LacksMemory-after before mid after out_before out_after err_before err_after status kept same lacking)
+IsEndBehind-after (Some file) question before mid after out_before out_after err_before err_after status lacked kept same (inr behind) =
+    inr (behind.0, WroteFile-after (Some file) before mid behind.0 kept same behind.1, behind.2)
+IsEndBehind-after (Some file) question before mid after out_before out_after err_before err_after status (answered answer) kept same ended =
+    (ended.0, WroteFile-after (Some file) before mid ended.0 kept same ended.1, ended.2)
+IsEndBehind-after (Some file) question before mid after out_before out_after err_before err_after status (file_failed answer fault) kept same ended =
+    (ended.0, WroteFile-after (Some file) before mid ended.0 kept same ended.1, ended.2)
+IsEndBehind-after (Some file) question before mid after out_before out_after err_before err_after status (output_failed answer) kept same ended =
+    (ended.0, WroteFile-after (Some file) before mid ended.0 kept same ended.1, ended.2)
+IsEndBehind-after (Some file) question before mid after out_before out_after err_before err_after status (refused fault) kept same ended = absurd ended.2
+IsEndBehind-after (Some file) question before mid after out_before out_after err_before err_after status (input_failed fault) kept same ended = absurd ended.2
+
+-- no question ends with a refusal of words or inputs
+refuses_nothing : (ahead : Option NamedFile) (question : Question) (before after : Moment) (status : Status) (fault : Fault) → IsEndBehind ahead question before after status (refused fault) → ⊥
+refuses_nothing None question before after status fault ended = ended
+refuses_nothing (Some file) question before after status fault ended = ended.2
+
+reads_nothing : (ahead : Option NamedFile) (question : Question) (before after : Moment) (status : Status) (fault : Fault) → IsEndBehind ahead question before after status (input_failed fault) → ⊥
+reads_nothing None question before after status fault ended = ended
+reads_nothing (Some file) question before after status fault ended = ended.2
+
+-- the end of a question that was asked is that of its job
+of_job : (job : Job) (question : Question) (before after : Moment) (status : Status) (end : End) → LeavesShelf job before.shelf after.shelf → Asks job (files_at before.shelf) (Ok question)
+    → Ends question before after status end → IsEnd (Ok job) before after status end
+of_job job question before after status (answered answer) leaves asked ended = (leaves, (question, asked, ended))
+of_job job question before after status (file_failed answer fault) leaves asked ended = (leaves, (question, asked, ended))
+of_job job question before after status (output_failed answer) leaves asked ended = (leaves, (question, asked, ended))
+of_job job question before after status (ahead_failed fault) leaves asked ended = (leaves, (question, asked, ended))
+of_job job question before after status lacked leaves asked ended = (leaves, inr (question, asked, ended))
+of_job job question before after status (refused fault) leaves asked ended = absurd (refuses_nothing (ahead_of question) question before after status fault ended)
+of_job job question before after status (input_failed fault) leaves asked ended = absurd (reads_nothing (ahead_of question) question before after status fault ended)
+
 -- a question's end is that of the job that asked it
 pub job_ended : (job : Job) (question : Question) (before mid after : ShelfMoment) (out_before out_after err_before err_after : SinkMoment) (status : Status)
     → Asks job (files_at before) (Ok question) → LeavesShelf job before mid → LeavesPrinting question mid after → KeepsFiles before mid → mid.faults ≡ before.faults
-    → (end : End) × IsEndOf question (moment mid out_before err_before) (moment after out_after err_after) status end
+    → (end : End) × Ends question (moment mid out_before err_before) (moment after out_after err_after) status end
     → (end : End) × IsEnd (Ok job) (moment before out_before err_before) (moment after out_after err_after) status end
-job_ended job question before mid after out_before out_after err_before err_after status asked leaves printing kept same (answered answer, ended) = (
-  answered answer,
-  (
-    leaves_both job question (files_at before) before mid after asked leaves printing,
-    (
-      question,
-      asked,
-      (
-        ended.0,
-        record {
-          status_is = ended.1.status_is;
-          shelf = WroteFile-after answer.file before mid after kept same ended.1.shelf;
-          out = ended.1.out;
-          out_faults = ended.1.out_faults;
-          err = ended.1.err;
-        },
-      ),
-    ),
-  ),
+job_ended job question before mid after out_before out_after err_before err_after status asked leaves printing kept same (end, ended) = (
+  end,
+  of_job job question (moment before out_before err_before) (moment after out_after err_after) status end
+      (leaves_both job question (files_at before) before mid after asked leaves printing) asked
+      (IsEndBehind-after (ahead_of question) question before mid after out_before out_after err_before err_after status end kept same ended),
 )
-job_ended job question before mid after out_before out_after err_before err_after status asked leaves printing kept same (file_failed answer fault, ended) = (
-  file_failed answer fault,
-  (
-    leaves_both job question (files_at before) before mid after asked leaves printing,
-    (
-      question,
-      asked,
-      (
-        ended.0,
-        record {
-          file = ended.1.file;
-          file_is = ended.1.file_is;
-          part = subst (λ files. LeavesPart fault ended.1.file files (files_at after)) kept.files ended.1.part;
-          status_is = ended.1.status_is;
-          shelf_counts = subst (λ n. Counts n after.faults) same ended.1.shelf_counts;
-          shelf_rose = subst (λ n. Rose n after.faults) same ended.1.shelf_rose;
-          out = ended.1.out;
-          err = ended.1.err;
-        },
-      ),
-    ),
-  ),
-)
-job_ended job question before mid after out_before out_after err_before err_after status asked leaves printing kept same (output_failed answer, ended) = (
-  output_failed answer,
-  (
-    leaves_both job question (files_at before) before mid after asked leaves printing,
-    (
-      question,
-      asked,
-      (
-        ended.0,
-        record {
-          status_is = ended.1.status_is;
-          shelf = WroteFile-after answer.file before mid after kept same ended.1.shelf;
-          out = ended.1.out;
-          out_counts = ended.1.out_counts;
-          out_rose = ended.1.out_rose;
-          err = ended.1.err;
-        },
-      ),
-    ),
-  ),
-)
-job_ended job question before mid after out_before out_after err_before err_after status asked leaves printing kept same (lacked, ended) = (
-  lacked,
-  (
-    leaves_both job question (files_at before) before mid after asked leaves printing,
-    record {
-      status_is = ended.status_is;
-      shelf = record { files = ended.shelf.files ∙ kept.files; target = ended.shelf.target ∙ kept.target; has_output = ended.shelf.has_output ∙ kept.has_output };
-      shelf_counts = subst (λ n. Counts n after.faults) same ended.shelf_counts;
-      out = ended.out;
-      err = ended.err;
-    },
-  ),
-)
-job_ended job question before mid after out_before out_after err_before err_after status asked leaves printing kept same (refused fault, ended) = absurd ended
-job_ended job question before mid after out_before out_after err_before err_after status asked leaves printing kept same (input_failed fault, ended) = absurd ended
+
+-- a question's end, from before its file was written
+pub behind_file : (file : NamedFile) (question : Question) (before mid after : ShelfMoment) (out_before out_after err_before err_after : SinkMoment) (status : Status) → WroteFile (Some file) before mid
+    → (end : End) × IsEndOf question (moment mid out_before err_before) (moment after out_after err_after) status end
+    → (end : End) × IsEndBehind (Some file) question (moment before out_before err_before) (moment after out_after err_after) status end
+behind_file file question before mid after out_before out_after err_before err_after status wrote (answered answer, ended) = (answered answer, (mid, wrote, ended))
+behind_file file question before mid after out_before out_after err_before err_after status wrote (file_failed answer fault, ended) = (file_failed answer fault, (mid, wrote, ended))
+behind_file file question before mid after out_before out_after err_before err_after status wrote (output_failed answer, ended) = (output_failed answer, (mid, wrote, ended))
+behind_file file question before mid after out_before out_after err_before err_after status wrote (lacked, ended) = (lacked, inr (mid, wrote, ended))
+behind_file file question before mid after out_before out_after err_before err_after status wrote (refused fault, ended) = absurd ended
+behind_file file question before mid after out_before out_after err_before err_after status wrote (input_failed fault, ended) = absurd ended
+behind_file file question before mid after out_before out_after err_before err_after status wrote (ahead_failed fault, ended) = absurd ended

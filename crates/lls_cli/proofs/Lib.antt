@@ -1,12 +1,17 @@
 pub mod Consequences
 pub mod Ending
+pub mod Behind
 pub mod Stopped
 pub mod Written
 pub mod RightAnswers
 pub mod Made
+pub mod Changes
+pub mod Evidences
 pub mod Files
+pub mod Stands
 pub mod Complete
 pub mod Deliveries
 pub mod Searches
+pub mod Makings
 pub mod Apart
 pub mod Published

@@ -1,6 +1,7 @@
 -- What a search found to be absent is checked again with the same words.
-use Rattle.std.proofs.Common.{◌≡◌, ◌≢◌, ◌≤◌, ℕ, Bool, true, false, List, Option, None, Some, Result, Ok, Err, refl, sym, ap, subst, ◌∙◌, arith, length}
+use Rattle.std.proofs.Common.{◌≡◌, ◌≢◌, ◌≤◌, ℕ, Bool, true, false, List, [], ◌∷◌, Option, None, Some, Result, Ok, Err, refl, sym, ap, subst, ◌∙◌, arith, length}
 use Rattle.std.proofs.lemmas.Bool.{le-ltb}
+use Rattle.std.proofs.lemmas.List.Elements.{All-nil, All-cons}
 use Rattle.std.specs.FinMap as map
 use Rattle.std.specs.Option.{option_map}
 use Rattle.lls_base.specs.Results.{and_then}
@@ -11,13 +12,15 @@ use Rattle.lls_encode.specs.Formula.{formula_of}
 use Rattle.lls_words.specs.declared.error.WordsError.{WordsError}
 use Rattle.lls_words.specs.declared.job.Job.{Job}
 use Rattle.lls_words.specs.declared.job.Job.TheVariants as jobs
+use Rattle.lls_cli.specs.declared.status.Status.{Status}
+use Rattle.lls_cli.specs.declared.status.Status.TheVariants as statuses
 use Rattle.lls_cli.specs.declared.fault.Fault.{Fault}
 use Rattle.lls_cli.specs.declared.fault.Fault.TheVariants as faults
 use Rattle.lls_cli.specs.declared.input.TheConstants.{SEARCH_LIMIT, PROOF_LIMIT}
 use Rattle.lls_cli.specs.Question.{Question, Effort, checks, searches, check_question, effort_of, input_from, input_of, problem_in}
 use Rattle.lls_cli.specs.Evidence.{HasProof}
 use Rattle.lls_cli.specs.Answer.{IsNowhere}
-use Rattle.lls_cli.specs.Claims.{OfQuestion, Leaves, ChangesOnly, Publishes, output_of_words}
+use Rattle.lls_cli.specs.Claims.{OfQuestion, Leaves, ChangesOnly, Publishes, log_at, outputs_of_words}
 use Rattle.lls_cli.proofs.Apart.{IsApart, AreApart}
 use Rattle.lls_cli.proofs.Files.{and_then-both}
 
@@ -41,7 +44,7 @@ asked_of search_file proof rule demands files question effort rle (Err fault) is
 search_publishes : (search_file proof : List ℕ) (rule : List Bool) (demands : Demands) (budget : ℕ) (keep_all rle : Bool) (before after : Files) → search_file ≢ proof
     → OfQuestion IsNowhere (Ok (jobs.Search search_file proof rule demands budget keep_all rle)) (Some before)
     → OfQuestion (Leaves HasProof (Some after)) (Ok (jobs.Search search_file proof rule demands budget keep_all rle)) (Some before)
-    → ChangesOnly (Some proof) (Some before) (Some after)
+    → ChangesOnly (proof ∷ []) (Some before) (Some after)
     → Publishes (Ok (jobs.Search search_file proof rule demands budget keep_all rle)) (Some before) (Some after)
 search_publishes search_file proof rule demands budget keep_all rle before after apart nowhere leaves only =
     let effort = effort_of budget keep_all proof in
@@ -52,7 +55,7 @@ search_publishes search_file proof rule demands budget keep_all rle before after
     let twice : Ok nowhere.0 ≡ Ok leaves.0 = sym nowhere.1 ∙ leaves.1 in
     let once : nowhere.0 ≡ leaves.0 = cc in
     let none = subst IsNowhere (once ∙ asked.question_is) nowhere.2 in
-    let stays : Some (map.get after search_file) ≡ Some (map.get before search_file) = only search_file apart in
+    let stays : Some (map.get after search_file) ≡ Some (map.get before search_file) = only search_file (All-cons (λ changed. search_file ≢ changed) proof [] apart (All-nil (λ changed. search_file ≢ changed))) in
     let same : map.get after search_file ≡ map.get before search_file = cc in (
       problem,
       bytes,
@@ -66,16 +69,17 @@ search_publishes search_file proof rule demands budget keep_all rle before after
       (file.2.accepted, none),
     )
 
-pub publishes : (job : Result Job WordsError) (before after : Option Files) → AreApart job → OfQuestion IsNowhere job before → OfQuestion (Leaves HasProof after) job before
-    → ChangesOnly (output_of_words job) before after → Publishes job before after
-publishes (Ok (jobs.Search one two rule demands budget keep_all rle)) (Some before) (Some after) apart nowhere leaves only =
-    search_publishes one two rule demands budget keep_all rle before after apart nowhere leaves only
-publishes (Ok (jobs.Search one two rule demands budget keep_all rle)) (Some before) None apart nowhere leaves only = tt
-publishes (Ok (jobs.Search one two rule demands budget keep_all rle)) None after apart nowhere leaves only = tt
-publishes (Ok (jobs.Sat one two budget keep_all)) before after apart nowhere leaves only = tt
-publishes (Ok (jobs.Check one two rule demands)) before after apart nowhere leaves only = tt
-publishes (Ok (jobs.Judge one two rule demands rle)) before after apart nowhere leaves only = tt
-publishes (Ok (jobs.Cnf one rule demands)) before after apart nowhere leaves only = tt
-publishes (Ok (jobs.Lrat one two)) before after apart nowhere leaves only = tt
-publishes (Ok (jobs.Rule rule)) before after apart nowhere leaves only = tt
-publishes (Err error) before after apart nowhere leaves only = tt
+pub publishes : (job : Result Job WordsError) (before after : Option Files) (status : Status) → status ≡ statuses.NoPattern → AreApart job → OfQuestion IsNowhere job before → OfQuestion (Leaves HasProof after) job before
+    → ChangesOnly (outputs_of_words job status) before after → Publishes job before after
+publishes (Ok (jobs.Search one two rule demands budget keep_all rle)) (Some before) (Some after) status is apart nowhere leaves only =
+    search_publishes one two rule demands budget keep_all rle before after apart nowhere leaves (subst (λ s. ChangesOnly (log_at s two) (Some before) (Some after)) is only)
+publishes (Ok (jobs.Search one two rule demands budget keep_all rle)) (Some before) None status is apart nowhere leaves only = tt
+publishes (Ok (jobs.Search one two rule demands budget keep_all rle)) None after status is apart nowhere leaves only = tt
+publishes (Ok (jobs.Sat one two budget keep_all)) before after status is apart nowhere leaves only = tt
+publishes (Ok (jobs.Check one two rule demands)) before after status is apart nowhere leaves only = tt
+publishes (Ok (jobs.Judge one two rule demands rle)) before after status is apart nowhere leaves only = tt
+publishes (Ok (jobs.Cnf one rule demands)) before after status is apart nowhere leaves only = tt
+publishes (Ok (jobs.Lrat one two)) before after status is apart nowhere leaves only = tt
+publishes (Ok (jobs.Rule rule)) before after status is apart nowhere leaves only = tt
+publishes (Ok (jobs.Make seed size one two)) before after status is apart nowhere leaves only = tt
+publishes (Err error) before after status is apart nowhere leaves only = tt

@@ -12,7 +12,7 @@ use Rattle.lls_encode.specs.Formula.{formula_of}
 use Rattle.lls_cli.specs.declared.status.Status.{Status}
 use Rattle.lls_cli.specs.declared.status.Status.TheVariants as statuses
 use Rattle.lls_cli.specs.Answer.{GivenAnswer, judge_answer, Holds, IsAnswer}
-use Rattle.lls_cli.specs.Question.{Question, checks, refutes, judges, searches, decides, encodes, prints}
+use Rattle.lls_cli.specs.Question.{Question, checks, refutes, judges, searches, decides, encodes, prints, makes}
 use Rattle.lls_cli.specs.Moment.{ShelfMoment}
 use Rattle.lls_cli.specs.Steps.{LeavesAlone, LeavesPrinting}
 
@@ -67,6 +67,7 @@ leaves_printing (judges problem history) answer before after right alone = tt
 leaves_printing (searches problem effort rle) answer before after right alone = tt
 leaves_printing (decides formula effort) answer before after right alone = tt
 leaves_printing (encodes problem) answer before after right alone = tt
+leaves_printing (makes seed size name effort) answer before after right alone = tt
 
 -- nor does a run that gives no answer touch the shelf
 pub leaves_printing-refl : (question : Question) (shelf : ShelfMoment) → LeavesPrinting question shelf shelf
@@ -77,3 +78,4 @@ leaves_printing-refl (judges problem history) shelf = tt
 leaves_printing-refl (searches problem effort rle) shelf = tt
 leaves_printing-refl (decides formula effort) shelf = tt
 leaves_printing-refl (encodes problem) shelf = tt
+leaves_printing-refl (makes seed size name effort) shelf = tt

@@ -42,7 +42,7 @@ proof_of formula effort steps file is refutation accepted = record {
   accepted = accepted;
 }
 
-log_of : (formula : Cnf) (effort : Effort) (steps : List Step) (file : NamedFile) → file ≡ record { name = effort.proof; bytes = log_text steps } → IsExhausted formula effort.budget steps
+pub log_of : (formula : Cnf) (effort : Effort) (steps : List Step) (file : NamedFile) → file ≡ record { name = effort.proof; bytes = log_text steps } → IsExhausted formula effort.budget steps
     → HasSpentLog formula effort file
 log_of formula effort steps file is exhausted = record {
   steps = steps;

@@ -11,6 +11,7 @@ use Rattle.lls_problem.specs.Plane.{PlaneLaw}
 use Rattle.lls_problem.specs.Solution.{IsSolution, IsAbsent}
 use Rattle.lls_lit.specs.Formula.{Cnf, IsUnsatisfiable}
 use Rattle.lls_cnf.specs.DimacsText.{dimacs_text}
+use Rattle.lls_gen.specs.Made.{made_problem}
 use Rattle.lls_encode.specs.Formula.{formula_of}
 use Rattle.lls_lrat.specs.declared.error.CheckError.{CheckError}
 use Rattle.lls_lrat.specs.FaultText.{check_error_text}
@@ -18,12 +19,14 @@ use Rattle.lls_lrat.specs.Verdict.{Accepted, verdict, answer_of}
 use Rattle.lls_cli.specs.declared.status.Status.{Status}
 use Rattle.lls_cli.specs.declared.status.Status.TheVariants as statuses
 use Rattle.lls_problem.specs.Texts.{judgement_text}
-use Rattle.lls_cli.specs.Question.{Question, Effort, checks, refutes, judges, searches, decides, encodes, prints}
+use Rattle.lls_cli.specs.Question.{Question, Effort, checks, refutes, judges, searches, decides, encodes, prints, makes}
 use Rattle.lls_cli.specs.Evidence.{NamedFile, HasProof, HasSpentLog}
 use Rattle.lls_cli.specs.ModelText.{model_text}
 use Rattle.lls_cli.specs.PatternText.{pattern_text}
+use Rattle.lls_cli.specs.Making.{summary_text}
 
--- the status, the text for the standard output, and the file that is written before it, if any
+-- the status, the text for the standard output, and the file that is written before it, if any. A file that is written before the
+-- answer is looked for is none of the answer
 pub record GivenAnswer : Type 0 where
   pub status : Status
   pub text : List ℕ
@@ -76,6 +79,16 @@ pub data IsFinding (problem : PosedProblem) (effort : Effort) (rle : Bool) : Giv
   undecided : (file : NamedFile) → HasSpentLog (formula_of problem) effort file
       → IsFinding problem effort rle (said_behind file statuses.Undecided (codes "undecided"))
 
+-- a status and a summary, behind a file
+abbrev pub summed_behind : NamedFile → Status → List ℕ → GivenAnswer
+summed_behind file status text = record (shown status text) { file = Some file }
+
+-- how the search of a made problem ends: it has a solution, so it is found, or the file has a spent log of its formula
+pub data IsMaking (seed size : ℕ) (effort : Effort) : GivenAnswer → Type 0 where
+  solved : IsMaking seed size effort (shown statuses.Pattern (summary_text seed size (codes "pattern")))
+  unsolved : (file : NamedFile) → HasSpentLog (formula_of (made_problem seed size)) effort file
+      → IsMaking seed size effort (summed_behind file statuses.Undecided (summary_text seed size (codes "undecided")))
+
 -- what the yes of a question says: of a check that the proof is accepted, and that there is no solution, or that no assignment
 -- satisfies the formula; of a judging that the pattern is a solution, and keeps the rule on the whole plane where it has to
 abbrev pub YesHolds : Question → Type 0
@@ -86,6 +99,7 @@ YesHolds (searches problem effort rle) = ⊥
 YesHolds (decides formula effort) = ⊥
 YesHolds (encodes problem) = Unit {0}
 YesHolds (prints rule) = Unit {0}
+YesHolds (makes seed size name effort) = ⊥
 
 -- what its no says: of a check that the proof isn't accepted, of a judging that the pattern is no solution
 abbrev pub NoHolds : Question → Type 0
@@ -96,15 +110,17 @@ NoHolds (searches problem effort rle) = ⊥
 NoHolds (decides formula effort) = ⊥
 NoHolds (encodes problem) = ⊥
 NoHolds (prints rule) = ⊥
+NoHolds (makes seed size name effort) = ⊥
 
 -- what it says that a search found something: there is a solution, which keeps the rule on the whole plane where it has to, or
 -- an assignment that satisfies the formula
 abbrev pub IsThere : Question → Type 0
 IsThere (searches problem effort rle) = (history : History) × IsSolution problem history × PlaneLaw problem history
 IsThere (decides formula effort) = (values : List Bool) × IsModel formula values
+IsThere (makes seed size name effort) = (history : History) × IsSolution (made_problem seed size) history × PlaneLaw (made_problem seed size) history
 IsThere question = ⊥
 
--- what it says that there is nothing to find
+-- what it says that there is nothing to find; of a made problem nothing says so
 abbrev pub IsNowhere : Question → Type 0
 IsNowhere (searches problem effort rle) = IsAbsent problem
 IsNowhere (decides formula effort) = IsUnsatisfiable formula
@@ -114,6 +130,7 @@ IsNowhere question = ⊥
 abbrev pub IsSearch : Question → Type 0
 IsSearch (searches problem effort rle) = Unit {0}
 IsSearch (decides formula effort) = Unit {0}
+IsSearch (makes seed size name effort) = Unit {0}
 IsSearch question = ⊥
 
 -- what a status says of a question
@@ -134,6 +151,7 @@ Answers (searches problem effort rle) answer = IsFinding problem effort rle answ
 Answers (decides formula effort) answer = IsDecision formula effort answer
 Answers (encodes problem) answer = answer ≡ shown statuses.Done (dimacs_text (formula_of problem))
 Answers (prints rule) answer = answer ≡ said statuses.Done (rule_text rule)
+Answers (makes seed size name effort) answer = IsMaking seed size effort answer
 
 -- an answer is right, and what its status says holds
 pub record IsAnswer (question : Question) (answer : GivenAnswer) : Type 0 where

@@ -1,5 +1,5 @@
 -- What a run's end says in plain sentences. Each follows from how the run ends.
-use Rattle.std.specs.Prelude.{◌≡◌, ◌≢◌, ◌≤◌, ◌⊎◌, ℕ, List, length, Option, None, Some, Result, Ok, Err}
+use Rattle.std.specs.Prelude.{◌≡◌, ◌≢◌, ◌≤◌, ◌⊎◌, ℕ, List, [], ◌∷◌, ◌++◌, length, All, Option, None, Some, Result, Ok, Err}
 use Rattle.std.specs.FinMap as map
 use Rattle.std.specs.Option.{option_map}
 use Rattle.lls_base.specs.Faults.{Rose}
@@ -7,13 +7,14 @@ use Rattle.lls_base.specs.Shelf.{Files}
 use Rattle.lls_words.specs.declared.error.WordsError.{WordsError}
 use Rattle.lls_lit.specs.Formula.{Cnf}
 use Rattle.lls_encode.specs.Formula.{formula_of}
+use Rattle.lls_gen.specs.Made.{made_problem}
 use Rattle.lls_words.specs.declared.job.Job.{Job}
 use Rattle.lls_words.specs.declared.job.Job.TheVariants as jobs
 use Rattle.lls_cli.specs.declared.fault.Fault.TheVariants as faults
 use Rattle.lls_cli.specs.declared.fault.OutsideFault.TheVariants as outside
 use Rattle.lls_cli.specs.declared.status.Status.{Status}
 use Rattle.lls_cli.specs.declared.status.Status.TheVariants as statuses
-use Rattle.lls_cli.specs.Question.{Question, Effort, checks, searches, decides, question_of}
+use Rattle.lls_cli.specs.Question.{Question, Effort, checks, searches, decides, makes, question_of}
 use Rattle.lls_cli.specs.Evidence.{NamedFile}
 use Rattle.lls_cli.specs.Answer.{Holds, YesHolds}
 use Rattle.lls_cli.specs.declared.input.TheConstants.{PROOF_LIMIT}
@@ -43,28 +44,37 @@ IsAnswered statuses.NoPattern = Unit {0}
 IsAnswered statuses.Undecided = Unit {0}
 IsAnswered status = ⊥
 
--- the statuses at which a file may have changed
-abbrev pub MayWrite : Status → Type 0
-MayWrite statuses.Outside = Unit {0}
-MayWrite statuses.NoPattern = Unit {0}
-MayWrite statuses.Undecided = Unit {0}
-MayWrite status = ⊥
+-- the file of a proof or a log, at the statuses at which it may have changed
+abbrev pub log_at : Status → List ℕ → List (List ℕ)
+log_at statuses.Outside name = name ∷ []
+log_at statuses.NoPattern name = name ∷ []
+log_at statuses.Undecided name = name ∷ []
+log_at status name = []
 
--- the file that a job may write
-abbrev pub output_of : Job → Option (List ℕ)
-output_of (jobs.Search search_file proof rule demands budget keep_all rle) = Some proof
-output_of (jobs.Sat formula proof budget keep_all) = Some proof
-output_of job = None
+-- the search file of a made problem, at the statuses at which it may have changed
+abbrev pub search_file_at : Status → List ℕ → List (List ℕ)
+search_file_at statuses.Outside name = name ∷ []
+search_file_at statuses.Memory name = name ∷ []
+search_file_at statuses.Pattern name = name ∷ []
+search_file_at statuses.Undecided name = name ∷ []
+search_file_at status name = []
 
-abbrev pub output_of_words : Result Job WordsError → Option (List ℕ)
-output_of_words (Ok job) = output_of job
-output_of_words (Err error) = None
+-- the files that a job may have changed, by the status at which it ends
+abbrev pub outputs_of : Job → Status → List (List ℕ)
+outputs_of (jobs.Search search_file proof rule demands budget keep_all rle) status = log_at status proof
+outputs_of (jobs.Sat formula proof budget keep_all) status = log_at status proof
+outputs_of (jobs.Make seed size search_file proof) status = search_file_at status search_file ++ log_at status proof
+outputs_of job status = []
 
--- no file changed, but perhaps that one
-abbrev pub ChangesOnly : Option (List ℕ) → Option Files → Option Files → Type 0
-ChangesOnly None before after = after ≡ before
-ChangesOnly (Some name) before after =
-    (other : List ℕ) → other ≢ name → option_map (λ files. map.get files other) after ≡ option_map (λ files. map.get files other) before
+abbrev pub outputs_of_words : Result Job WordsError → Status → List (List ℕ)
+outputs_of_words (Ok job) status = outputs_of job status
+outputs_of_words (Err error) status = []
+
+-- no file changed, but perhaps these
+abbrev pub ChangesOnly : List (List ℕ) → Option Files → Option Files → Type 0
+ChangesOnly [] before after = after ≡ before
+ChangesOnly (name ∷ names) before after =
+    (other : List ℕ) → All (λ changed. other ≢ changed) (name ∷ names) → option_map (λ files. map.get files other) after ≡ option_map (λ files. map.get files other) before
 
 -- a fact of the file that a name stands for
 abbrev pub OfFile : (NamedFile → Type 0) → List ℕ → Option Files → Type 0
@@ -75,7 +85,13 @@ OfFile Fact name (Some files) = (bytes : List ℕ) × (map.get files name ≡ So
 abbrev pub Leaves : (Cnf → Effort → NamedFile → Type 0) → Option Files → Question → Type 0
 Leaves Has files (searches problem effort rle) = OfFile (Has (formula_of problem) effort) effort.proof files
 Leaves Has files (decides formula effort) = OfFile (Has formula effort) effort.proof files
+Leaves Has files (makes seed size name effort) = OfFile (Has (formula_of (made_problem seed size)) effort) effort.proof files
 Leaves Has files question = ⊥
+
+-- a file that is written before the answer is looked for stands whole
+abbrev pub StandsIn : Option Files → Option NamedFile → Type 0
+StandsIn (Some files) (Some file) = map.get files file.name ≡ Some file.bytes
+StandsIn files file = Unit {0}
 
 -- after a search that found nothing, a check with the same words for the problem asks of the files that are left whether the
 -- proof is accepted, where it is no longer than a check reads; and the check's yes holds

@@ -14,10 +14,11 @@ use Rattle.lls_cli.specs.declared.fault.OutsideFault.TheVariants as outside
 use Rattle.lls_cli.specs.declared.status.Status.{Status}
 use Rattle.lls_cli.specs.declared.status.Status.TheVariants as statuses
 use Rattle.lls_cli.specs.Fault.{fault_line, status_of}
-use Rattle.lls_cli.specs.Question.{Question, Asks}
+use Rattle.lls_cli.specs.Question.{Question, makes, Asks}
 use Rattle.lls_cli.specs.Evidence.{NamedFile}
+use Rattle.lls_cli.specs.Making.{made_file}
 use Rattle.lls_cli.specs.Answer.{GivenAnswer, IsAnswer}
-use Rattle.lls_cli.specs.Moment.{ShelfMoment, SinkMoment, Moment, files_at}
+use Rattle.lls_cli.specs.Moment.{ShelfMoment, SinkMoment, Moment, with_shelf, files_at}
 
 -- a sink grew by some first bytes of a text, and by all of it but where its count of faults rose
 pub record GrewBy (text : List ℕ) (before after : SinkMoment) : Type 0 where
@@ -101,10 +102,10 @@ LeavesPart (faults.Outside outside.WriteFailed) file before after =
     (n : ℕ) × (n ≤ length file.bytes) × (after ≡ option_map (λ files. map.insert files file.name (take n file.bytes)) before)
 LeavesPart fault file before after = ⊥
 
--- the file of an answer failed: a call of the shelf did. The standard output has nothing of the answer
-pub record FileFailed (answer : GivenAnswer) (fault : Fault) (before after : Moment) (status : Status) : Type 0 where
+-- a file failed: a call of the shelf did. The standard output has nothing new
+pub record FileFailed (written : Option NamedFile) (fault : Fault) (before after : Moment) (status : Status) : Type 0 where
   pub file : NamedFile
-  pub file_is : answer.file ≡ Some file
+  pub file_is : written ≡ Some file
   pub part : LeavesPart fault file (files_at before.shelf) (files_at after.shelf)
   pub status_is : status ≡ statuses.Outside
   pub shelf_counts : Counts before.shelf.faults after.shelf.faults
@@ -126,24 +127,47 @@ pub data End : Type 0 where
   refused : Fault → End
   lacked : End
   input_failed : Fault → End
+  ahead_failed : Fault → End
   answered : GivenAnswer → End
   file_failed : GivenAnswer → Fault → End
   output_failed : GivenAnswer → End
 
--- how a question ends: with a right answer that is given, or that the outside refuses, or for want of memory
+-- how a question ends: with a right answer that is given, or that the outside refuses, or for want of memory. A file that is
+-- written before the answer is looked for stands by then
 abbrev pub IsEndOf : Question → Moment → Moment → Status → End → Type 0
 IsEndOf question before after status (answered answer) = IsAnswer question answer × Delivered answer before after status
-IsEndOf question before after status (file_failed answer fault) = IsAnswer question answer × FileFailed answer fault before after status
+IsEndOf question before after status (file_failed answer fault) = IsAnswer question answer × FileFailed answer.file fault before after status
 IsEndOf question before after status (output_failed answer) = IsAnswer question answer × OutputFailed answer before after status
 IsEndOf question before after status lacked = LacksMemory before after status
 IsEndOf question before after status (refused fault) = ⊥
 IsEndOf question before after status (input_failed fault) = ⊥
+IsEndOf question before after status (ahead_failed fault) = ⊥
 
--- a job that has no input leaves the shelf alone
+-- the file that is written before the answer is looked for: a made problem's search file, and no other
+abbrev pub ahead_of : Question → Option NamedFile
+ahead_of (makes seed size name effort) = Some (made_file seed size name)
+ahead_of question = None
+
+-- how a question ends behind its file: the file wasn't made or written whole; or there was no memory to make it; or it stands whole,
+-- and the question ends from there
+abbrev pub IsEndBehind : Option NamedFile → Question → Moment → Moment → Status → End → Type 0
+IsEndBehind None question before after status end = IsEndOf question before after status end
+IsEndBehind (Some file) question before after status (ahead_failed fault) = FileFailed (Some file) fault before after status
+IsEndBehind (Some file) question before after status lacked =
+    LacksMemory before after status ⊎ ((mid : ShelfMoment) × WroteFile (Some file) before.shelf mid × LacksMemory (with_shelf before mid) after status)
+IsEndBehind (Some file) question before after status end =
+    (mid : ShelfMoment) × WroteFile (Some file) before.shelf mid × IsEndOf question (with_shelf before mid) after status end
+
+abbrev pub Ends : Question → Moment → Moment → Status → End → Type 0
+Ends question before after status end = IsEndBehind (ahead_of question) question before after status end
+
+-- the jobs that read files
 abbrev pub HasInputs : Job → Type 0
 HasInputs (jobs.Rule rule) = ⊥
+HasInputs (jobs.Make seed size search_file proof) = ⊥
 HasInputs job = Unit {0}
 
+-- the printing of a rule leaves the shelf alone
 abbrev pub LeavesShelf : Job → ShelfMoment → ShelfMoment → Type 0
 LeavesShelf (jobs.Rule rule) before after = after ≡ before
 LeavesShelf job before after = Unit {0}
@@ -152,9 +176,10 @@ LeavesShelf job before after = Unit {0}
 abbrev pub IsEndOfJob : Job → Moment → Moment → Status → End → Type 0
 IsEndOfJob job before after status (refused fault) = IsDecided fault × Asks job (files_at before.shelf) (Err fault) × Refused fault before after status
 IsEndOfJob job before after status (input_failed fault) = HasInputs job × InputFailed fault before after status
-IsEndOfJob job before after status lacked = LacksMemory before after status
+IsEndOfJob job before after status lacked =
+    LacksMemory before after status ⊎ ((question : Question) × Asks job (files_at before.shelf) (Ok question) × Ends question before after status lacked)
 IsEndOfJob job before after status end =
-    (question : Question) × Asks job (files_at before.shelf) (Ok question) × IsEndOf question before after status end
+    (question : Question) × Asks job (files_at before.shelf) (Ok question) × Ends question before after status end
 
 -- how a command line ends
 abbrev pub IsEnd : Result Job WordsError → Moment → Moment → Status → End → Type 0

@@ -4,6 +4,7 @@ pub mod Question
 pub mod Evidence
 pub mod ModelText
 pub mod PatternText
+pub mod Making
 pub mod Answer
 pub mod Moment
 pub mod Ends

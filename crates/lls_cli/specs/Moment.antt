@@ -30,6 +30,10 @@ sink_moment written faults = record { written = written; faults = faults }
 abbrev pub moment : ShelfMoment → SinkMoment → SinkMoment → Moment
 moment shelf out err = record { shelf = shelf; out = out; err = err }
 
+-- a moment with another shelf
+abbrev pub with_shelf : Moment → ShelfMoment → Moment
+with_shelf before shelf = moment shelf before.out before.err
+
 -- the files, where the shelf tells them
 abbrev pub files_at : ShelfMoment → Option Files
 files_at shelf = known_files shelf.told

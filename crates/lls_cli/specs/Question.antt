@@ -21,6 +21,7 @@ use Rattle.lls_search_file.specs.Plain.{plain_of}
 use Rattle.lls_problem.specs.declared.demands.Demands.{Demands}
 use Rattle.lls_problem.specs.declared.demands.DemandError.{DemandError}
 use Rattle.lls_problem.specs.Problem.{PosedProblem, problem_made}
+use Rattle.lls_words.specs.declared.values.TheConstants.{DEFAULT_BUDGET}
 use Rattle.lls_words.specs.declared.job.Job.{Job}
 use Rattle.lls_words.specs.declared.job.Job.TheVariants as jobs
 use Rattle.lls_cli.specs.declared.fault.Fault.{Fault}
@@ -36,7 +37,8 @@ pub record Effort : Type 0 where
 
 -- check this proof's bytes against this problem, or against this formula; judge this history by this problem; find a
 -- solution of this problem, which is printed as a picture or as rows, or an assignment that satisfies this formula, or show
--- that there is none; print this problem's formula; print this rule
+-- that there is none; print this problem's formula; print this rule; make a problem from this seed and of this size, write it to
+-- the file of this name, and search it
 pub data Question : Type 0 where
   checks : PosedProblem → List ℕ → Question
   refutes : Cnf → List ℕ → Question
@@ -45,6 +47,7 @@ pub data Question : Type 0 where
   decides : Cnf → Effort → Question
   encodes : PosedProblem → Question
   prints : List Bool → Question
+  makes : ℕ → ℕ → List ℕ → Effort → Question
 
 -- the bytes of an input of at most `limit` bytes
 abbrev pub input_from : ℕ → Option (List ℕ) → Result (List ℕ) Fault
@@ -123,6 +126,10 @@ decide_question effort input = and_then (and_then input formula_in) (λ formula.
 abbrev pub effort_of : ℕ → Bool → List ℕ → Effort
 effort_of budget keep_all proof = record { budget = budget; keep_all = keep_all; proof = proof }
 
+-- how a search is made whose words say nothing of it
+abbrev pub default_effort : List ℕ → Effort
+default_effort proof = effort_of DEFAULT_BUDGET false proof
+
 abbrev pub encode_question : List Bool → Demands → Result (List ℕ) Fault → Result Question Fault
 encode_question rule demands input = and_then (and_then input (problem_in rule demands)) (λ problem. Ok (encodes problem))
 
@@ -139,6 +146,7 @@ question_of (jobs.Cnf search_file rule demands) files = encode_question rule dem
 question_of (jobs.Lrat formula proof) files =
     refute_question (input_of files formula MOST_DIMACS_BYTES) (input_of files proof PROOF_LIMIT)
 question_of (jobs.Rule rule) files = Ok (prints rule)
+question_of (jobs.Make seed size search_file proof) files = Ok (makes seed size search_file (default_effort proof))
 
 -- what an input can be read as, whatever its file says
 abbrev pub CanBeRead : ℕ → Result (List ℕ) Fault → Type 0
@@ -179,3 +187,4 @@ Asks (jobs.Sat formula proof budget keep_all) files question =
 Asks (jobs.Cnf search_file rule demands) files question = MadeOfOne files search_file SEARCH_LIMIT (encode_question rule demands) question
 Asks (jobs.Lrat formula proof) files question = MadeOf files formula MOST_DIMACS_BYTES proof PROOF_LIMIT refute_question question
 Asks (jobs.Rule rule) files question = question ≡ Ok (prints rule)
+Asks (jobs.Make seed size search_file proof) files question = question ≡ Ok (makes seed size search_file (default_effort proof))

@@ -1,8 +1,9 @@
 -- For private contracts alone: questions and answers as contracts see them.
-use Rattle.std.specs.Prelude.{◌≡◌, ◌≤◌}
+use Rattle.std.specs.Prelude.{◌≡◌, ◌≤◌, ℕ}
 use Rattle.std.specs.Option.{option_map}
 use Rattle.lls_hensel.specs.Isotropy.{IsIsotropic}
 use Rattle.lls_problem.specs.Problem.{PosedProblem}
+use Rattle.lls_gen.specs.declared.making.TheConstants.{MOST_SIZE}
 use Rattle.lls_encode.specs.Formula.{formula_of}
 use Rattle.lls_solver.specs.declared.solving.TheConstants.{MOST_BUDGET}
 use Rattle.lls_cli.specs.declared.question.Question as code
@@ -12,7 +13,7 @@ use Rattle.lls_cli.specs.declared.search.Finding as searched
 use Rattle.lls_cli.specs.declared.search.Finding.TheVariants as findings
 use Rattle.lls_cli.specs.declared.answer.Answer as answers
 use Rattle.lls_cli.specs.declared.answer.AnswerFile as files
-use Rattle.lls_cli.specs.Question.{Question, Effort, checks, refutes, judges, searches, decides, encodes, prints}
+use Rattle.lls_cli.specs.Question.{Question, Effort, checks, refutes, judges, searches, decides, encodes, prints, makes}
 use Rattle.lls_cli.specs.Evidence.{NamedFile}
 use Rattle.lls_cli.specs.Answer.{GivenAnswer, none_behind}
 
@@ -27,12 +28,18 @@ seen_question (asked.Search problem effort rle) = searches problem (seen_effort 
 seen_question (asked.Decide formula effort) = decides formula (seen_effort effort)
 seen_question (asked.Encode problem) = encodes problem
 seen_question (asked.Print rule) = prints rule
+seen_question (asked.Make seed size search effort) = makes seed size search (seen_effort effort)
 
--- a rule that is to be printed is isotropic, perhaps in the pictures of a search; and a budget is within its limit
+-- a size that a problem can be made of
+abbrev pub IsSize : ℕ → Type 0
+IsSize size = (1 ≤ size) × (size ≤ MOST_SIZE)
+
+-- a rule that is to be printed is isotropic, perhaps in the pictures of a search; and a budget and a size are within their limits
 abbrev pub CanAnswer : code.Question → Type 0
 CanAnswer (asked.Print rule) = IsIsotropic rule
 CanAnswer (asked.Search problem effort rle) = IsIsotropic problem.rule × (effort.budget ≤ MOST_BUDGET)
 CanAnswer (asked.Decide formula effort) = effort.budget ≤ MOST_BUDGET
+CanAnswer (asked.Make seed size search effort) = IsSize size × (effort.budget ≤ MOST_BUDGET)
 CanAnswer question = Unit {0}
 
 abbrev pub seen_file : files.AnswerFile → NamedFile

@@ -17,7 +17,7 @@ use Rattle.lls_cli.specs.Question.{Question, prints}
 use Rattle.lls_cli.specs.Evidence.{NamedFile}
 use Rattle.lls_cli.specs.Answer.{GivenAnswer}
 use Rattle.lls_cli.specs.Moment.{ShelfMoment, SinkMoment, Moment, files_at}
-use Rattle.lls_cli.specs.Ends.{GrewBy, KeepsFiles, LeavesPart, Delivered, FileFailed, OutputFailed, End, refused, lacked, input_failed, answered, file_failed, output_failed}
+use Rattle.lls_cli.specs.Ends.{GrewBy, KeepsFiles, LeavesPart, Delivered, FileFailed, OutputFailed, End, refused, lacked, input_failed, ahead_failed, answered, file_failed, output_failed}
 
 -- why reading stopped: for want of memory; since a call of the shelf failed; or for what the inputs say, and no call failed
 abbrev pub Stops : Fault → (Fault → Type 0) → ShelfMoment → ShelfMoment → Type 0
@@ -81,11 +81,12 @@ Gave status text out_before out_after err_before err_after ended =
 -- how an answer was given
 abbrev pub IsDelivery : GivenAnswer → Moment → Moment → Status → End → Type 0
 IsDelivery answer before after status (answered given) = (given ≡ answer) × Delivered given before after status
-IsDelivery answer before after status (file_failed given fault) = (given ≡ answer) × FileFailed given fault before after status
+IsDelivery answer before after status (file_failed given fault) = (given ≡ answer) × FileFailed given.file fault before after status
 IsDelivery answer before after status (output_failed given) = (given ≡ answer) × OutputFailed given before after status
 IsDelivery answer before after status lacked = ⊥
 IsDelivery answer before after status (refused fault) = ⊥
 IsDelivery answer before after status (input_failed fault) = ⊥
+IsDelivery answer before after status (ahead_failed fault) = ⊥
 
 -- an answer without a file leaves the shelf alone
 abbrev pub LeavesAlone : Option NamedFile → ShelfMoment → ShelfMoment → Type 0

@@ -11,7 +11,7 @@ use crate::fault::Fault;
 use crate::input::{PROOF_LIMIT, read_formula, read_input, read_pattern, read_problem};
 use crate::question::{Effort, Question};
 use lls_base::Shelf;
-use lls_words::Job;
+use lls_words::{DEFAULT_BUDGET, Job};
 use std::alloc::Global;
 
 /// What a job asks, read from the shelf.
@@ -97,5 +97,23 @@ pub fn ask<S: Shelf>(alloc: Global, shelf: &mut S, job: Job) -> Result<Question,
             Ok(Question::Refute { formula, proof })
         }
         Job::Rule { rule } => Ok(Question::Print { rule }),
+        Job::Make {
+            seed,
+            size,
+            search,
+            proof,
+        } => {
+            let effort = Effort {
+                budget: DEFAULT_BUDGET,
+                keep_all: false,
+                proof,
+            };
+            Ok(Question::Make {
+                seed,
+                size,
+                search,
+                effort,
+            })
+        }
     }
 }

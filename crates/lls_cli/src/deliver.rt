@@ -27,7 +27,7 @@ fn write_line<E: Sink>(err: &mut E, line: &[u8])
 }
 
 /// Says a failure of the outside on the standard error. It takes no memory.
-fn say<E: Sink>(fault: OutsideFault, err: &mut E) -> Status
+pub fn say<E: Sink>(fault: OutsideFault, err: &mut E) -> Status
     ensures status { result ≡ Status.Outside }
     ensures line { GrewBy (fault_line (Outside fault)) (sink_moment (E.written err.old) (E.faults err.old)) (sink_moment (E.written err.new) (E.faults err.new)) }
 {
@@ -68,7 +68,10 @@ fn file_fault(fault: FileFault) -> OutsideFault
 }
 
 /// Writes the file of an answer, if it has one.
-fn write_answer_file<S: Shelf>(file: &Option<AnswerFile>, shelf: &mut S) -> Result<(), OutsideFault>
+pub fn write_answer_file<S: Shelf>(
+    file: &Option<AnswerFile>,
+    shelf: &mut S,
+) -> Result<(), OutsideFault>
     ensures written { OnOk result (WroteFile (option_map seen_file file.now)
         (shelf_moment (S.told shelf.old) (S.has_input shelf.old) (S.has_output shelf.old) (S.faults shelf.old))
         (shelf_moment (S.told shelf.new) (S.has_input shelf.new) (S.has_output shelf.new) (S.faults shelf.new))) }

@@ -11,6 +11,7 @@ mod evidence;
 mod fault;
 mod input;
 mod judge;
+mod making;
 mod model;
 mod pattern;
 mod print;

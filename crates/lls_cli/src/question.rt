@@ -53,4 +53,11 @@ pub enum Question {
     Print {
         rule: Rule,
     },
+    /// Which solution has the problem that is made of the seed and the size, once it is written to a search file?
+    Make {
+        seed: u64,
+        size: u32,
+        search: Name,
+        effort: Effort,
+    },
 }

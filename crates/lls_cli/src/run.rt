@@ -3,29 +3,30 @@ ghost use Rattle.std.specs.Prelude.{◌≡◌, ◌≤◌, ◌⊎◌, map, string
 ghost use Rattle.lls_base.specs.Shelf.{known_files};
 ghost use Rattle.lls_words.specs.Job.{job_of};
 ghost use Rattle.lls_cli.specs.Answer.{IsAnswer, IsNowhere, IsThere, NoHolds, YesHolds};
-ghost use Rattle.lls_cli.specs.Claims.{ChangesOnly, CountsNeverFall, HasCause, IsAnswered, IsComplete, IsSilent, Leaves, MayWrite, NothingFailed, OfQuestion, Publishes, output_of_words};
+ghost use Rattle.lls_cli.specs.Claims.{ChangesOnly, CountsNeverFall, HasCause, IsAnswered, IsComplete, IsSilent, Leaves, NothingFailed, OfQuestion, Publishes, StandsIn, outputs_of_words};
 ghost use Rattle.lls_cli.specs.Evidence.{HasProof, HasSpentLog};
-ghost use Rattle.lls_cli.specs.Ends.{End, IsEnd, IsEndOf};
+ghost use Rattle.lls_cli.specs.Ends.{End, Ends, IsEnd, IsEndOf, ahead_of};
 ghost use Rattle.lls_cli.specs.Moment.{moment, shelf_moment, sink_moment};
 ghost use Rattle.lls_hensel.specs.Isotropy.{IsIsotropic};
 ghost use Rattle.lls_solver.specs.declared.solving.TheConstants.{MOST_BUDGET};
 ghost use Rattle.lls_cli.specs.Question as questions;
-ghost use Rattle.lls_cli.specs.Question.{searches};
-ghost use Rattle.lls_cli.specs.Seen.{seen_answer, seen_effort, seen_finding, seen_question, CanAnswer, Stands};
+ghost use Rattle.lls_cli.specs.Question.{makes, searches};
+ghost use Rattle.lls_cli.specs.Seen.{seen_answer, seen_effort, seen_finding, seen_question, CanAnswer, IsSize, Stands};
 ghost use Rattle.lls_cli.specs.Steps.{LeavesPrinting};
 
 use crate::answer::Answer;
 use crate::ask::ask;
 use crate::check::{check, refute};
 use crate::decide::decide;
-use crate::deliver::{deliver, deliver_none, lack, refuse};
+use crate::deliver::{deliver, deliver_none, lack, refuse, say, write_answer_file};
 use crate::fault::Fault;
 use crate::judge::judge;
+use crate::making::{make_file, solve_made};
 use crate::print::{print_formula, print_line};
 use crate::question::{Effort, Question};
 use crate::search::{Finding, search};
 use crate::status::Status;
-use lls_base::{Memory, Shelf, Sink};
+use lls_base::{Memory, Name, Shelf, Sink};
 use lls_encode::encode;
 use lls_problem::Problem;
 use lls_words::read_job;
@@ -99,8 +100,36 @@ fn give_search<S: Shelf, O: Sink, E: Sink>(
     }
 }
 
+/// Makes a problem, writes its search file, searches its solution, and gives what comes of it.
+fn give_making<S: Shelf, O: Sink, E: Sink>(
+    alloc: Global,
+    seed: u64,
+    size: u32,
+    search: Name,
+    effort: Effort,
+    shelf: &mut S,
+    out: &mut O,
+    err: &mut E,
+) -> Status
+    requires size { IsSize size }
+    requires budget { effort.budget ≤ MOST_BUDGET }
+    ensures { (end : End) × Ends (makes seed size search (seen_effort effort))
+        (moment (shelf_moment (S.told shelf.old) (S.has_input shelf.old) (S.has_output shelf.old) (S.faults shelf.old)) (sink_moment (O.written out.old) (O.faults out.old)) (sink_moment (E.written err.old) (E.faults err.old)))
+        (moment (shelf_moment (S.told shelf.new) (S.has_input shelf.new) (S.has_output shelf.new) (S.faults shelf.new)) (sink_moment (O.written out.new) (O.faults out.new)) (sink_moment (E.written err.new) (E.faults err.new)))
+        result end }
+{
+    let (made, file) = match make_file(alloc, seed, size, search) {
+        Ok(pair) => pair,
+        Err(Memory) => return lack(err),
+    };
+    match write_answer_file(&Some(file), shelf) {
+        Ok(()) => give(solve_made(alloc, &made, effort), shelf, out, err),
+        Err(fault) => say(fault, err),
+    }
+}
+
 /// Answers a question, and gives the answer.
-fn give_answer<S: Shelf, O: Sink, E: Sink>(
+pub(crate) fn give_answer<S: Shelf, O: Sink, E: Sink>(
     alloc: Global,
     question: Question,
     shelf: &mut S,
@@ -108,7 +137,7 @@ fn give_answer<S: Shelf, O: Sink, E: Sink>(
     err: &mut E,
 ) -> Status
     requires { CanAnswer question }
-    ensures end { (end : End) × IsEndOf (seen_question question)
+    ensures end { (end : End) × Ends (seen_question question)
         (moment (shelf_moment (S.told shelf.old) (S.has_input shelf.old) (S.has_output shelf.old) (S.faults shelf.old)) (sink_moment (O.written out.old) (O.faults out.old)) (sink_moment (E.written err.old) (E.faults err.old)))
         (moment (shelf_moment (S.told shelf.new) (S.has_input shelf.new) (S.has_output shelf.new) (S.faults shelf.new)) (sink_moment (O.written out.new) (O.faults out.new)) (sink_moment (E.written err.new) (E.faults err.new)))
         result end }
@@ -143,6 +172,12 @@ fn give_answer<S: Shelf, O: Sink, E: Sink>(
         ),
         Question::Encode { problem } => give(print_formula(alloc, &problem), shelf, out, err),
         Question::Print { rule } => give(print_line(alloc, &rule), shelf, out, err),
+        Question::Make {
+            seed,
+            size,
+            search,
+            effort,
+        } => give_making(alloc, seed, size, search, effort, shelf, out, err),
     }
 }
 
@@ -192,11 +227,13 @@ pub fn run<S: Shelf, O: Sink, E: Sink>(
 
     // A search says that it found something only where there is a solution, or an assignment that satisfies the formula, and
     // that there is nothing only where there is none. Then its file has a proof that the checker accepts. Where it is
-    // undecided, its file has the log of just as many clauses as it may learn, each of them fresh.
+    // undecided, its file has the log of just as many clauses as it may learn, each of them fresh. A made problem's search file
+    // stands whole at its answers.
     ensures found { result ≡ Status.Pattern → OfQuestion IsThere (job_of (map string_bytes words.now)) (known_files (S.told shelf.old)) }
     ensures absent { result ≡ Status.NoPattern → OfQuestion IsNowhere (job_of (map string_bytes words.now)) (known_files (S.told shelf.old)) }
     ensures proof { result ≡ Status.NoPattern → OfQuestion (Leaves HasProof (known_files (S.told shelf.new))) (job_of (map string_bytes words.now)) (known_files (S.told shelf.old)) }
     ensures log { result ≡ Status.Undecided → OfQuestion (Leaves HasSpentLog (known_files (S.told shelf.new))) (job_of (map string_bytes words.now)) (known_files (S.told shelf.old)) }
+    ensures made { IsAnswered result → OfQuestion (λ question. StandsIn (known_files (S.told shelf.new)) (ahead_of question)) (job_of (map string_bytes words.now)) (known_files (S.told shelf.old)) }
     ensures published { result ≡ Status.NoPattern → Publishes (job_of (map string_bytes words.now)) (known_files (S.told shelf.old)) (known_files (S.told shelf.new)) }
 
     // Where the inputs ask a question and nothing fails, it is answered, but for want of memory.
@@ -220,8 +257,7 @@ pub fn run<S: Shelf, O: Sink, E: Sink>(
 
     // What stands after it.
     ensures silent { IsSilent result → O.written out.new ≡ O.written out.old }
-    ensures files { (MayWrite result → ⊥) → known_files (S.told shelf.new) ≡ known_files (S.told shelf.old) }
-    ensures other_files { ChangesOnly (output_of_words (job_of (map string_bytes words.now))) (known_files (S.told shelf.old)) (known_files (S.told shelf.new)) }
+    ensures files { ChangesOnly (outputs_of_words (job_of (map string_bytes words.now)) result) (known_files (S.told shelf.old)) (known_files (S.told shelf.new)) }
     ensures counts { CountsNeverFall
         (moment (shelf_moment (S.told shelf.old) (S.has_input shelf.old) (S.has_output shelf.old) (S.faults shelf.old)) (sink_moment (O.written out.old) (O.faults out.old)) (sink_moment (E.written err.old) (E.faults err.old)))
         (moment (shelf_moment (S.told shelf.new) (S.has_input shelf.new) (S.has_output shelf.new) (S.faults shelf.new)) (sink_moment (O.written out.new) (O.faults out.new)) (sink_moment (E.written err.new) (E.faults err.new))) }

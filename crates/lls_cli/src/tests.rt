@@ -4,6 +4,7 @@ mod demands;
 mod faults;
 mod formulas;
 mod judging;
+mod making;
 mod outside;
 mod searches;
 

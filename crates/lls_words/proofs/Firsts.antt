@@ -1,8 +1,8 @@
 -- The first item of words, and the items of the words behind it.
-use Rattle.std.proofs.Common.{◌≡◌, ◌+◌, ℕ, suc, true, false, cond, List, [], ◌∷◌, length, map, drop, Some, zero, refl, ap, ◌∙◌, arith, string_bytes, String, Global}
+use Rattle.std.proofs.Common.{◌≡◌, ◌+◌, ℕ, suc, true, false, cond, List, [], ◌∷◌, length, map, drop, Some, refl, ap, ◌∙◌, arith, string_bytes, String, Global}
 use Rattle.std.specs.List.{slice_get}
 use Rattle.std.proofs.lemmas.Bool.Decides.{nat_tests}
-use Rattle.std.proofs.lemmas.List.{length-map}
+use Rattle.std.proofs.lemmas.List.{drop-map, length-map}
 use Rattle.lls_words.specs.Items.{item_of, takes_next, words_taken, items_of}
 
 items_of-longer : (place : ℕ) (word next : List ℕ) (words : List (List ℕ)) (taken : ℕ) → taken ≡ cond (takes_next word) 2 1
@@ -21,11 +21,6 @@ pub items_of-first : (place : ℕ) (word : List ℕ) (words : List (List ℕ))
 items_of-first place word [] = refl
 items_of-first place word (next ∷ words) =
     ap (λ rest. item_of place word (Some next) ∷ rest) (items_of-longer place word next words (words_taken word (suc (length words))) (taken-some word (length words)))
-
-drop-map : {A B : Type 0} (f : A → B) (n : ℕ) (xs : List A) → drop n (map f xs) ≡ map f (drop n xs)
-drop-map f zero xs = refl
-drop-map f (suc n) [] = refl
-drop-map f (suc n) (x ∷ xs) = drop-map f n xs
 
 -- the items of strings
 pub items_of-strings : (place : ℕ) (word : String Global) (strings : List (String Global)) (taken : ℕ) → taken ≡ words_taken (string_bytes word) (length strings)

@@ -1,5 +1,5 @@
 -- What holds of each option, by the table of all.
-use Rattle.std.proofs.Common.{◌≡◌, ℕ, Bool, true, false, List, [], ◌∷◌, map, get_or, codes, Option, Some, None, refl, ap, ◌∙◌}
+use Rattle.std.proofs.Common.{◌≡◌, ℕ, Bool, true, false, List, [], ◌∷◌, map, get_or, Option, Some, None, refl, ap, ◌∙◌}
 use Rattle.std.specs.Prelude.{if◌then◌else◌}
 use Rattle.std.specs.Str.{bytes_eq}
 use Rattle.clap.specs.Lexer.{long_of}
@@ -40,12 +40,6 @@ same_names settings.Budget b = by_table (λ t. bytes_eq (option_name settings.Bu
 same_names settings.Keep b = by_table (λ t. bytes_eq (option_name settings.Keep) (option_name t)) (λ t. same_setting settings.Keep t) refl b
 same_names settings.As b = by_table (λ t. bytes_eq (option_name settings.As) (option_name t)) (λ t. same_setting settings.As t) refl b
 
-pub not_first : (s : Setting) → bytes_eq (option_name s) (codes "first") ≡ false
-not_first = by_table _ _ refl
-
-pub not_second : (s : Setting) → bytes_eq (option_name s) (codes "second") ≡ false
-not_second = by_table _ _ refl
-
 -- how an option's word is read
 pub long_of-option : (s : Setting) (value : List ℕ) → long_of (option_word s value) ≡ Some (option_name s, Some value)
 long_of-option s value = by_table (λ s. long_of (option_word s value)) (λ s. Some (option_name s, Some value)) refl s
@@ -71,6 +65,7 @@ finds commands.Cnf = refl
 finds commands.Sat = refl
 finds commands.Lrat = refl
 finds commands.Rule = refl
+finds commands.Make = refl
 
 pub arg_by_long-option : (command : Command) (s : Setting) → takes command s ≡ true → arg_by_long (rules command) (option_name s) ≡ Some (filled (option_rule s))
 arg_by_long-option command s taken =
@@ -84,3 +79,4 @@ is_simple-parser commands.Cnf = refl
 is_simple-parser commands.Sat = refl
 is_simple-parser commands.Lrat = refl
 is_simple-parser commands.Rule = refl
+is_simple-parser commands.Make = refl

@@ -15,7 +15,8 @@ command_of name =
     if bytes_eq name (codes "cnf") then Some commands.Cnf else
     if bytes_eq name (codes "sat") then Some commands.Sat else
     if bytes_eq name (codes "lrat") then Some commands.Lrat else
-    if bytes_eq name (codes "rule") then Some commands.Rule else None
+    if bytes_eq name (codes "rule") then Some commands.Rule else
+    if bytes_eq name (codes "make") then Some commands.Make else None
 
 abbrev pub setting_of : List ℕ → Option Setting
 setting_of name =
@@ -37,6 +38,7 @@ operand_count commands.Cnf = 1
 operand_count commands.Sat = 2
 operand_count commands.Lrat = 2
 operand_count commands.Rule = 1
+operand_count commands.Make = 4
 
 -- the rule and the demands of a problem
 abbrev pub problem_options : List Setting
@@ -55,6 +57,7 @@ options_of commands.Cnf = problem_options
 options_of commands.Sat = search_options
 options_of commands.Lrat = []
 options_of commands.Rule = []
+options_of commands.Make = []
 
 -- where an option stands in the table of options
 abbrev pub table_place : Setting → ℕ

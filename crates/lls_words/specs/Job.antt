@@ -12,6 +12,7 @@ use Rattle.lls_problem.specs.declared.demands.Edge.TheVariants.{Framed}
 use Rattle.lls_problem.specs.declared.demands.Demands.{Demands}
 use Rattle.lls_problem.specs.Bounds.{HasEnds}
 use Rattle.lls_problem.specs.Problem.{edge_alone, IsPeriod}
+use Rattle.lls_gen.specs.declared.making.TheConstants.{MOST_SIZE}
 use Rattle.lls_words.specs.declared.command.Command.{Command}
 use Rattle.lls_words.specs.declared.command.Command.TheVariants as commands
 use Rattle.lls_words.specs.declared.command.Setting.{Setting}
@@ -25,7 +26,7 @@ use Rattle.lls_words.specs.Command.{command_of, operand_count}
 use Rattle.lls_base.specs.Results.{and_then}
 use Rattle.lls_words.specs.Scan.{Operand, Given, scan}
 use Rattle.lls_words.specs.declared.values.TheConstants.{DEFAULT_BUDGET, MOST_BUDGET}
-use Rattle.lls_words.specs.Values.{edge_in, period_in, bounds_in, generations_in, budget_in, keep_all_in, rle_in}
+use Rattle.lls_words.specs.Values.{edge_in, period_in, bounds_in, generations_in, budget_in, keep_all_in, rle_in, seed_in, size_in}
 
 -- a rule text at a place
 abbrev pub rule_or : ℕ → Result (List Bool) RuleError → Result (List Bool) WordsError
@@ -76,9 +77,9 @@ settled s (given ∷ givens) = and_then (with_value s given) (λ more. settled m
 abbrev pub defaults : Settings
 defaults = record { rule = table_of (by_counts 8 12); demands = edge_alone Framed; budget = DEFAULT_BUDGET; keep_all = false; rle = false }
 
--- the names of a file that is read and of one that is written, which have to differ
+-- the names of a file and of one that is written later, which have to differ
 abbrev pub names_apart : Operand → Operand → Result (List ℕ × List ℕ) WordsError
-names_apart input output = if bytes_eq input.word output.word then Err (SameName output.place) else Ok (input.word, output.word)
+names_apart file written = if bytes_eq file.word written.word then Err (SameName written.place) else Ok (file.word, written.word)
 
 -- the job of a command by its operands, whose number is the first test, and its options
 abbrev pub job_with : Command → List Operand → List Given → Result Job WordsError
@@ -96,6 +97,10 @@ job_with commands.Sat (formula ∷ proof ∷ []) givens =
     and_then (names_apart formula proof) (λ names. Ok (jobs.Sat names.0 names.1 s.budget s.keep_all)))
 job_with commands.Lrat (formula ∷ proof ∷ []) givens = Ok (jobs.Lrat formula.word proof.word)
 job_with commands.Rule (text ∷ []) givens = and_then (rule_at text.place text.word) (λ rule. Ok (jobs.Rule rule))
+job_with commands.Make (seed ∷ size ∷ search_file ∷ proof ∷ []) givens =
+    and_then (value_or seed.place (seed_in seed.word)) (λ number.
+    and_then (value_or size.place (size_in size.word)) (λ rows.
+    and_then (names_apart search_file proof) (λ names. Ok (jobs.Make number rows names.0 names.1))))
 job_with command operands givens = Err (Operands (operand_count command) (length operands))
 
 abbrev pub job_of_command : Option Command → List (List ℕ) → Result Job WordsError
@@ -119,7 +124,7 @@ pub record AreAllowed (rule : List Bool) (demands : Demands) (budget : ℕ) : Ty
   pub isotropic : IsIsotropic rule
   pub budgeted : budget ≤ MOST_BUDGET
 
--- what the words keep: demands and budgets are within the limits, and a rule that is to be printed is isotropic
+-- what the words keep: demands, budgets and sizes are within the limits, and a rule that is to be printed is isotropic
 abbrev pub KeepsLimits : Job → Type 0
 KeepsLimits (jobs.Check search_file proof rule demands) = AreWithinLimits demands
 KeepsLimits (jobs.Search search_file proof rule demands budget keep_all rle) = AreAllowed rule demands budget
@@ -128,3 +133,4 @@ KeepsLimits (jobs.Cnf search_file rule demands) = AreWithinLimits demands
 KeepsLimits (jobs.Sat formula proof budget keep_all) = budget ≤ MOST_BUDGET
 KeepsLimits (jobs.Lrat formula proof) = Unit {0}
 KeepsLimits (jobs.Rule rule) = IsIsotropic rule
+KeepsLimits (jobs.Make seed size search_file proof) = (1 ≤ size) × (size ≤ MOST_SIZE)

@@ -13,6 +13,7 @@ use Rattle.lls_words.specs.Scan.{Scanned}
 abbrev pub operand_names : Command → List (List ℕ)
 operand_names commands.Cnf = codes "first" ∷ []
 operand_names commands.Rule = codes "first" ∷ []
+operand_names commands.Make = codes "first" ∷ codes "second" ∷ codes "third" ∷ codes "fourth" ∷ []
 operand_names command = codes "first" ∷ codes "second" ∷ []
 
 -- an option takes one value

@@ -12,7 +12,8 @@ use Rattle.lls_problem.specs.declared.bounds.TheConstants.Bound.{MOST}
 use Rattle.lls_problem.specs.declared.demands.Edge.{Edge}
 use Rattle.lls_problem.specs.declared.demands.Edge.TheVariants.{Framed, Bare}
 use Rattle.lls_problem.specs.declared.demands.Period.{Period}
-use Rattle.lls_words.specs.declared.values.TheConstants.{MOST_DIGITS, MOST_BUDGET}
+use Rattle.lls_gen.specs.declared.making.TheConstants.{MOST_SIZE}
+use Rattle.lls_words.specs.declared.values.TheConstants.{MOST_DIGITS, MOST_BUDGET, MOST_SEED}
 use Rattle.lls_words.specs.Items.{is_dash}
 
 abbrev pub edge_in : List ℕ → Option Edge
@@ -47,6 +48,13 @@ number_in low high text = option_and_then (from_to low high) (natural_in text)
 
 abbrev pub budget_in : List ℕ → Option ℕ
 budget_in text = number_in 0 MOST_BUDGET text
+
+-- what a problem is made from: a number, and how many rows it has of as many cells
+abbrev pub seed_in : List ℕ → Option ℕ
+seed_in text = number_in 0 MOST_SEED text
+
+abbrev pub size_in : List ℕ → Option ℕ
+size_in text = number_in 1 MOST_SIZE text
 
 -- whether all learnt clauses are kept
 abbrev pub keep_all_in : List ℕ → Option Bool

@@ -14,6 +14,7 @@ pub enum Command {
     Sat,
     Lrat,
     Rule,
+    Make,
 }
 
 /// An option.
@@ -71,6 +72,8 @@ static ONE_OPERAND: [&str; 1] = ["first"];
 
 static TWO_OPERANDS: [&str; 2] = ["first", "second"];
 
+static FOUR_OPERANDS: [&str; 4] = ["first", "second", "third", "fourth"];
+
 impl Command {
     /// The command of that name.
     pub fn from_name(name: &[u8]) -> Option<Command>
@@ -90,6 +93,8 @@ impl Command {
             Some(Command::Lrat)
         } else if name == b"rule".as_slice() {
             Some(Command::Rule)
+        } else if name == b"make".as_slice() {
+            Some(Command::Make)
         } else {
             None
         }
@@ -102,6 +107,7 @@ impl Command {
         match self {
             Command::Check | Command::Search | Command::Judge | Command::Sat | Command::Lrat => 2,
             Command::Cnf | Command::Rule => 1,
+            Command::Make => 4,
         }
     }
 
@@ -114,7 +120,7 @@ impl Command {
             Command::Search => SEARCH_OPTIONS.as_slice(),
             Command::Judge => JUDGE_OPTIONS.as_slice(),
             Command::Sat => SAT_OPTIONS.as_slice(),
-            Command::Lrat | Command::Rule => NO_OPTIONS.as_slice(),
+            Command::Lrat | Command::Rule | Command::Make => NO_OPTIONS.as_slice(),
         }
     }
 
@@ -127,6 +133,7 @@ impl Command {
                 TWO_OPERANDS.as_slice()
             }
             Command::Cnf | Command::Rule => ONE_OPERAND.as_slice(),
+            Command::Make => FOUR_OPERANDS.as_slice(),
         }
     }
 

@@ -20,13 +20,13 @@ pub enum WordsError {
     RepeatedOption(u64),
     /// The option has no value.
     MissingValue(u64),
-    /// The value isn't one of the option's; the place is the option's.
+    /// The value isn't one that the option or the operand may have; the place is the option's or the operand's.
     BadValue(u64),
     /// The value is no rule text; the place is the option's or the operand's.
     BadRule(u64, RuleError),
     /// How many operands the command has, and how many there are.
     Operands(u64, u64),
-    /// The file that is to be written has the name of one that is read.
+    /// A file that is written has the name of an earlier one.
     SameName(u64),
     /// An allocation was refused.
     Memory,

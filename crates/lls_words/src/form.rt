@@ -23,8 +23,8 @@ fn given_of<'w>(givens: &[Given<'w>], setting: Setting) -> Option<Given<'w>>
     None
 }
 
-#[tactic(auto, using(crate::proofs::Lists::mapped))]
 /// The value of an option, where it is given.
+#[tactic(auto, using(crate::proofs::Lists::mapped))]
 fn value_of<'w>(givens: &[Given<'w>], setting: Setting) -> Option<&'w str>
     ensures { option_copied result ≡ value_of (map seen_given givens.now) setting }
 {

@@ -59,4 +59,13 @@ pub enum Job {
     Rule {
         rule: Rule,
     },
+    /// Make a problem that has a solution, write it as a search file, and look for a solution.
+    Make {
+        /// The number that it is made from.
+        seed: u64,
+        /// How many rows it has, of as many cells.
+        size: u32,
+        search: Name,
+        proof: Name,
+    },
 }

@@ -52,8 +52,8 @@ impl<'w> Scan<'w> {
     }
 }
 
-#[tactic(auto, using(crate::proofs::Lists::mapped))]
 /// The option of a name, which the command has to take and that wasn't given before.
+#[tactic(auto, using(crate::proofs::Lists::mapped))]
 fn setting_at(
     command: Command,
     givens: &[Given],

@@ -32,7 +32,8 @@ pub struct Settings {
 }
 
 impl Settings {
-    /// Life, `B3/S23`, under a closed edge.
+    /// Life, `B3/S23`, under a closed edge, with no other demand; the default budget, half of the learnt clauses kept, and
+    /// patterns as rows.
     fn default_values(alloc: Global) -> Settings
         ensures value { result ≡ defaults }
         ensures allowed { AreAllowed result.rule result.demands result.budget }

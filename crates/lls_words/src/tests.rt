@@ -107,7 +107,27 @@ sat f g --as rle > UnknownOption 4
 cnf f --budget 1 > UnknownOption 3
 judge f p --keep all > UnknownOption 4
 search f g --keep some > BadValue 4
-search f g --as RLE > BadValue 4";
+search f g --as RLE > BadValue 4
+make 18446744073709551616 8 f p > BadValue 2
+make 99999999999999999999 8 f p > BadValue 2
+make 000000000000000000001 8 f p > BadValue 2
+make 1e3 8 f p > BadValue 2
+make +1 8 f p > BadValue 2
+make -1 8 f p > BadWord 2
+make 1 0 f p > BadValue 3
+make 1 65 f p > BadValue 3
+make 1 +8 f p > BadValue 3
+make 1 000000000000000000008 f p > BadValue 3
+make x 65 f p > BadValue 2
+make 1 65 f f > BadValue 3
+make x 8 f f > BadValue 2
+make 1 64 f f > SameName 5
+make 8 8 8 8 > SameName 5
+make 1 8 f > Operands 4 3
+make x 0 f f f > Operands 4 5
+make > Operands 4 0
+make 1 8 f p --budget 7 > UnknownOption 6
+make --as=rle 1 8 f p > UnknownOption 2";
 
 #[test]
 fn faults_are_named_by_their_place(rt: HostRuntime) -> Result<(), Fail> {
@@ -144,6 +164,52 @@ fn options_and_operands_stand_in_any_order(rt: HostRuntime) -> Result<(), Fail> 
         assert_eq!(rt; search.text(), "f", "at {line:?}");
         assert_eq!(rt; proof.text(), "p", "at {line:?}");
         assert_eq!(rt; demands.edge, want, "at {line:?}");
+    }
+    Ok(())
+}
+
+/// What a job to make a problem says, with blanks between.
+fn made_by(alloc: Global, job: Job) -> Result<String, Fail> {
+    let Job::Make {
+        seed,
+        size,
+        search,
+        proof,
+    } = job
+    else {
+        return Err(Fail::from("a problem to make"));
+    };
+    let search = search.text();
+    let proof = proof.text();
+    Ok(format!(in alloc; "{seed} {size} {search} {proof}")?)
+}
+
+#[test]
+fn numbers_and_names_of_what_is_made(rt: HostRuntime) -> Result<(), Fail> {
+    let alloc = rt.alloc();
+    let rows = [
+        ("make 0 1 f p", "0 1 f p"),
+        (
+            "make 18446744073709551615 64 f p",
+            "18446744073709551615 64 f p",
+        ),
+        (
+            "make 18446744073709551609 64 f p",
+            "18446744073709551609 64 f p",
+        ),
+        (
+            "make 00000000000000000001 00000000000000000010 f p",
+            "1 10 f p",
+        ),
+        ("make 7 8 8 7", "7 8 8 7"),
+        ("make 7 7 8 7", "7 7 8 7"),
+    ];
+    for (line, want) in rows {
+        assert_eq!(rt;
+            made_by(alloc, job_of(alloc, line)?)?.as_str(),
+            want,
+            "at {line:?}"
+        );
     }
     Ok(())
 }

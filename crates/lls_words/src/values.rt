@@ -1,12 +1,13 @@
-// The values of options.
+// The values of options, and of operands that are numbers.
 ghost use Rattle.std.specs.Prelude.{◌≡◌, ◌≤◌, ◌==◌, position, All, IfOk, IfSome};
 ghost use Rattle.std.specs.Option.{ForSome, option_map};
 ghost use Rattle.lls_grid.specs.Place.{IsWithin};
 ghost use Rattle.lls_problem.specs.Bounds.{HasEnds};
 ghost use Rattle.lls_problem.specs.Problem.{IsPeriod};
-ghost use Rattle.lls_words.specs.Values.{edge_in, budget_in, keep_all_in, rle_in, cut_at, number_in, shift_in, period_in, generation_in, generations_in, low_in, high_in, bound_in, bounds_in};
+ghost use Rattle.lls_words.specs.Values.{edge_in, budget_in, seed_in, size_in, keep_all_in, rle_in, cut_at, number_in, shift_in, period_in, generation_in, generations_in, low_in, high_in, bound_in, bounds_in};
 ghost use Rattle.lls_words.specs.Seen.{seen_pair};
 
+use lls_gen::MOST_SIZE;
 use lls_grid::History;
 use lls_problem::{Bound, Bounds, Edge, Period};
 use lls_symmetry::{MOST_PERIOD, MOST_SHIFT};
@@ -21,6 +22,9 @@ pub const MOST_BUDGET: u32 = 10_000_000;
 
 /// The budget of a search for which none is said.
 pub const DEFAULT_BUDGET: u32 = 100_000;
+
+/// The greatest number that a problem is made from.
+pub const MOST_SEED: u64 = u64::MAX;
 
 /// The edge of a text.
 pub fn edge_in(text: &[u8]) -> Option<Edge>
@@ -61,6 +65,26 @@ pub fn budget_in(text: &[u8]) -> Option<u32>
     ensures within { IfSome result (λ budget. budget ≤ MOST_BUDGET) }
 {
     number_in(text, 0, MOST_BUDGET)
+}
+
+/// The number of a text from which a problem is made.
+pub fn seed_in(text: &str) -> Option<u64>
+    ensures { result ≡ seed_in text.now }
+{
+    if text.len() > MOST_DIGITS {
+        return None;
+    }
+    // `parse` takes a plus sign too
+    digits_number(text.as_bytes())?;
+    text.parse::<u64>().ok()
+}
+
+/// The size of a text: how many rows a problem has, of as many cells.
+pub fn size_in(text: &[u8]) -> Option<u32>
+    ensures size { result ≡ size_in text.now }
+    ensures within { IfSome result (λ size. (1 ≤ size) × (size ≤ MOST_SIZE)) }
+{
+    number_in(text, 1, MOST_SIZE)
 }
 
 /// Whether a text keeps all learnt clauses.

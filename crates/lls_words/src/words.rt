@@ -13,6 +13,7 @@ use crate::job::Job;
 use crate::parser::read_words;
 use crate::scan::{Given, Scan, scan_words};
 use crate::settings::{Settings, rule_at, settle};
+use crate::values::{seed_in, size_in};
 use lls_base::Name;
 use std::alloc::{AllocError, Global};
 
@@ -23,15 +24,15 @@ fn name_of(alloc: Global, operand: &Operand) -> Result<Name, AllocError>
     Ok(Name::new(String::from_str(alloc, operand.word)?))
 }
 
-/// The names of a file that is read and of one that is written, which have to differ.
-fn names_apart(alloc: Global, input: &Operand, output: &Operand) -> Result<(Name, Name), WordsError>
+/// The names of a file and of one that is written later, which have to differ.
+fn names_apart(alloc: Global, file: &Operand, written: &Operand) -> Result<(Name, Name), WordsError>
     ensures { Gives WordsError.Memory (λ names. names) result
-        (names_apart (seen_operand input.now) (seen_operand output.now)) }
+        (names_apart (seen_operand file.now) (seen_operand written.now)) }
 {
-    if input.word == output.word {
-        return Err(WordsError::SameName(output.place));
+    if file.word == written.word {
+        return Err(WordsError::SameName(written.place));
     }
-    Ok((name_of(alloc, input)?, name_of(alloc, output)?))
+    Ok((name_of(alloc, file)?, name_of(alloc, written)?))
 }
 
 /// The names of two operands, and the values of the options.
@@ -168,6 +169,31 @@ fn sat_job(
     })
 }
 
+/// The job of `make`.
+fn make_job(
+    alloc: Global,
+    seed: &Operand,
+    size: &Operand,
+    search: &Operand,
+    proof: &Operand,
+    givens: &[Given],
+) -> Result<Job, WordsError>
+    ensures job { Gives WordsError.Memory (λ job. job) result
+        (job_with Command.Make (seen_operand seed.now ∷ seen_operand size.now ∷ seen_operand search.now
+        ∷ seen_operand proof.now ∷ []) (map seen_given givens.now)) }
+    ensures limits { IfOk result KeepsLimits }
+{
+    let seed = seed_in(seed.word).ok_or(WordsError::BadValue(seed.place))?;
+    let size = size_in(size.word.as_bytes()).ok_or(WordsError::BadValue(size.place))?;
+    let (search, proof) = names_apart(alloc, search, proof)?;
+    Ok(Job::Make {
+        seed,
+        size,
+        search,
+        proof,
+    })
+}
+
 /// The job of a command by its operands and options.
 fn job_with(alloc: Global, command: Command, scan: &Scan) -> Result<Job, WordsError>
     ensures job { Gives WordsError.Memory (λ job. job) result
@@ -188,12 +214,16 @@ fn job_with(alloc: Global, command: Command, scan: &Scan) -> Result<Job, WordsEr
         (Command::Rule, [text]) => Ok(Job::Rule {
             rule: rule_at(text.place, text.word.as_bytes())?,
         }),
+        (Command::Make, [seed, size, search, proof]) => {
+            make_job(alloc, seed, size, search, proof, givens)
+        }
         (_, operands) => Err(WordsError::Operands(command.operand_count(), operands.len() as u64)),
     }
 }
 
 /// The job of a command by its scan: where the operands are as many as the command has, from what
 /// `clap` reads.
+#[tactic(auto, using(crate::proofs::Jobs::refused))]
 fn scanned_job(alloc: Global, command: Command, scan: &Scan) -> Result<Job, WordsError>
     requires { FitsForm command (seen_scan scan.now) }
     ensures job { Gives WordsError.Memory (λ job. job) result

@@ -2,7 +2,8 @@ use Rattle.std.proofs.Common.{ap, refl}
 use Rattle.std.specs.Prelude.{map, string_bytes}
 use Rattle.lls_cli.specs.Moment.{SinkMoment}
 use Rattle.lls_cli.proofs.Consequences.{yes_means, no_means, found_means, none_means, words_alone, words_all, caused, meant, stays_silent, counts_stay}
-use Rattle.lls_cli.proofs.Files.{files_stay, changes_only, leaves_proof, leaves_log}
+use Rattle.lls_cli.proofs.Files.{changes_only, leaves_proof, leaves_log}
+use Rattle.lls_cli.proofs.Stands.{stands}
 use Rattle.lls_cli.proofs.Complete.{completes}
 use Rattle.lls_cli.proofs.Apart.{apart}
 use Rattle.lls_cli.proofs.Published.{publishes}
@@ -30,13 +31,13 @@ pub returns-clause-silent : goal.returns-clause-silent
 returns-clause-silent g c = λ silent. ap (λ (s : SinkMoment). s.written) (stays_silent _ _ _ _ c.run_words.ensures silent)
 
 pub returns-clause-files : goal.returns-clause-files
-returns-clause-files g c = files_stay _ _ _ _ c.run_words.ensures
+returns-clause-files g c = changes_only _ _ _ _ c.run_words.ensures
 
 pub returns-clause-counts : goal.returns-clause-counts
 returns-clause-counts g c = counts_stay _ _ _ _ c.run_words.ensures
 
-pub returns-clause-other_files : goal.returns-clause-other_files
-returns-clause-other_files g c = changes_only _ _ _ _ c.run_words.ensures
+pub returns-clause-made : goal.returns-clause-made
+returns-clause-made g c = stands _ _ _ _ (apart (map string_bytes c.args.words.now)) c.run_words.ensures
 
 pub returns-clause-found : goal.returns-clause-found
 returns-clause-found g c = found_means _ _ _ _ c.run_words.ensures
@@ -55,4 +56,4 @@ returns-clause-complete g c = completes _ _ _ _ _ refl c.run_words.ensures
 
 pub returns-clause-published : goal.returns-clause-published
 returns-clause-published g c = λ is.
-    publishes _ _ _ (apart (map string_bytes c.args.words.now)) (none_means _ _ _ _ c.run_words.ensures is) (leaves_proof _ _ _ _ c.run_words.ensures is) (changes_only _ _ _ _ c.run_words.ensures)
+    publishes _ _ _ _ is (apart (map string_bytes c.args.words.now)) (none_means _ _ _ _ c.run_words.ensures is) (leaves_proof _ _ _ _ c.run_words.ensures is) (changes_only _ _ _ _ c.run_words.ensures)

@@ -3,7 +3,8 @@ use Rattle.std.proofs.lemmas.Result.{IfErr-weaker, IfOk-weaker}
 use Rattle.clap.specs.Words.{app_of, found_of, is_simple, matches_of, takes}
 use Rattle.lls_words.specs.Parser.{parser_of}
 use Rattle.lls_words.proofs.Table.{is_simple-parser}
-use Rattle.lls_words.proofs.Readings.{ReadsBack-found, is_read}
+use Rattle.lls_words.proofs.Parsers.{reads}
+use Rattle.lls_words.proofs.Readings.{ReadsBack-found}
 use Rattle.lls_words.proofs.parser.parse.Goals as goal
 
 pub returns-clause-found : goal.returns-clause-found
@@ -17,4 +18,4 @@ returns-clause-found c =
 pub returns-clause-memory : goal.returns-clause-memory
 returns-clause-memory c =
     let app_is : app_of c.in_ok-parser.field-0 ≡ parser_of c.args.command = c.in_ok-parser.ensures in
-    IfErr-weaker c.try_get_matches_from.result _ _ (λ error passes s form. passes (ap₂ takes app_is form.said ∙ (is_read c.args.command s form.count form.fits).taken)) c.try_get_matches_from.ensures.passes
+    IfErr-weaker c.try_get_matches_from.result _ _ (λ error passes s form. passes (ap₂ takes app_is form.said ∙ (reads c.args.command s form.count form.fits.plain).taken)) c.try_get_matches_from.ensures.passes

@@ -1,0 +1,92 @@
+-- The search file of a made problem stands whole once the problem is answered.
+use Rattle.std.proofs.Common.{◌≡◌, ◌≢◌, ℕ, List, [], ◌∷◌, Option, None, Some, Result, Ok, Err, refl, ap, sym, subst, ◌∙◌, inl, inr}
+use Rattle.std.specs.FinMap as map
+use Rattle.std.specs.Option.{option_map}
+use Rattle.lls_base.specs.Shelf.{Files}
+use Rattle.lls_base.proofs.FileMaps.{get-insert_same}
+use Rattle.lls_words.specs.declared.error.WordsError.{WordsError}
+use Rattle.lls_words.specs.declared.job.Job.{Job}
+use Rattle.lls_words.specs.declared.job.Job.TheVariants as jobs
+use Rattle.lls_cli.specs.declared.status.Status.{Status}
+use Rattle.lls_cli.specs.declared.status.Status.TheVariants as statuses
+use Rattle.lls_cli.specs.Question.{Question, Effort, checks, refutes, judges, searches, decides, encodes, prints, makes, default_effort, Asks}
+use Rattle.lls_cli.specs.Evidence.{NamedFile}
+use Rattle.lls_cli.specs.Answer.{GivenAnswer, IsMaking, Answers}
+use Rattle.lls_cli.specs.Making.{made_file}
+use Rattle.lls_cli.specs.Moment.{ShelfMoment, Moment, files_at}
+use Rattle.lls_cli.specs.Ends.{WroteFile, End, ahead_of, IsEnd}
+use Rattle.lls_cli.specs.Claims.{OfQuestion, IsAnswered, StandsIn, outputs_of}
+use Rattle.lls_cli.proofs.Apart.{AreApart, IsApart}
+use Rattle.lls_cli.proofs.Behind.{WroteAhead}
+use Rattle.lls_cli.proofs.Consequences.{IsAsked, meant, of_this}
+use Rattle.lls_cli.proofs.Changes.{Same, wrote_some}
+use Rattle.lls_cli.proofs.Files.{outputs_asked, asked_outputs, answer_leaves}
+
+-- the files that a question writes have different names
+abbrev NamesApart : Question → Type 0
+NamesApart (makes seed size name effort) = name ≢ effort.proof
+NamesApart question = Unit {0}
+
+made_apart : (job : Job) (files : Option Files) (seed size : ℕ) (name : List ℕ) (effort : Effort) → IsApart job → Asks job files (Ok (makes seed size name effort)) → name ≢ effort.proof
+made_apart job files seed size name effort apart asked = by_job job apart asked (asked_outputs job files (makes seed size name effort) statuses.Pattern asked) where
+  by_job : (job : Job) → IsApart job → Asks job files (Ok (makes seed size name effort)) → outputs_asked (makes seed size name effort) statuses.Pattern ≡ outputs_of job statuses.Pattern → name ≢ effort.proof
+  by_job (jobs.Make other_seed other_size search_file proof) apart asked same = λ equal.
+      let is : makes seed size name effort ≡ makes other_seed other_size search_file (default_effort proof) = cc in
+      let names : name ≡ search_file = cc in
+      let efforts : effort ≡ default_effort proof = cc in
+      let proofs : effort.proof ≡ proof = ap (λ (e : Effort). e.proof) efforts in
+      apart (sym names ∙ (equal ∙ proofs))
+  by_job (jobs.Check one two rule demands) apart asked same = absurd cc
+  by_job (jobs.Judge one two rule demands rle) apart asked same = absurd cc
+  by_job (jobs.Search one two rule demands budget keep_all rle) apart asked same = absurd cc
+  by_job (jobs.Sat one two budget keep_all) apart asked same = absurd cc
+  by_job (jobs.Cnf one rule demands) apart asked same = absurd cc
+  by_job (jobs.Lrat one two) apart asked same = absurd cc
+  by_job (jobs.Rule rule) apart asked same = absurd cc
+
+names_apart : (job : Result Job WordsError) (files : Option Files) (question : Question) → AreApart job → IsAsked job files question → NamesApart question
+names_apart (Ok job) files (makes seed size name effort) apart asked = made_apart job files seed size name effort apart asked
+names_apart (Ok job) files (checks problem bytes) apart asked = tt
+names_apart (Ok job) files (refutes formula bytes) apart asked = tt
+names_apart (Ok job) files (judges problem history) apart asked = tt
+names_apart (Ok job) files (searches problem effort rle) apart asked = tt
+names_apart (Ok job) files (decides formula effort) apart asked = tt
+names_apart (Ok job) files (encodes problem) apart asked = tt
+names_apart (Ok job) files (prints rule) apart asked = tt
+names_apart (Err error) files question apart asked = absurd asked
+
+nothing_ahead : (files : Option Files) → StandsIn files None
+nothing_ahead None = tt
+nothing_ahead (Some files) = tt
+
+-- a file that was written, and that nothing changed then
+stands_from : (file : NamedFile) (before mid after : Option Files) → mid ≡ option_map (λ files. map.insert files file.name file.bytes) before → Same file.name mid after → StandsIn after (Some file)
+stands_from file before mid None is same = tt
+stands_from file None mid (Some files) is same =
+    let none : Some (map.get files file.name) ≡ None = same ∙ ap (option_map (λ known. map.get known file.name)) is in
+    absurd cc
+stands_from file (Some known) mid (Some files) is same =
+    let found : Some (map.get files file.name) ≡ Some (map.get (map.insert known file.name file.bytes) file.name) = same ∙ ap (option_map (λ old. map.get old file.name)) is in
+    let equal : map.get files file.name ≡ map.get (map.insert known file.name file.bytes) file.name = cc in
+    equal ∙ get-insert_same known file.name file.bytes
+
+stands_in : (question : Question) (answer : GivenAnswer) (before mid after : ShelfMoment) → NamesApart question → Answers question answer → WroteAhead (ahead_of question) before mid
+    → WroteFile answer.file mid after → StandsIn (files_at after) (ahead_of question)
+stands_in (makes seed size name effort) answer before mid after apart right ahead wrote =
+    let file = made_file seed size name in
+    stands_from file (files_at before) (files_at mid) (files_at after) (wrote_some (Some file) file before mid refl ahead)
+    (answer_leaves (makes seed size name effort) answer mid after name right apart wrote)
+stands_in (checks problem bytes) answer before mid after apart right ahead wrote = nothing_ahead (files_at after)
+stands_in (refutes formula bytes) answer before mid after apart right ahead wrote = nothing_ahead (files_at after)
+stands_in (judges problem history) answer before mid after apart right ahead wrote = nothing_ahead (files_at after)
+stands_in (searches problem effort rle) answer before mid after apart right ahead wrote = nothing_ahead (files_at after)
+stands_in (decides formula effort) answer before mid after apart right ahead wrote = nothing_ahead (files_at after)
+stands_in (encodes problem) answer before mid after apart right ahead wrote = nothing_ahead (files_at after)
+stands_in (prints rule) answer before mid after apart right ahead wrote = nothing_ahead (files_at after)
+
+pub stands : (job : Result Job WordsError) (before after : Moment) (status : Status) → AreApart job → (end : End) × IsEnd job before after status end → IsAnswered status
+    → OfQuestion (λ question. StandsIn (files_at after.shelf) (ahead_of question)) job (files_at before.shelf)
+stands job before after status apart ended is =
+    let given = meant job before after status ended is in
+    of_this (λ question. StandsIn (files_at after.shelf) (ahead_of question)) given.question job (files_at before.shelf) given.asked
+    (stands_in given.question given.answer before.shelf given.mid after.shelf (names_apart job (files_at before.shelf) given.question apart given.asks) given.right.answers given.ahead given.wrote)

@@ -1,0 +1,45 @@
+-- A made problem: the search file that it is written to, and what is said of the search for its solution.
+use Rattle.std.specs.Prelude.{ℕ, ◌*◌, ◌+◌, ◌++◌, Bool, true, false, List, codes, count_by, decimal, length, take}
+use Rattle.lls_lit.specs.Formula.{Cnf}
+use Rattle.lls_grid.specs.Changes.{population}
+use Rattle.lls_search_file.specs.declared.cell.Cell.{Cell}
+use Rattle.lls_search_file.specs.declared.cell.Kind.{Kind}
+use Rattle.lls_search_file.specs.declared.cell.Kind.TheVariants.{Dead, Live}
+use Rattle.lls_search_file.specs.Posed.{PosedFile}
+use Rattle.lls_search_file.specs.Printing.{posed_text}
+use Rattle.lls_gen.specs.declared.making.Made.{Made}
+use Rattle.lls_gen.specs.Made.{made, made_problem}
+use Rattle.lls_encode.specs.Formula.{formula_of}
+use Rattle.lls_cli.specs.Evidence.{NamedFile}
+
+-- the search file of a made problem
+abbrev pub made_file : ℕ → ℕ → List ℕ → NamedFile
+made_file seed size name = record { name = name; bytes = posed_text (made_problem seed size).posed }
+
+-- a cell whose value is fixed
+abbrev pub is_known : Kind → Bool
+is_known Dead = true
+is_known Live = true
+is_known kind = false
+
+-- how many cells of generation 0 are fixed
+abbrev pub known_count : PosedFile → ℕ
+known_count posed = count_by (λ cell. is_known cell.kind) (take (posed.width * posed.height) posed.cells)
+
+-- the lines on a made problem: its size, its known cells, and the populations of its solution
+abbrev pub problem_lines : Made → List ℕ
+problem_lines made =
+    codes "size " ++ decimal made.problem.posed.height ++ codes "\nknown " ++ decimal (known_count made.problem.posed)
+    ++ codes "\nlive " ++ decimal (population made.history 0) ++ codes " " ++ decimal (population made.history 1) ++ codes "\n"
+
+-- the lines on the search over a formula: the formula's sizes, and how the search ended
+abbrev pub search_lines : Cnf → List ℕ → List ℕ
+search_lines formula answer =
+    codes "variables " ++ decimal formula.vars ++ codes "\nclauses " ++ decimal (length formula.clauses) ++ codes "\nanswer " ++ answer ++ codes "\n"
+
+abbrev pub summary_of : Made → Cnf → List ℕ → List ℕ
+summary_of made formula answer = problem_lines made ++ search_lines formula answer
+
+-- what is said of a problem by its seed and size
+abbrev pub summary_text : ℕ → ℕ → List ℕ → List ℕ
+summary_text seed size answer = summary_of (made seed size) (formula_of (made_problem seed size)) answer

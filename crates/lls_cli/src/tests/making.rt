@@ -1,0 +1,149 @@
+// The command that makes a problem. What it makes is as tools/made.py makes it.
+use super::{Ended, Failing, NOTHING, is_fault, run_over, shelf_of, words_of};
+use crate::question::{Effort, Question};
+use crate::run::give_answer;
+use crate::status::Status;
+use lls_base::{MemSink, Name};
+use std::alloc::Global;
+use std::test::Fail;
+
+const SMALL: &str = "0 0\n1 0\n\n0 0\n0 0\n";
+
+const SMALL_SUMMARY: &str = "size 2\nknown 4\nlive 1 0\nvariables 8\nclauses 72\nanswer pattern\n";
+
+#[test]
+fn problems_that_are_found(rt: HostRuntime) -> Result<(), Fail> {
+    let alloc = rt.alloc();
+    let rows: [(&str, &str, &str); 4] = [
+        (
+            "make 0 1 s q",
+            "0\n\n0\n",
+            "size 1\nknown 1\nlive 0 0\nvariables 2\nclauses 4\nanswer pattern\n",
+        ),
+        ("make 0 2 s q", SMALL, SMALL_SUMMARY),
+        // The file that is there is written anew.
+        ("make 00 0002 f q", SMALL, SMALL_SUMMARY),
+        (
+            "make 1 8 f q",
+            "0 * 1 0 1 * * 0\n1 0 1 * 1 0 0 1\n0 1 1 0 1 1 * 1\n0 1 1 * 1 1 0 1\n0 * * 0 1 0 * 0\n0 1 1 0 1 0 0 *\n* 0 0 0 1 * 1 1\n0 1 1 0 0 1 0 1\n\n0 1 1 0 1 1 1 0\n1 0 0 0 0 0 0 1\n1 0 0 0 0 0 0 1\n1 0 0 0 0 0 0 1\n1 0 0 0 1 0 1 0\n0 1 1 0 1 0 1 1\n0 0 0 0 1 0 0 1\n0 0 0 0 0 1 0 1\n",
+            "size 8\nknown 52\nlive 35 23\nvariables 128\nclauses 20148\nanswer pattern\n",
+        ),
+    ];
+    for (line, file, summary) in rows {
+        let words = words_of(alloc, line)?;
+        let ended = run_over(alloc, &words, b"something else", b"", NOTHING)?;
+        let name = words[3].as_str();
+        assert_eq!(rt; ended.status, Status::Pattern, "{line}");
+        assert_eq!(rt; ended.out.bytes(), summary.as_bytes(), "{line}");
+        assert_eq!(rt; ended.shelf.file(name), Some(file.as_bytes()), "{line}");
+        assert!(rt; ended.shelf.file("q").is_none());
+        assert!(rt; ended.err.bytes().is_empty());
+    }
+    Ok(())
+}
+
+/// A call that fails, the line that tells it, what is in the file of the problem then, and what was given.
+type Failure = (Failing, &'static str, Option<&'static str>, &'static str);
+
+// A write to a file takes seven bytes.
+#[test]
+fn failures_of_a_making(rt: HostRuntime) -> Result<(), Fail> {
+    let alloc = rt.alloc();
+    let words = words_of(alloc, "make 0 2 s q")?;
+    let short = Failing { most: 7, ..NOTHING };
+    let rows: [Failure; 5] = [
+        (Failing { create: 1, ..short }, "CreateFailed", None, ""),
+        (Failing { write: 1, ..short }, "WriteFailed", Some(""), ""),
+        (
+            Failing { write: 2, ..short },
+            "WriteFailed",
+            Some("0 0\n1 0"),
+            "",
+        ),
+        (Failing { out: 1, ..short }, "OutFailed", Some(SMALL), ""),
+        (
+            Failing { out: 3, ..short },
+            "OutFailed",
+            Some(SMALL),
+            "size 2",
+        ),
+    ];
+    for (failing, fault, left, given) in rows {
+        let ended = run_over(alloc, &words, b"", b"", failing)?;
+        let text = format!(in alloc; "outside: {fault}")?;
+        is_fault(&rt, alloc, &ended, Status::Outside, &text)?;
+        assert_eq!(rt; ended.out.bytes(), given.as_bytes());
+        assert_eq!(rt; ended.shelf.file("s"), left.map(|text| text.as_bytes()));
+        assert!(rt; ended.shelf.file("q").is_none());
+    }
+    Ok(())
+}
+
+const UNDECIDED: &str =
+    "size 14\nknown 165\nlive 102 57\nvariables 392\nclauses 77225\nanswer undecided\n";
+
+/// Answers the making of a problem with a search that learns one clause, which doesn't suffice.
+fn undecided(alloc: Global, failing: Failing) -> Result<Ended, Fail> {
+    let mut shelf = shelf_of(alloc, b"", b"", failing)?;
+    let mut out = MemSink::new(alloc, vec![in alloc; failing.out]?, 3);
+    let mut err = MemSink::new(alloc, vec![in alloc; failing.err]?, 1000);
+    let question = Question::Make {
+        seed: 2,
+        size: 14,
+        search: Name::new(String::from_str(alloc, "s")?),
+        effort: Effort {
+            budget: 1,
+            keep_all: false,
+            proof: Name::new(String::from_str(alloc, "q")?),
+        },
+    };
+    let status = give_answer(alloc, question, &mut shelf, &mut out, &mut err);
+    Ok(Ended {
+        status,
+        shelf,
+        out,
+        err,
+    })
+}
+
+// The problem's file is one write, and so is the log.
+#[test]
+fn failures_behind_a_making(rt: HostRuntime) -> Result<(), Fail> {
+    let alloc = rt.alloc();
+    let whole = undecided(alloc, NOTHING)?;
+    assert_eq!(rt; whole.status, Status::Undecided);
+    assert_eq!(rt; whole.out.bytes(), UNDECIDED.as_bytes());
+    let file = whole.shelf.file("s").unwrap_or(b"");
+    let log = whole.shelf.file("q").unwrap_or(b"");
+    assert!(rt; file.len() == 2 * 14 * 28 + 1 && !log.is_empty());
+    let rows: [(Failing, &str, Option<&[u8]>, &str); 3] = [
+        (
+            Failing {
+                create: 2,
+                ..NOTHING
+            },
+            "CreateFailed",
+            None,
+            "",
+        ),
+        (
+            Failing {
+                write: 2,
+                ..NOTHING
+            },
+            "WriteFailed",
+            Some(b""),
+            "",
+        ),
+        (Failing { out: 2, ..NOTHING }, "OutFailed", Some(log), "siz"),
+    ];
+    for (failing, fault, left, given) in rows {
+        let ended = undecided(alloc, failing)?;
+        let text = format!(in alloc; "outside: {fault}")?;
+        is_fault(&rt, alloc, &ended, Status::Outside, &text)?;
+        assert_eq!(rt; ended.out.bytes(), given.as_bytes());
+        assert_eq!(rt; ended.shelf.file("s"), Some(file));
+        assert_eq!(rt; ended.shelf.file("q"), left);
+    }
+    Ok(())
+}
