@@ -11,7 +11,7 @@ use crate::checker::{Checker, Progress};
 use crate::error::CheckError;
 use crate::refusal::Refusal;
 use lls_cnf::Formula;
-use lls_prooflog::{LineError, read_line};
+use lls_prooflog::{LineError, LineReader};
 use lls_text::Lines;
 use std::alloc::Global;
 
@@ -30,10 +30,11 @@ pub fn check_bytes<'f>(
     ensures sound { OnOk result (IsUnsatisfiable formula.now) }
 {
     let mut checker = Checker::new(alloc, formula)?;
+    let mut reader = LineReader::new(alloc);
     let mut lines = Lines::new(text);
     let mut count = 0;
     while let Some(line) = lines.next() {
-        match take_line(alloc, &mut checker, count, line) {
+        match take_line(&mut reader, &mut checker, count, line) {
             Ok(Progress::Done) => return checker.conclude(),
             Ok(Progress::Going) => count += 1,
             Err(error) => return Err(error),
@@ -44,7 +45,7 @@ pub fn check_bytes<'f>(
 
 // Takes one more line behind so many.
 fn take_line(
-    alloc: Global,
+    reader: &mut LineReader,
     checker: &mut Checker,
     count: u64,
     line: &[u8],
@@ -57,13 +58,13 @@ fn take_line(
     ensures formula { OnOk result (checker.new.formula ≡ checker.old.formula) }
 {
     let number = count + 1;
-    let step = match read_line(alloc, line) {
+    let step = match reader.read(line) {
         Ok(Some(step)) => step,
         Ok(None) => return Ok(Progress::Going),
         Err(LineError::Fault(fault)) => return Err(CheckError::Line(number, fault)),
         Err(LineError::Memory) => return Err(CheckError::Memory),
     };
-    match checker.step(&step) {
+    match checker.take(step) {
         Ok(progress) => Ok(progress),
         Err(Refusal::Fault(fault)) => Err(CheckError::Step(number, fault)),
         Err(Refusal::Memory) => Err(CheckError::Memory),

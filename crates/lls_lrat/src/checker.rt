@@ -3,6 +3,7 @@ ghost use Rattle.std.specs.Prelude.{◌≡◌, ◌≤◌, true, false, Some, Non
 ghost use Rattle.lls_lit.specs.Formula.{is_within, IsUnsatisfiable};
 ghost use Rattle.lls_prooflog.specs.Range.{IsInRange};
 ghost use Rattle.lls_prooflog.specs.Steps.{numbered};
+ghost use Rattle.lls_prooflog.specs.Log.{step_of_ref};
 ghost use Rattle.lls_prooflog.specs.Wrapped.{GivesWrapped};
 ghost use Rattle.lls_prooflog.specs.declared.step.Step.TheVariants.{Add};
 
@@ -14,7 +15,7 @@ use crate::walk::follow_hints;
 use lls_base::Memory;
 use lls_cnf::Formula;
 use lls_lit::{Lit, Marks, Var};
-use lls_prooflog::{Step, StepFault};
+use lls_prooflog::{Step, StepFault, StepRef};
 use std::alloc::Global;
 use std::marker::Model;
 
@@ -81,13 +82,24 @@ impl<'f> Checker<'f> {
         ensures err { OnErr result (self.new ≡ self.old) }
         ensures sound { result ≡ Ok Progress.Done → IsUnsatisfiable self.new.formula }
     {
+        self.take(step.lend())
+    }
+
+    // The same without a copy of the step.
+    pub(crate) fn take(&mut self, step: StepRef) -> Result<Progress, Refusal>
+        requires { IsInRange (step_of_ref step) }
+        ensures stepped { GivesWrapped Refusal.Fault (λ _. self.new) result (stepped self.old (step_of_ref step.entry)) }
+        ensures progress { IfOk result (λ p. p ≡ progress_of self.new.done) }
+        ensures err { OnErr result (self.new ≡ self.old) }
+        ensures sound { result ≡ Ok Progress.Done → IsUnsatisfiable self.new.formula }
+    {
         if self.done {
             return Ok(Progress::Done);
         }
         match step {
-            Step::Add { id, lits, hints } => self.add(*id, lits.items(), hints.items()),
-            Step::Del { ids } => {
-                self.live.delete(ids.items());
+            StepRef::Add(addition) => self.add(addition.id, addition.lits, addition.hints),
+            StepRef::Del(ids) => {
+                self.live.delete(ids);
                 Ok(Progress::Going)
             }
         }

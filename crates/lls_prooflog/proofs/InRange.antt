@@ -1,20 +1,22 @@
 -- What a line writes is in range.
-use Rattle.std.proofs.Common.{◌≡◌, ℕ, zero, suc, Bool, true, false, not, cond, ◌&&◌, List, [], ◌∷◌, map, Option, Some, None, refl, arith}
-use Rattle.std.specs.Prelude.{ℤ, pos, Result, Ok, Err, IfOk, IfSome}
+use Rattle.std.proofs.Common.{◌≡◌, ℕ, zero, suc, ◌+◌, Bool, true, false, not, cond, ◌&&◌, leb, leb-true, List, [], ◌∷◌, map, drop, Some, None, refl, w64, arith}
+use Rattle.std.specs.Prelude.{ℤ, pos, negsuc, Result, Ok, Err}
 use Rattle.std.specs.List.{list_all, list_any}
+use Rattle.std.proofs.lemmas.Bool.{and_parts}
+use Rattle.std.proofs.lemmas.Int.{ints, to_z_pos, to_z-of_z}
+use mir.Val.{to_z, of_z}
 use Rattle.lls_base.specs.Results.{and_then}
-use Rattle.lls_text.specs.Words.{PlacedWord}
+use Rattle.lls_text.specs.Lines.{begins_with}
+use Rattle.lls_text.specs.Words.{PlacedWord, words_of}
 use Rattle.lls_lit.specs.Literal.{variable_of, negation}
 use Rattle.lls_prooflog.specs.declared.line_fault.LineFault.{LineFault}
-use Rattle.lls_prooflog.specs.declared.line_error.LineError.{LineError}
-use Rattle.lls_prooflog.specs.declared.line_error.LineError.TheVariants.{Fault}
+use Rattle.lls_prooflog.specs.declared.step.TheConstants.Step.{MOST_ID}
 use Rattle.lls_prooflog.specs.declared.number.Number.{Number}
 use Rattle.lls_prooflog.specs.declared.step.Step.{Step}
 use Rattle.lls_prooflog.specs.declared.step.Step.TheVariants.{Add, Del}
-use Rattle.lls_prooflog.specs.Wrapped.{GivesWrapped}
 use Rattle.lls_prooflog.specs.Number.{number_in, value_of, id_in, hint_in, leading_in, literal_in, in_range, ranged, item}
-use Rattle.lls_prooflog.specs.Range.{is_id, is_hint, is_in_range, IsInRange}
-use Rattle.lls_prooflog.specs.Line.{is_end, before_end, behind_end, all_of, if_ended, listed, step_alone, addition, deletion}
+use Rattle.lls_prooflog.specs.Range.{is_id, is_hint, is_in_range}
+use Rattle.lls_prooflog.specs.Line.{comment, is_end, before_end, behind_end, all_of, if_ended, listed, step_alone, addition, deletion, begins_d, step_of_words, step_of_line}
 
 -- a value that follows from a part: the part has a value
 and_then-Ok : {A B : Type 0} (part : Result A LineFault) (more : A → Result B LineFault) (b : B) → and_then part more ≡ Ok b → (a : A) × ((part ≡ Ok a) × (more a ≡ Ok b))
@@ -32,13 +34,13 @@ id_within number column n e =
       ] refl h
     ] e
 
-variable_of-value : (number : Number) → variable_of (value_of number) ≡ number.size
+pub variable_of-value : (number : Number) → variable_of (value_of number) ≡ number.size
 variable_of-value number = elim number.is_negative as (λ s. variable_of (cond s (negation (pos number.size)) (pos number.size)) ≡ number.size) [ true ↦ minus number.size | false ↦ refl ] where
   minus : (n : ℕ) → variable_of (negation (pos n)) ≡ n
   minus zero = refl
   minus (suc n) = omega arith
 
-hint_within : (number : Number) (column : ℕ) (z : ℤ) → in_range column (hint_in number) ≡ Ok z → is_hint z ≡ true
+pub hint_within : (number : Number) (column : ℕ) (z : ℤ) → in_range column (hint_in number) ≡ Ok z → is_hint z ≡ true
 hint_within number column z e =
     elim (is_id number.size) as (λ b. is_id number.size ≡ b → in_range column (cond b (Some (value_of number)) None) ≡ Ok z → is_hint z ≡ true) [
       | true ↦ λ is k. let same : value_of number ≡ z = cc in rw (← same, variable_of-value number) is
@@ -92,13 +94,21 @@ deletion_in_range first words step e =
     let same : Del ids.0 ≡ step = alone (Del ids.0) step (behind_end words) ids.1.1 in
     rw (← same) (listed_pass (item id_in) is_id id_item words ids.0 ids.1.0)
 
--- the same of what a call answers
-pub addition_given : (first : PlacedWord) (words : List PlacedWord) (result : Result (Option Step) LineError) → GivesWrapped Fault (λ step. step) result (addition first words) → IfOk result (λ step. IfSome step IsInRange)
-addition_given first words (Ok None) h = tt
-addition_given first words (Ok (Some step)) h = addition_in_range first words step h
-addition_given first words (Err fault) h = tt
+-- what a line writes is in range
+pub line_in_range : (line : List ℕ) (step : Step) → step_of_line line ≡ Ok (Some step) → is_in_range step ≡ true
+line_in_range line step e = elim (begins_with comment line) as (λ b. cond b (Ok None) (step_of_words (words_of line)) ≡ Ok (Some step) → is_in_range step ≡ true) [
+  | true ↦ λ h. absurd cc
+  | false ↦ λ h. words_in_range (words_of line) h
+] e
+  where
+    words_in_range : (words : List PlacedWord) → step_of_words words ≡ Ok (Some step) → is_in_range step ≡ true
+    words_in_range [] h = absurd cc
+    words_in_range (first ∷ words) h = elim (begins_d words) as (λ b. cond b (deletion first (drop 1 words)) (addition first words) ≡ Ok (Some step) → is_in_range step ≡ true) [
+      | true ↦ λ k. deletion_in_range first (drop 1 words) step k
+      | false ↦ λ k. addition_in_range first words step k
+    ] h
 
-pub deletion_given : (first : PlacedWord) (words : List PlacedWord) (result : Result (Option Step) LineError) → GivesWrapped Fault (λ step. step) result (deletion first words) → IfOk result (λ step. IfSome step IsInRange)
-deletion_given first words (Ok None) h = tt
-deletion_given first words (Ok (Some step)) h = deletion_in_range first words step h
-deletion_given first words (Err fault) h = tt
+-- a hint of 64 bits is passed on as it is
+pub passed : (hint : ℤ) → is_hint hint ≡ true → to_z w64 (of_z w64 hint) ≡ hint
+passed (pos n) e = to_z_pos w64 n (omega (arith, leb-true n MOST_ID (and_parts (leb 1 n) (leb n MOST_ID) e).1))
+passed (negsuc n) e = to_z-of_z w64 (negsuc n) (omega (arith, ints, leb-true (n + 1) MOST_ID (and_parts (leb 1 (n + 1)) (leb (n + 1) MOST_ID) e).1))

@@ -1,6 +1,11 @@
 pub mod LiteralLists
 pub mod Soundness
 pub mod Lists
+mod Given
+mod ReadSteps
+mod ShortNumbers
+mod FirstWords
+pub mod Ends
 pub mod InRange
 pub mod PrintedNumbers
 pub mod PrintedLists

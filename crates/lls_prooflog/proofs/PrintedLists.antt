@@ -16,13 +16,13 @@ abbrev pub list_text : {X : Type 0} → (X → List ℕ) → List X → List ℕ
 list_text text_of xs = flat_map (λ x. text_of x ++ codes " ") xs ++ codes "0"
 
 module _ {X : Type 0} (item_of : PlacedWord → Result X LineFault) where
-  listed-end : (word : PlacedWord) (words : List PlacedWord) → is_end word ≡ true → listed item_of (word ∷ words) ≡ Ok []
+  pub listed-end : (word : PlacedWord) (words : List PlacedWord) → is_end word ≡ true → listed item_of (word ∷ words) ≡ Ok []
   listed-end word words e = rw e refl
 
-  behind-end : (word : PlacedWord) (words : List PlacedWord) → is_end word ≡ true → behind_end (word ∷ words) ≡ words
+  pub behind-end : (word : PlacedWord) (words : List PlacedWord) → is_end word ≡ true → behind_end (word ∷ words) ≡ words
   behind-end word words e = rw e refl
 
-  behind-item : (word : PlacedWord) (words : List PlacedWord) → is_end word ≡ false → behind_end (word ∷ words) ≡ behind_end words
+  pub behind-item : (word : PlacedWord) (words : List PlacedWord) → is_end word ≡ false → behind_end (word ∷ words) ≡ behind_end words
   behind-item word words e = rw e refl
 
   ended : (x : X) (rest : Result (List X) LineFault) (has : Bool) → and_then (and_then rest (λ values. Ok (x ∷ values))) (if_ended has) ≡ and_then (and_then rest (if_ended has)) (λ values. Ok (x ∷ values))
@@ -30,7 +30,7 @@ module _ {X : Type 0} (item_of : PlacedWord → Result X LineFault) where
   ended x (Ok values) false = refl
   ended x (Err fault) has = refl
 
-  listed-item : (word : PlacedWord) (words : List PlacedWord) (x : X) → is_end word ≡ false → item_of word ≡ Ok x → listed item_of (word ∷ words) ≡ and_then (listed item_of words) (λ values. Ok (x ∷ values))
+  pub listed-item : (word : PlacedWord) (words : List PlacedWord) (x : X) → is_end word ≡ false → item_of word ≡ Ok x → listed item_of (word ∷ words) ≡ and_then (listed item_of words) (λ values. Ok (x ∷ values))
   listed-item word words x e h = rw (e, h) (ended x (all_of (map item_of (before_end words))) (list_any is_end words))
 
 -- a printed number is a word that is read as that number, and ends no list

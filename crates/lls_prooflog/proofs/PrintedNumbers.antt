@@ -26,7 +26,7 @@ signed_digits-decimal negative n lt =
     rw (some, digits_are_digits (decimal n) numeral.0.1, numeral.1) refl
 
 -- digits have no - before them
-number_in-digits : (word : List ℕ) → list_all is_ascii_digit word ≡ true → 0 < length word → number_in word ≡ signed_digits false word
+pub number_in-digits : (word : List ℕ) → list_all is_ascii_digit word ≡ true → 0 < length word → number_in word ≡ signed_digits false word
 number_in-digits [] digits some = absurd (omega arith)
 number_in-digits (b ∷ bs) digits some =
     rw (digit_no_minus b (and_parts (is_ascii_digit b) (list_all is_ascii_digit bs) digits).0) refl

@@ -6,6 +6,8 @@ pub mod FaultText
 pub mod Wrapped
 pub mod Number
 pub mod Line
+pub mod Fronts
+pub mod Numeral
 pub mod StepText
 pub mod Fresh
 pub mod Spent

@@ -3,6 +3,7 @@
 //! What a good step is, which clauses are live after it, and when a log is spent, stands in specs/.
 #![tactic(auto)]
 
+mod fronts;
 mod hints;
 mod ids;
 mod line_error;
@@ -10,10 +11,14 @@ mod line_fault;
 mod lits;
 mod log;
 mod number;
+mod numeral;
+mod numerals;
 mod print;
 mod read;
+mod short;
 mod step;
 mod step_fault;
+mod step_ref;
 
 pub use hints::Hints;
 pub use ids::Ids;
@@ -22,9 +27,10 @@ pub use line_fault::LineFault;
 pub use lits::Lits;
 pub use log::{Addition, Log};
 pub use print::{print_log, print_step};
-pub use read::read_line;
+pub use read::{LineReader, read_line};
 pub use step::Step;
 pub use step_fault::{Culprit, StepFault};
+pub use step_ref::StepRef;
 
 #[cfg(test)]
 mod line_tests;

@@ -1,16 +1,19 @@
 // The step that a line of a proof writes.
-ghost use Rattle.std.specs.Prelude.{◌≡◌, drop, OnOk, IfOk, IfSome};
-ghost use Rattle.lls_text.specs.Seen.{seen_word};
-ghost use Rattle.lls_text.specs.Words.{words_of};
+ghost use Rattle.std.specs.Prelude.{◌≡◌, drop, Some, OnOk, IfOk, IfSome};
+ghost use Rattle.std.specs.Option.{option_map};
 ghost use Rattle.lls_prooflog.specs.Number.{id_in, literal_in, hint_in, item};
 ghost use Rattle.lls_prooflog.specs.Range.{IsInRange};
 ghost use Rattle.lls_prooflog.specs.Wrapped.{GivesWrapped};
-ghost use Rattle.lls_prooflog.specs.Line.{behind_end, listed, step_alone, addition, deletion, begins_d, step_of_line};
+ghost use Rattle.lls_prooflog.specs.Line.{behind_end, listed, step_of_line};
+ghost use Rattle.lls_prooflog.specs.Numeral.{next_item, unless_more, addition_from, deletion_from};
+ghost use Rattle.lls_prooflog.specs.declared.step.Step.TheVariants.{Add, Del};
+ghost use Rattle.lls_prooflog.specs.Log.{step_of_ref};
 
-use crate::number::{hint, id, is_zeros, leading, literal};
-use crate::{Hints, Ids, LineError, LineFault, Lits, Step};
+use crate::numeral::Numeral;
+use crate::numerals::Numerals;
+use crate::{Addition, LineError, LineFault, Step, StepRef};
 use lls_lit::Lit;
-use lls_text::{Word, Words, begins_with};
+use lls_text::begins_with;
 use std::alloc::Global;
 
 /// The step that a line of an LRAT proof writes, or the line's leftmost fault. None exactly at a line of blanks and at a
@@ -22,99 +25,170 @@ pub fn read_line(alloc: Global, line: &[u8]) -> Result<Option<Step>, LineError>
     ensures exact { GivesWrapped LineError.Fault (λ step. step) result (step_of_line line.now) }
     ensures in_range { IfOk result (λ step. IfSome step IsInRange) }
 {
-    if begins_with(line, b'c') {
-        return Ok(None);
+    let mut reader = LineReader::new(alloc);
+    match reader.read(line)? {
+        Some(step) => Ok(Some(step.to_step(alloc)?)),
+        None => Ok(None),
     }
-    let mut words = Words::new(line);
-    let Some(first) = words.next() else {
-        return Ok(None);
+}
+
+/// A reader of lines, which lends the step of each.
+///
+/// The numbers of a line stand in buffers that are filled anew for each line, so a line takes memory only where it has
+/// more of them than any before.
+#[derive(Drop)]
+pub struct LineReader {
+    lits: Vec<Lit>,
+    hints: Vec<i64>,
+    ids: Vec<u64>,
+}
+
+impl LineReader {
+    /// A reader, which takes no memory yet.
+    pub fn new(alloc: Global) -> LineReader {
+        LineReader {
+            lits: Vec::new(alloc),
+            hints: Vec::new(alloc),
+            ids: Vec::new(alloc),
+        }
+    }
+
+    /// The step that a line writes, as `read_line` gives it.
+    pub fn read(&mut self, line: &[u8]) -> Result<Option<StepRef>, LineError>
+        ensures exact { GivesWrapped LineError.Fault (option_map step_of_ref) result (step_of_line line.now) }
+        ensures in_range { IfOk result (λ step. IfSome step (λ s. IsInRange (step_of_ref s))) }
+    {
+        if begins_with(line, b'c') {
+            return Ok(None);
+        }
+        let mut numerals = Numerals::new(line);
+        let Some(first) = numerals.next()? else {
+            return Ok(None);
+        };
+        if numerals.take_d() {
+            read_deletion(&first, numerals, &mut self.ids)?;
+            return Ok(Some(StepRef::Del(&self.ids)));
+        }
+        let id = read_addition(&first, numerals, &mut self.lits, &mut self.hints)?;
+        Ok(Some(StepRef::Add(Addition {
+            id,
+            lits: &self.lits,
+            hints: &self.hints,
+        })))
+    }
+}
+
+// An addition behind its first word. Its id is answered.
+fn read_addition(
+    first: &Numeral,
+    numerals: Numerals,
+    lits: &mut Vec<Lit>,
+    hints: &mut Vec<i64>,
+) -> Result<u64, LineError>
+    ensures { GivesWrapped LineError.Fault (λ id. Some (Add id lits.new.items hints.new.items)) result
+        (addition_from first.now numerals.entry) }
+{
+    let mut numerals = numerals;
+    let id = first.id()?;
+    read_lits(&mut numerals, lits)?;
+    read_hints(&mut numerals, hints)?;
+    alone(&numerals)?;
+    Ok(id)
+}
+
+// A deletion behind its `d`.
+fn read_deletion(first: &Numeral, numerals: Numerals, ids: &mut Vec<u64>) -> Result<(), LineError>
+    ensures { GivesWrapped LineError.Fault (λ _. Some (Del ids.new.items)) result (deletion_from first.now numerals.entry) }
+{
+    let mut numerals = numerals;
+    first.leading()?;
+    read_ids(&mut numerals, ids)?;
+    alone(&numerals)?;
+    Ok(())
+}
+
+// No word may stand behind a step.
+fn alone(numerals: &Numerals) -> Result<(), LineFault>
+    ensures { result ≡ unless_more numerals.now }
+{
+    match numerals.column() {
+        None => Ok(()),
+        Some(column) => Err(LineFault::Extra(column)),
+    }
+}
+
+fn read_lits(numerals: &mut Numerals, lits: &mut Vec<Lit>) -> Result<(), LineError>
+    ensures lits { GivesWrapped LineError.Fault (λ _. lits.new.items) result (listed (item literal_in) numerals.old) }
+    ensures behind { OnOk result (numerals.new ≡ behind_end numerals.old) }
+{
+    lits.clear();
+    while let Some(lit) = next_lit(numerals)? {
+        lits.push(lit)?;
+    }
+    Ok(())
+}
+
+fn read_hints(numerals: &mut Numerals, hints: &mut Vec<i64>) -> Result<(), LineError>
+    ensures hints { GivesWrapped LineError.Fault (λ _. hints.new.items) result (listed (item hint_in) numerals.old) }
+    ensures behind { OnOk result (numerals.new ≡ behind_end numerals.old) }
+{
+    hints.clear();
+    while let Some(hint) = next_hint(numerals)? {
+        hints.push(hint)?;
+    }
+    Ok(())
+}
+
+fn read_ids(numerals: &mut Numerals, ids: &mut Vec<u64>) -> Result<(), LineError>
+    ensures ids { GivesWrapped LineError.Fault (λ _. ids.new.items) result (listed (item id_in) numerals.old) }
+    ensures behind { OnOk result (numerals.new ≡ behind_end numerals.old) }
+{
+    ids.clear();
+    while let Some(id) = next_id(numerals)? {
+        ids.push(id)?;
+    }
+    Ok(())
+}
+
+// The next literal of a list, or None at its end.
+#[tactic(auto, using(crate::proofs::Ends::next_literal))]
+fn next_lit(numerals: &mut Numerals) -> Result<Option<Lit>, LineFault>
+    ensures lit { result ≡ next_item (item literal_in) numerals.old }
+    ensures rest { OnOk result (numerals.new ≡ drop 1 numerals.old) }
+{
+    let Some(numeral) = numerals.next()? else {
+        return Err(LineFault::NoZero);
     };
-    if is_deletion(&words) {
-        words.next();
-        read_deletion(alloc, &first, words)
-    } else {
-        read_addition(alloc, &first, words)
+    if numeral.is_end() {
+        return Ok(None);
     }
+    Ok(Some(numeral.literal()?))
 }
 
-// Whether the next word is `d`.
-fn is_deletion(words: &Words) -> bool
-    ensures { result ≡ begins_d words.now }
+#[tactic(auto, using(crate::proofs::Ends::next_hint))]
+fn next_hint(numerals: &mut Numerals) -> Result<Option<i64>, LineFault>
+    ensures hint { result ≡ next_item (item hint_in) numerals.old }
+    ensures rest { OnOk result (numerals.new ≡ drop 1 numerals.old) }
 {
-    match words.peek() {
-        Some(second) => second.text == b"d".as_slice(),
-        None => false,
+    let Some(numeral) = numerals.next()? else {
+        return Err(LineFault::NoZero);
+    };
+    if numeral.is_end() {
+        return Ok(None);
     }
+    Ok(Some(numeral.hint()?))
 }
 
-fn read_addition(alloc: Global, first: &Word, words: Words) -> Result<Option<Step>, LineError>
-    ensures { GivesWrapped LineError.Fault (λ step. step) result (addition (seen_word first.now) words.entry) }
+#[tactic(auto, using(crate::proofs::Ends::next_id))]
+fn next_id(numerals: &mut Numerals) -> Result<Option<u64>, LineFault>
+    ensures id { result ≡ next_item (item id_in) numerals.old }
+    ensures rest { OnOk result (numerals.new ≡ drop 1 numerals.old) }
 {
-    let mut words = words;
-    let id = id(first)?;
-    let lits = read_lits(alloc, &mut words)?;
-    let hints = read_hints(alloc, &mut words)?;
-    Ok(alone(Step::Add { id, lits, hints }, words)?)
-}
-
-fn read_deletion(alloc: Global, first: &Word, words: Words) -> Result<Option<Step>, LineError>
-    ensures { GivesWrapped LineError.Fault (λ step. step) result (deletion (seen_word first.now) words.entry) }
-{
-    let mut words = words;
-    leading(first)?;
-    let ids = read_ids(alloc, &mut words)?;
-    Ok(alone(Step::Del { ids }, words)?)
-}
-
-// A step behind which no word may stand.
-fn alone(step: Step, words: Words) -> Result<Option<Step>, LineFault>
-    ensures { result ≡ step_alone step words.entry }
-{
-    let mut words = words;
-    match words.next() {
-        None => Ok(Some(step)),
-        Some(word) => Err(LineFault::Extra(word.column)),
+    let Some(numeral) = numerals.next()? else {
+        return Err(LineFault::NoZero);
+    };
+    if numeral.is_end() {
+        return Ok(None);
     }
-}
-
-fn read_lits(alloc: Global, words: &mut Words) -> Result<Lits, LineError>
-    ensures lits { GivesWrapped LineError.Fault (λ lits. lits) result (listed (item literal_in) words.old) }
-    ensures behind { OnOk result (words.new ≡ behind_end words.old) }
-{
-    let mut lits = Vec::new(alloc);
-    while let Some(word) = words.next() {
-        if is_zeros(word.text) {
-            return Ok(Lits::new(lits));
-        }
-        lits.push(literal(&word)?)?;
-    }
-    Err(LineFault::NoZero.into())
-}
-
-fn read_hints(alloc: Global, words: &mut Words) -> Result<Hints, LineError>
-    ensures hints { GivesWrapped LineError.Fault (λ hints. hints) result (listed (item hint_in) words.old) }
-    ensures behind { OnOk result (words.new ≡ behind_end words.old) }
-{
-    let mut hints = Vec::new(alloc);
-    while let Some(word) = words.next() {
-        if is_zeros(word.text) {
-            return Ok(Hints::new(hints));
-        }
-        hints.push(hint(&word)?)?;
-    }
-    Err(LineFault::NoZero.into())
-}
-
-fn read_ids(alloc: Global, words: &mut Words) -> Result<Ids, LineError>
-    ensures ids { GivesWrapped LineError.Fault (λ ids. ids) result (listed (item id_in) words.old) }
-    ensures behind { OnOk result (words.new ≡ behind_end words.old) }
-{
-    let mut ids = Vec::new(alloc);
-    while let Some(word) = words.next() {
-        if is_zeros(word.text) {
-            return Ok(Ids::new(ids));
-        }
-        ids.push(id(&word)?)?;
-    }
-    Err(LineFault::NoZero.into())
+    Ok(Some(numeral.id()?))
 }

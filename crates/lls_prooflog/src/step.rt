@@ -1,9 +1,10 @@
 // A step of a proof.
 ghost use Rattle.std.specs.Prelude.{◌≡◌};
 ghost use Rattle.std.specs.List.{list_all};
+ghost use Rattle.lls_prooflog.specs.Log.{step_of_ref};
 ghost use Rattle.lls_prooflog.specs.Range.{is_id, is_hint, is_in_range};
 
-use crate::{Hints, Ids, Lits};
+use crate::{Addition, Hints, Ids, Lits, StepRef};
 
 /// A step of an LRAT proof.
 #[derive(Debug, Drop)]
@@ -17,6 +18,20 @@ pub enum Step {
 impl Step {
     /// The greatest id.
     pub const MOST_ID: u64 = 9_223_372_036_854_775_807;
+
+    /// The step without a copy.
+    pub fn lend(&self) -> StepRef
+        ensures { step_of_ref result ≡ self.now }
+    {
+        match self {
+            Step::Add { id, lits, hints } => StepRef::Add(Addition {
+                id: *id,
+                lits: lits.items(),
+                hints: hints.items(),
+            }),
+            Step::Del { ids } => StepRef::Del(ids.items()),
+        }
+    }
 
     /// Whether the ids are from 1 to `MOST_ID`, and the hints the same with either sign.
     pub fn is_in_range(&self) -> bool

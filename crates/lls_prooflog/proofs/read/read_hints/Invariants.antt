@@ -4,11 +4,11 @@ use Rattle.lls_prooflog.specs.Line.{behind_end, listed}
 use Rattle.lls_prooflog.proofs.Lists.{with_front}
 use Rattle.lls_prooflog.proofs.read.read_hints.Given as goal
 
-abbrev pub invariant-loop-word : goal.invariant-loop-word
-invariant-loop-word l = record {
-  listed : with_front l.hints.items (listed (item hint_in) l.words) ≡ listed (item hint_in) l.initial.words;
-  behind : behind_end l.words ≡ behind_end l.initial.words;
+abbrev pub invariant-loop-hint : goal.invariant-loop-hint
+invariant-loop-hint l = record {
+  listed : with_front l.hints.items (listed (item hint_in) l.numerals) ≡ listed (item hint_in) l.initial.numerals;
+  behind : behind_end l.numerals ≡ behind_end l.initial.numerals;
 }
 
-abbrev pub decreases-loop-word : goal.decreases-loop-word
-decreases-loop-word l = length l.words
+abbrev pub decreases-loop-hint : goal.decreases-loop-hint
+decreases-loop-hint l = length l.numerals

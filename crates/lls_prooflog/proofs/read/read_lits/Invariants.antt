@@ -4,11 +4,11 @@ use Rattle.lls_prooflog.specs.Line.{behind_end, listed}
 use Rattle.lls_prooflog.proofs.Lists.{with_front}
 use Rattle.lls_prooflog.proofs.read.read_lits.Given as goal
 
-abbrev pub invariant-loop-word : goal.invariant-loop-word
-invariant-loop-word l = record {
-  listed : with_front l.lits.items (listed (item literal_in) l.words) ≡ listed (item literal_in) l.initial.words;
-  behind : behind_end l.words ≡ behind_end l.initial.words;
+abbrev pub invariant-loop-lit : goal.invariant-loop-lit
+invariant-loop-lit l = record {
+  listed : with_front l.lits.items (listed (item literal_in) l.numerals) ≡ listed (item literal_in) l.initial.numerals;
+  behind : behind_end l.numerals ≡ behind_end l.initial.numerals;
 }
 
-abbrev pub decreases-loop-word : goal.decreases-loop-word
-decreases-loop-word l = length l.words
+abbrev pub decreases-loop-lit : goal.decreases-loop-lit
+decreases-loop-lit l = length l.numerals
