@@ -11,28 +11,32 @@ const SMALL: &str = "0 0\n1 0\n\n0 0\n0 0\n";
 
 const SMALL_SUMMARY: &str = "size 2\nknown 4\nlive 1 0\nvariables 8\nclauses 72\nanswer pattern\n";
 
+/// A command line, the file that is written, what it is then, and the summary.
+type Found = (&'static str, &'static str, &'static str, &'static str);
+
 #[test]
 fn problems_that_are_found(rt: HostRuntime) -> Result<(), Fail> {
     let alloc = rt.alloc();
-    let rows: [(&str, &str, &str); 4] = [
+    let rows: [Found; 4] = [
         (
             "make 0 1 s q",
+            "s",
             "0\n\n0\n",
             "size 1\nknown 1\nlive 0 0\nvariables 2\nclauses 4\nanswer pattern\n",
         ),
-        ("make 0 2 s q", SMALL, SMALL_SUMMARY),
+        ("make 0 2 s q", "s", SMALL, SMALL_SUMMARY),
         // The file that is there is written anew.
-        ("make 00 0002 f q", SMALL, SMALL_SUMMARY),
+        ("make 00 0002 f q", "f", SMALL, SMALL_SUMMARY),
         (
             "make 1 8 f q",
+            "f",
             "0 * 1 0 1 * * 0\n1 0 1 * 1 0 0 1\n0 1 1 0 1 1 * 1\n0 1 1 * 1 1 0 1\n0 * * 0 1 0 * 0\n0 1 1 0 1 0 0 *\n* 0 0 0 1 * 1 1\n0 1 1 0 0 1 0 1\n\n0 1 1 0 1 1 1 0\n1 0 0 0 0 0 0 1\n1 0 0 0 0 0 0 1\n1 0 0 0 0 0 0 1\n1 0 0 0 1 0 1 0\n0 1 1 0 1 0 1 1\n0 0 0 0 1 0 0 1\n0 0 0 0 0 1 0 1\n",
             "size 8\nknown 52\nlive 35 23\nvariables 128\nclauses 20148\nanswer pattern\n",
         ),
     ];
-    for (line, file, summary) in rows {
+    for (line, name, file, summary) in rows {
         let words = words_of(alloc, line)?;
         let ended = run_over(alloc, &words, b"something else", b"", NOTHING)?;
-        let name = words[3].as_str();
         assert_eq!(rt; ended.status, Status::Pattern, "{line}");
         assert_eq!(rt; ended.out.bytes(), summary.as_bytes(), "{line}");
         assert_eq!(rt; ended.shelf.file(name), Some(file.as_bytes()), "{line}");
@@ -52,28 +56,45 @@ fn failures_of_a_making(rt: HostRuntime) -> Result<(), Fail> {
     let words = words_of(alloc, "make 0 2 s q")?;
     let short = Failing { most: 7, ..NOTHING };
     let rows: [Failure; 5] = [
-        (Failing { create: 1, ..short }, "CreateFailed", None, ""),
-        (Failing { write: 1, ..short }, "WriteFailed", Some(""), ""),
+        (
+            Failing { create: 1, ..short },
+            "outside: CreateFailed",
+            None,
+            "",
+        ),
+        (
+            Failing { write: 1, ..short },
+            "outside: WriteFailed",
+            Some(""),
+            "",
+        ),
         (
             Failing { write: 2, ..short },
-            "WriteFailed",
+            "outside: WriteFailed",
             Some("0 0\n1 0"),
             "",
         ),
-        (Failing { out: 1, ..short }, "OutFailed", Some(SMALL), ""),
+        (
+            Failing { out: 1, ..short },
+            "outside: OutFailed",
+            Some(SMALL),
+            "",
+        ),
         (
             Failing { out: 3, ..short },
-            "OutFailed",
+            "outside: OutFailed",
             Some(SMALL),
             "size 2",
         ),
     ];
-    for (failing, fault, left, given) in rows {
+    for (failing, text, left, given) in rows {
         let ended = run_over(alloc, &words, b"", b"", failing)?;
-        let text = format!(in alloc; "outside: {fault}")?;
-        is_fault(&rt, alloc, &ended, Status::Outside, &text)?;
+        is_fault(&rt, alloc, &ended, Status::Outside, text)?;
         assert_eq!(rt; ended.out.bytes(), given.as_bytes());
-        assert_eq!(rt; ended.shelf.file("s"), left.map(|text| text.as_bytes()));
+        match (ended.shelf.file("s"), left) {
+            (Some(bytes), Some(whole)) => assert_eq!(rt; bytes, whole.as_bytes()),
+            (found, _) => assert_eq!(rt; found.is_none(), left.is_none()),
+        }
         assert!(rt; ended.shelf.file("q").is_none());
     }
     Ok(())
@@ -116,13 +137,13 @@ fn failures_behind_a_making(rt: HostRuntime) -> Result<(), Fail> {
     let file = whole.shelf.file("s").unwrap_or(b"");
     let log = whole.shelf.file("q").unwrap_or(b"");
     assert!(rt; file.len() == 2 * 14 * 28 + 1 && !log.is_empty());
-    let rows: [(Failing, &str, Option<&[u8]>, &str); 3] = [
+    let rows: [(Failing, &str, Option<usize>, &str); 3] = [
         (
             Failing {
                 create: 2,
                 ..NOTHING
             },
-            "CreateFailed",
+            "outside: CreateFailed",
             None,
             "",
         ),
@@ -131,19 +152,26 @@ fn failures_behind_a_making(rt: HostRuntime) -> Result<(), Fail> {
                 write: 2,
                 ..NOTHING
             },
-            "WriteFailed",
-            Some(b""),
+            "outside: WriteFailed",
+            Some(0),
             "",
         ),
-        (Failing { out: 2, ..NOTHING }, "OutFailed", Some(log), "siz"),
+        (
+            Failing { out: 2, ..NOTHING },
+            "outside: OutFailed",
+            Some(log.len()),
+            "siz",
+        ),
     ];
-    for (failing, fault, left, given) in rows {
+    for (failing, text, left, given) in rows {
         let ended = undecided(alloc, failing)?;
-        let text = format!(in alloc; "outside: {fault}")?;
-        is_fault(&rt, alloc, &ended, Status::Outside, &text)?;
+        is_fault(&rt, alloc, &ended, Status::Outside, text)?;
         assert_eq!(rt; ended.out.bytes(), given.as_bytes());
         assert_eq!(rt; ended.shelf.file("s"), Some(file));
-        assert_eq!(rt; ended.shelf.file("q"), left);
+        match (ended.shelf.file("q"), left) {
+            (Some(bytes), Some(len)) => assert_eq!(rt; bytes, &log[..len.min(log.len())]),
+            (found, _) => assert_eq!(rt; found.is_none(), left.is_none()),
+        }
     }
     Ok(())
 }
