@@ -28,9 +28,9 @@ IsLogged statuses.Undecided = Unit {0}
 IsLogged status = ⊥
 
 abbrev pub Has : Status → Cnf → Effort → NamedFile → Type 0
-Has statuses.NoPattern formula effort file = HasProof formula effort file
-Has statuses.Undecided formula effort file = HasSpentLog formula effort file
-Has status formula effort file = ⊥
+Has statuses.NoPattern = HasProof
+Has statuses.Undecided = HasSpentLog
+Has status = λ formula effort file. ⊥
 
 -- an answer's file, if it has one, is that of the search, and its status says what the file has
 pub record HasEvidence (formula : Cnf) (effort : Effort) (answer : GivenAnswer) : Type 0 where

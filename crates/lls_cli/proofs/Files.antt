@@ -263,32 +263,22 @@ evidence_left (Some search) answer mid after (inl leaves) logged wrote = absurd 
 evidence_left (Some search) answer mid after (inr has) logged wrote =
     of_written (Has answer.status search.0 search.1) answer.file has.file search.1.proof mid after has.file_is has.named has.has wrote
 
-left_proof : (question : Question) (files : Option Files) → Left statuses.NoPattern (searched question) files → Leaves HasProof files question
-left_proof (searches problem effort rle) files left = left
-left_proof (decides formula effort) files left = left
-left_proof (makes seed size name effort) files left = left
-left_proof (checks problem bytes) files left = left
-left_proof (refutes formula bytes) files left = left
-left_proof (judges problem history) files left = left
-left_proof (encodes problem) files left = left
-left_proof (prints rule) files left = left
+left_evidence : (status : Status) (question : Question) (files : Option Files) → Left status (searched question) files → Leaves (Has status) files question
+left_evidence status (searches problem effort rle) files left = left
+left_evidence status (decides formula effort) files left = left
+left_evidence status (makes seed size name effort) files left = left
+left_evidence status (checks problem bytes) files left = left
+left_evidence status (refutes formula bytes) files left = left
+left_evidence status (judges problem history) files left = left
+left_evidence status (encodes problem) files left = left
+left_evidence status (prints rule) files left = left
 
-left_log : (question : Question) (files : Option Files) → Left statuses.Undecided (searched question) files → Leaves HasSpentLog files question
-left_log (searches problem effort rle) files left = left
-left_log (decides formula effort) files left = left
-left_log (makes seed size name effort) files left = left
-left_log (checks problem bytes) files left = left
-left_log (refutes formula bytes) files left = left
-left_log (judges problem history) files left = left
-left_log (encodes problem) files left = left
-left_log (prints rule) files left = left
-
-leaves_at : (Fact : Question → Type 0) (job : Result Job WordsError) (before after : Moment) (status : Status) → (end : End) × IsEnd job before after status end → IsAnswered status → IsLogged status
-    → ((question : Question) → Left status (searched question) (files_at after.shelf) → Fact question) → OfQuestion Fact job (files_at before.shelf)
-leaves_at Fact job before after status ended is logged means =
+leaves_at : (job : Result Job WordsError) (before after : Moment) (status : Status) → (end : End) × IsEnd job before after status end → IsAnswered status → IsLogged status
+    → OfQuestion (Leaves (Has status) (files_at after.shelf)) job (files_at before.shelf)
+leaves_at job before after status ended is logged =
     let given = meant job before after status ended is in
-    of_this Fact given.question job (files_at before.shelf) given.asked
-    (means given.question
+    of_this (Leaves (Has status) (files_at after.shelf)) given.question job (files_at before.shelf) given.asked
+    (left_evidence status given.question (files_at after.shelf)
     (subst (λ s. Left s (searched given.question) (files_at after.shelf)) (sym given.status_is)
     (evidence_left (searched given.question) given.answer given.mid after.shelf (evidence given.question given.answer given.right.answers) (subst IsLogged given.status_is logged) given.wrote)))
 
@@ -296,12 +286,12 @@ leaves_at Fact job before after status ended is logged means =
 pub leaves_proof : (job : Result Job WordsError) (before after : Moment) (status : Status) → (end : End) × IsEnd job before after status end → status ≡ statuses.NoPattern
     → OfQuestion (Leaves HasProof (files_at after.shelf)) job (files_at before.shelf)
 leaves_proof job before after status ended is =
-    leaves_at (Leaves HasProof (files_at after.shelf)) job before after status ended (subst IsAnswered (sym is) tt) (subst IsLogged (sym is) tt)
-    (λ question left. left_proof question (files_at after.shelf) (subst (λ s. Left s (searched question) (files_at after.shelf)) is left))
+    subst (λ s. OfQuestion (Leaves (Has s) (files_at after.shelf)) job (files_at before.shelf)) is
+    (leaves_at job before after status ended (subst IsAnswered (sym is) tt) (subst IsLogged (sym is) tt))
 
 -- where it is undecided, its file has the log of a spent budget
 pub leaves_log : (job : Result Job WordsError) (before after : Moment) (status : Status) → (end : End) × IsEnd job before after status end → status ≡ statuses.Undecided
     → OfQuestion (Leaves HasSpentLog (files_at after.shelf)) job (files_at before.shelf)
 leaves_log job before after status ended is =
-    leaves_at (Leaves HasSpentLog (files_at after.shelf)) job before after status ended (subst IsAnswered (sym is) tt) (subst IsLogged (sym is) tt)
-    (λ question left. left_log question (files_at after.shelf) (subst (λ s. Left s (searched question) (files_at after.shelf)) is left))
+    subst (λ s. OfQuestion (Leaves (Has s) (files_at after.shelf)) job (files_at before.shelf)) is
+    (leaves_at job before after status ended (subst IsAnswered (sym is) tt) (subst IsLogged (sym is) tt))
