@@ -7,25 +7,9 @@ use Rattle.std.specs.FinSet as members
 use Rattle.std.proofs.lemmas.List.Elements.{All-get_or}
 use Rattle.std.proofs.lemmas.Cmp.{int_cmp_total}
 use Rattle.std.proofs.lemmas.Bool.Decides.{Decides-int_eq, nat_tests}
-use Rattle.lls_lit.specs.Literal.{IsLiteral, variable_of, index_of}
-use Rattle.lls_lit.specs.Stamps.{literal_at, stamped, marked}
-
-pub index_of-literal_at : (i : ℕ) → index_of (literal_at i) ≡ i
-index_of-literal_at i =
-    elim (eqb (i % 2) 0) as (λ b. eqb (i % 2) 0 ≡ b → index_of (cond b (pos (i / 2 + 1)) (negsuc (i / 2))) ≡ i) [
-      | true ↦ λ e. grind (arith, nat_tests)
-      | false ↦ λ e. grind (arith, nat_tests)
-    ] refl
-
-pub literal_at-index_of : (l : ℤ) → IsLiteral l → literal_at (index_of l) ≡ l
-literal_at-index_of (pos n) h =
-    let even : 2 * (n - 1) % 2 ≡ 0 = omega arith in
-    let half : 2 * (n - 1) / 2 + 1 ≡ n = omega (arith, h.0) in
-    rw (even, half) refl
-literal_at-index_of (negsuc n) h =
-    let odd : (2 * n + 1) % 2 ≡ 1 = omega arith in
-    let half : (2 * n + 1) / 2 ≡ n = omega arith in
-    rw (odd, half) refl
+use Rattle.lls_lit.specs.Literal.{IsLiteral, variable_of, index_of, literal_at}
+use Rattle.lls_lit.specs.Stamps.{stamped, marked}
+use Rattle.lls_lit.specs.Indices.{index_of-literal_at, literal_at-index_of}
 
 or_swap : (a b c : Bool) → (a || (b || c)) ≡ (b || (a || c))
 or_swap true true c = refl

@@ -1,5 +1,5 @@
 -- A literal is a whole number that isn't 0: v for a variable, -v for its negation, as DIMACS CNF writes them.
-use Rattle.std.specs.Prelude.{◌≤◌, ℕ, zero, suc, ◌+◌, ◌-◌, ◌*◌, ℤ, pos, negsuc}
+use Rattle.std.specs.Prelude.{◌<◌, ◌≤◌, ℕ, zero, suc, ◌+◌, ◌-◌, ◌*◌, ◌/◌, ◌%◌, ℤ, pos, negsuc, Bool, true, false, if◌then◌else◌, ◌==◌}
 use Rattle.lls_lit.specs.declared.var.TheConstants.Var.{MOST}
 
 -- a variable's number
@@ -25,3 +25,16 @@ negation (negsuc n) = pos (n + 1)
 abbrev pub index_of : ℤ → ℕ
 index_of (pos n) = 2 * (n - 1)
 index_of (negsuc n) = 2 * n + 1
+
+-- the literal at a place of that table
+abbrev pub literal_at : ℕ → ℤ
+literal_at i = if i % 2 == 0 then pos (i / 2 + 1) else negsuc (i / 2)
+
+-- a place in the table of all variables
+abbrev pub IsIndex : ℕ → Type 0
+IsIndex i = i < 2 * MOST
+
+-- whether a literal is its variable, and not the negation
+abbrev pub is_positive : ℤ → Bool
+is_positive (pos n) = true
+is_positive (negsuc n) = false

@@ -1,12 +1,9 @@
 -- For private contracts alone: marks are kept as a table of stamps.
-use Rattle.std.specs.Prelude.{◌≡◌, ℕ, ◌+◌, ◌*◌, ◌/◌, ◌%◌, ◌≤◌, List, [], ◌∷◌, length, ℤ, pos, negsuc, All, if◌then◌else◌, ◌==◌}
+use Rattle.std.specs.Prelude.{◌≡◌, ℕ, ◌+◌, ◌*◌, ◌≤◌, List, [], ◌∷◌, length, ℤ, All, if◌then◌else◌, ◌==◌}
 use Rattle.std.specs.FinSet as set
 use Rattle.lls_lit.specs.declared.var.TheConstants.Var.{MOST}
+use Rattle.lls_lit.specs.Literal.{literal_at}
 use Rattle.lls_lit.specs.Marked.{Marked}
-
--- the literal at a place of a table of two entries a variable
-abbrev pub literal_at : ℕ → ℤ
-literal_at i = if i % 2 == 0 then pos (i / 2 + 1) else negsuc (i / 2)
 
 -- the literals, from the place on, whose entry is the stamp
 abbrev pub stamped : ℕ → List ℕ → ℕ → List ℤ

@@ -1,28 +1,35 @@
 // A literal.
 ghost use Rattle.std.specs.Prelude.{◌≡◌, SomeIff};
-ghost use Rattle.lls_lit.specs.Literal.{IsLiteral, IsVariable, negation, variable_of, index_of};
+ghost use Rattle.lls_lit.specs.Literal.{IsLiteral, IsVariable, is_positive, negation, variable_of, index_of};
 ghost use Rattle.lls_lit.specs.Formula.{is_literal_of};
 
 use crate::Var;
 use std::marker::Model;
 
 /// A variable or its negation, as DIMACS writes it: `v` or `-v`.
+///
+/// It is kept as its place in a table of two entries a variable, so that the variable, the sign, the negation and the place
+/// are had without a branch.
 #[derive(Clone, Copy, Debug, PartialEq, Eq, Hash)]
 pub struct Lit {
-    number: i32,
+    index: u32,
 }
 
 impl Model for Lit {
     ghost use Rattle.std.specs.Prelude.{ℤ};
-    ghost use Rattle.lls_lit.specs.Literal.{IsLiteral};
+    ghost use Rattle.std.proofs.Common.{ap};
+    ghost use Rattle.lls_lit.specs.Literal.{index_of, literal_at, IsIndex};
+    ghost use Rattle.lls_lit.specs.Indices.{index_of-literal_at};
 
     ghost Value = { ℤ };
 
-    ghost view = { λ l. l.number };
+    ghost view = { λ l. literal_at l.index };
 
-    ghost invariant = { λ l. IsLiteral l.number };
+    ghost invariant = { λ l. IsIndex l.index };
 
-    ghost inverse = { λ n. record { number = n } };
+    ghost inverse = { λ n. record { index = index_of n } };
+
+    ghost inverse_ok = { λ a h. ap (λ n. record { index = n }) (index_of-literal_at a.index) };
 }
 
 impl Lit {
@@ -30,10 +37,17 @@ impl Lit {
     pub fn from_number(n: i32) -> Option<Lit>
         ensures { SomeIff result (IsLiteral n) n }
     {
-        if n == 0 || n.unsigned_abs() > Var::MOST {
-            None
-        } else {
-            Some(Lit { number: n })
+        let var = Var::from_number(n.unsigned_abs())?;
+        Some(Lit::new(var, n > 0))
+    }
+
+    /// The variable itself where `positive`, else its negation.
+    pub fn new(var: Var, positive: bool) -> Lit
+        ensures var { variable_of result ≡ var }
+        ensures sign { is_positive result ≡ positive }
+    {
+        Lit {
+            index: 2 * (var.number() - 1) + u32::from(!positive),
         }
     }
 
@@ -41,37 +55,51 @@ impl Lit {
         ensures number { result ≡ self }
         ensures literal { IsLiteral result }
     {
-        self.number
+        let variable = (self.index / 2 + 1) as i32;
+        if self.is_positive() {
+            variable
+        } else {
+            -variable
+        }
     }
 
     pub fn negated(self) -> Lit
         ensures { result ≡ negation self }
     {
         Lit {
-            number: -self.number,
+            index: self.index ^ 1,
         }
     }
 
+    #[inline]
     pub fn var(self) -> Var
         ensures var { result ≡ variable_of self }
         ensures variable { IsVariable result }
     {
-        Var::from_number(self.number.unsigned_abs()).unwrap()
+        Var::at(self.index / 2)
+    }
+
+    /// Whether it is the variable itself, and not its negation.
+    #[inline]
+    pub fn is_positive(self) -> bool
+        ensures { result ≡ is_positive self }
+    {
+        self.index % 2 == 0
     }
 
     /// Whether the literal's variable is at most `vars`.
     pub fn is_of(self, vars: u32) -> bool
         ensures { result ≡ is_literal_of vars self }
     {
-        self.number.unsigned_abs() <= vars
+        self.index / 2 < vars
     }
 
     /// Where the literal stands in a table of two entries a variable: 2(v-1) for v, 2(v-1)+1 for -v.
+    #[inline]
     pub fn index(self) -> usize
         ensures place { result ≡ index_of self }
         ensures literal { IsLiteral self }
     {
-        let place = (self.number.unsigned_abs() as usize - 1) * 2;
-        if self.number > 0 { place } else { place + 1 }
+        self.index as usize
     }
 }

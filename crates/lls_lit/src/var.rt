@@ -1,5 +1,5 @@
 // A variable.
-ghost use Rattle.std.specs.Prelude.{◌≡◌, ℕ, ◌≤◌, SomeIff};
+ghost use Rattle.std.specs.Prelude.{◌≡◌, ℕ, ◌+◌, ◌<◌, ◌≤◌, SomeIff};
 ghost use Rattle.lls_lit.specs.Literal.{IsVariable};
 
 use std::marker::Model;
@@ -40,5 +40,23 @@ impl Var {
         ensures variable { IsVariable result }
     {
         self.number
+    }
+
+    /// Where the variable stands in a table of one entry a variable.
+    #[inline]
+    pub fn index(self) -> usize
+        ensures place { result + 1 ≡ self }
+        ensures variable { IsVariable self }
+    {
+        self.number as usize - 1
+    }
+
+    // The variable that stands there in such a table.
+    #[inline]
+    pub(crate) fn at(index: u32) -> Var
+        requires { index < Var.MOST }
+        ensures { result ≡ index + 1 }
+    {
+        Var { number: index + 1 }
     }
 }
