@@ -10,7 +10,7 @@ use std::marker::Model;
 ///
 /// It is kept as its place in a table of two entries a variable, so that the variable, the sign, the negation and the place
 /// are had without a branch.
-#[derive(Clone, Copy, Debug, PartialEq, Eq, Hash)]
+#[derive(Clone, Copy, Debug)]
 pub struct Lit {
     index: u32,
 }
@@ -30,6 +30,27 @@ impl Model for Lit {
     ghost inverse = { λ n. record { index = index_of n } };
 
     ghost inverse_ok = { λ a h. ap (λ n. record { index = n }) (index_of-literal_at a.index) };
+}
+
+impl PartialEq for Lit {
+    ghost use Rattle.std.proofs.Common.{rules};
+    ghost use Rattle.std.specs.Cmp.Rules.{comparing};
+    ghost use Rattle.std.specs.Ordering.{int_eq};
+
+    ghost eq = { int_eq };
+
+    ghost laws = { Prim.search (comparing, rules) };
+
+    fn eq(&self, other: &Lit) -> bool {
+        self.index == other.index
+    }
+}
+
+impl Eq for Lit {
+    ghost use Rattle.std.proofs.Common.{rules};
+    ghost use Rattle.std.specs.Cmp.Rules.{comparing};
+
+    ghost laws = { Prim.search (comparing, rules) };
 }
 
 impl Lit {

@@ -1,12 +1,13 @@
 -- What the tables tell of a variable.
 use Rattle.std.proofs.Common.{◌≡◌, ℕ, ◌+◌, ◌<◌, ◌≤◌, Bool, true, false, not, List, length, get_or, set, Some, None, refl, sym, ap, subst, ◌∙◌, arith}
 use mathlib.Core.Bool.{beq}
-use Rattle.std.specs.Prelude.{ℤ, Option, is_none, option_map, option_and_then, IsSome, ◌↔◌}
-use Rattle.lls_lit.specs.Literal.{variable_of, negation}
+use Rattle.std.specs.Prelude.{ℤ, Option, is_none, is_some, option_map, option_and_then, IsSome, ◌↔◌}
+use Rattle.lls_lit.specs.Literal.{variable_of, negation, is_positive}
 use Rattle.lls_lit.specs.Formula.{is_within}
 use Rattle.lls_store.specs.Trail.{Entry, TrailState, entry_of, has, Has, HasNegated, level_of, reason_of, IsUnset, IsTrail}
 use Rattle.lls_store.specs.Changes.{with_reason}
-use Rattle.lls_store.specs.Tables.{is_positive, entries_in, trail_in, value_of, AreTables}
+use Rattle.lls_store.specs.TruthTable.{answer_for}
+use Rattle.lls_store.specs.Tables.{entries_in, trail_in, value_of, AreTables}
 use Rattle.lls_store.proofs.Tabled.{entry_of-entries_in, entries_in-reason, literals_of-entries_in}
 use Rattle.lls_store.proofs.Values.{entry_of-unset, same_sign, same_sign-beq, has-value, has-negated_value, has-no_value, true_answer, false_answer, no_answer, set_answer, unset_answer}
 
@@ -18,21 +19,19 @@ pub valued : (o : Option Entry) (b : Bool) → option_map (λ e. is_positive e.l
 valued None b is = absurd cc
 valued (Some e) b is = (e, refl)
 
--- where a variable has a value, its level and its reason are those of the tables
-pub level_of-table : (vars current room i v : ℕ) (values : List (Option Bool)) (levels : List ℕ) (reasons : List (Option ℕ)) (lits : List ℤ) (b : Bool)
-    → AreTables (trail_in vars current levels reasons lits) room values levels reasons → i + 1 ≡ v → i < length values → get_or values i None ≡ Some b
-    → level_of (entries_in levels reasons lits) v ≡ Some (get_or levels i 0)
-level_of-table vars current room i v values levels reasons lits b h at inside value =
-    let es = entries_in levels reasons lits in
-    let found = valued (entry_of es v) b (ap (λ n. value_of es n) (sym at) ∙ sym (h.are_values i inside) ∙ value) in
+pub present : (o : Option Entry) → IsSome o → (e : Entry) × (o ≡ Some e)
+present None some = absurd cc
+present (Some e) some = (e, refl)
+
+-- where a variable has an entry, its level and its reason are those of the tables
+pub level_of-some : (levels : List ℕ) (reasons : List (Option ℕ)) (lits : List ℤ) (i v : ℕ) → i + 1 ≡ v → IsSome (entry_of (entries_in levels reasons lits) v) → level_of (entries_in levels reasons lits) v ≡ Some (get_or levels i 0)
+level_of-some levels reasons lits i v at some =
+    let found = present (entry_of (entries_in levels reasons lits) v) some in
     ap (λ o. option_map (λ e. e.level) o) found.1 ∙ ap Some ((entry_of-entries_in levels reasons lits v found.0 found.1).0 ∙ ap (λ n. get_or levels n 0) (omega (arith, at)))
 
-pub reason_of-table : (vars current room i v : ℕ) (values : List (Option Bool)) (levels : List ℕ) (reasons : List (Option ℕ)) (lits : List ℤ) (b : Bool)
-    → AreTables (trail_in vars current levels reasons lits) room values levels reasons → i + 1 ≡ v → i < length values → get_or values i None ≡ Some b
-    → reason_of (entries_in levels reasons lits) v ≡ get_or reasons i None
-reason_of-table vars current room i v values levels reasons lits b h at inside value =
-    let es = entries_in levels reasons lits in
-    let found = valued (entry_of es v) b (ap (λ n. value_of es n) (sym at) ∙ sym (h.are_values i inside) ∙ value) in
+pub reason_of-some : (levels : List ℕ) (reasons : List (Option ℕ)) (lits : List ℤ) (i v : ℕ) → i + 1 ≡ v → IsSome (entry_of (entries_in levels reasons lits) v) → reason_of (entries_in levels reasons lits) v ≡ get_or reasons i None
+reason_of-some levels reasons lits i v at some =
+    let found = present (entry_of (entries_in levels reasons lits) v) some in
     ap (λ o. option_and_then (λ e. e.reason) o) found.1 ∙ (entry_of-entries_in levels reasons lits v found.0 found.1).1 ∙ ap (λ n. get_or reasons n None) (omega (arith, at))
 
 -- where it has none, it has neither
@@ -98,3 +97,34 @@ no_value_told t room i values levels reasons l h at inside value =
       is_false = no_answer false (has es (negation l)) neither.1;
       unset = unset_answer es l neither.0 neither.1;
     }
+
+answer_for-none : (sign : Bool) → answer_for sign None ≡ None
+answer_for-none true = refl
+answer_for-none false = refl
+
+answer_for-some : (sign b : Bool) → answer_for sign (Some b) ≡ Some (beq b sign)
+answer_for-some true true = refl
+answer_for-some true false = refl
+answer_for-some false true = refl
+answer_for-some false false = refl
+
+-- what is read of the table tells the value
+pub value_tells : (t : TrailState) (room i : ℕ) (values : List (Option Bool)) (levels : List ℕ) (reasons : List (Option ℕ)) (l : ℤ) (answer : Option Bool)
+    → AreTables t room values levels reasons → i + 1 ≡ variable_of l → i < length values → answer ≡ answer_for (is_positive l) (get_or values i None)
+    → TellsValue t.entries l answer
+value_tells t room i values levels reasons l answer h at inside is =
+    let Tells : Option Bool → Type 0 = λ o. TellsValue t.entries l o in
+    elim (get_or values i None) as (λ o. get_or values i None ≡ o → TellsValue t.entries l answer) [
+      | None ↦ λ e. subst Tells (sym (is ∙ ap (answer_for (is_positive l)) e ∙ answer_for-none (is_positive l))) (no_value_told t room i values levels reasons l h at inside e)
+      | Some b ↦ λ e. subst Tells (sym (is ∙ ap (answer_for (is_positive l)) e ∙ answer_for-some (is_positive l) b)) (value_told t room i values levels reasons l b (is_positive l) h at inside e refl)
+    ] refl
+
+-- the test says that there is no entry
+pub absent_by_test : (es : List Entry) (v : ℕ) (test : Bool) → test ≡ is_some (entry_of es v) → test ≡ false → entry_of es v ≡ None
+absent_by_test es v test is unset =
+    elim (entry_of es v) as (λ o. entry_of es v ≡ o → entry_of es v ≡ None) [
+      | None ↦ λ e. e
+      | Some x ↦ λ e. absurd (unlike (sym unset ∙ is ∙ ap is_some e))
+    ] refl where
+      unlike : false ≡ true → ⊥
+      unlike clash = cc

@@ -18,3 +18,5 @@ pub mod Standings
 pub mod Passes
 pub mod ReasonFound
 pub mod Placed
+pub mod Pairs
+pub mod Columned

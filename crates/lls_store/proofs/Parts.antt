@@ -1,18 +1,18 @@
 -- What holds of the parts of a trail, kept as it changes.
 use Rattle.std.proofs.Common.{◌≡◌, ℕ, ◌+◌, ◌-◌, ◌<◌, ◌≤◌, Bool, true, false, cond, List, [], ◌∷◌, ◌++◌, length, get_or, set, Some, None, refl, sym, ap, subst, ◌∙◌, inl, inr, arith}
-use Rattle.std.specs.Prelude.{ℤ, replicate, Option, is_none, option_map}
-use Rattle.std.proofs.lemmas.List.{length-set, length-map, length_push, map_push, get_or-set_other, get_or_read, get_or-replicate, length-replicate}
+use Rattle.std.specs.Prelude.{ℤ, replicate, Option, is_none, option_map, IsSome}
+use Rattle.std.proofs.lemmas.List.{length-set, length-map, length_push, map_push, get_or-set_other, get_or-replicate, length-replicate}
 use Rattle.std.proofs.lemmas.List.Sums.{sum_by-set, get_or-le-sum_by}
 use Rattle.std.proofs.lemmas.Grind.{get_or-set_at}
 use Rattle.std.proofs.lemmas.List.Folds.{list_all-append, sum_by-replicate}
 use Rattle.std.proofs.lemmas.Bool.{and_parts}
 use Rattle.std.proofs.lemmas.Bool.Decides.{eqb_tells}
 use Rattle.lls_lit.specs.declared.var.TheConstants.Var.{MOST}
-use Rattle.lls_lit.specs.Literal.{variable_of}
+use Rattle.lls_lit.specs.Literal.{variable_of, is_positive}
 use Rattle.lls_lit.specs.Formula.{is_literal_of, is_within}
-use Rattle.lls_store.specs.Trail.{Entry, TrailState, entry_of, is_decision, decisions}
-use Rattle.lls_store.specs.Tables.{is_positive, entry_in, entries_in, trail_in, unset_count, AreValues, AreTables}
-use Rattle.lls_store.proofs.Entries.{entry_of-push_same, entry_of-push_other, once_popped, decisions_push, IsTrail-push, IsTrail-popped}
+use Rattle.lls_store.specs.Trail.{Entry, TrailState, IsTrail, entry_of, literals_of, is_decision, decisions}
+use Rattle.lls_store.specs.Tables.{entry_in, entries_in, trail_in, unset_count, AreValues, AreTables}
+use Rattle.lls_store.proofs.Entries.{entry_of-cons_other, entry_of-push_same, entry_of-push_other, once_popped, decisions_push, IsTrail-push, IsTrail-popped}
 use Rattle.lls_store.proofs.Tabled.{variable_bounds, variable_within, literals_of-entries_in, entries_in-push, levels_in, value_in, once_in, levels_after-reason, decisions-reason}
 
 abbrev sign_found : Option Entry → Option Bool
@@ -141,7 +141,7 @@ last_within vars lits l h =
 
 -- the same with the number of decisions as it was counted down
 pub AreTables-counted_down : (vars current now room i : ℕ) (values : List (Option Bool)) (levels : List ℕ) (reasons : List (Option ℕ)) (all lits : List ℤ) (l : ℤ) (read : Option ℕ) (decided : Bool)
-    → AreTables (trail_in vars current levels reasons all) room values levels reasons → all ≡ lits ++ l ∷ [] → i + 1 ≡ variable_of l → read ≡ get_or reasons i read → is_none read ≡ decided → now ≡ current - cond decided 1 0
+    → AreTables (trail_in vars current levels reasons all) room values levels reasons → all ≡ lits ++ l ∷ [] → i + 1 ≡ variable_of l → read ≡ get_or reasons i None → is_none read ≡ decided → now ≡ current - cond decided 1 0
     → AreTables (trail_in vars now levels reasons lits) room (set values i None) levels reasons
 AreTables-counted_down vars current now room i values levels reasons all lits l read decided before splits at is was counts =
     let es = entries_in levels reasons lits in
@@ -149,8 +149,7 @@ AreTables-counted_down vars current now room i values levels reasons all lits l 
     let P : List ℤ → Type 0 = λ ls. AreTables (trail_in vars current levels reasons ls) room values levels reasons in
     let h : AreTables (trail_in vars current levels reasons (lits ++ l ∷ [])) room values levels reasons = subst P splits before in
     let most : variable_of l ≤ vars = last_within vars lits l (ap (is_within vars) (sym (literals_of-entries_in levels reasons (lits ++ l ∷ []))) ∙ h.is_trail.within) in
-    let inside : i < length reasons = omega (arith, at, most, h.reason_each) in
-    let reason : is_decision e ≡ decided = ap (λ n. is_none (get_or reasons n None)) (omega (arith, at)) ∙ ap is_none (sym (get_or_read reasons i read inside is None)) ∙ was in
+    let reason : is_decision e ≡ decided = ap (λ n. is_none (get_or reasons n None)) (omega (arith, at)) ∙ ap is_none (sym is) ∙ was in
     let counted : current ≡ decisions es + cond decided 1 0 =
     h.is_trail.current ∙ ap decisions (map_push (entry_in levels reasons) lits l) ∙ decisions_push es e ∙ ap (λ b. decisions es + cond b 1 0) reason in
     let now_is : decisions es ≡ now = omega (arith, counted, counts) in
@@ -173,3 +172,22 @@ AreTables-empty vars room values levels reasons lits few none roomy unset level_
     }) where
       unset_value : Option Bool
       unset_value = None
+
+most_of : (vars : ℕ) (es : List Entry) (v : ℕ) → is_within vars (literals_of es) ≡ true → IsSome (entry_of es v) → v ≤ vars
+most_of vars [] v within some = absurd cc
+most_of vars (e ∷ es) v within some =
+    let parts = and_parts (is_literal_of vars e.lit) (is_within vars (literals_of es)) within in
+    let P : Option Entry → Type 0 = λ o. IsSome o in
+    elim (eqb_tells (variable_of e.lit) v) [
+      | inl t ↦ omega (arith, t.1, (variable_bounds vars (variable_of e.lit) parts.0).1)
+      | inr t ↦ most_of vars es v parts.1 (subst P (entry_of-cons_other e es v t.1) some)
+    ]
+
+-- a variable that has an entry is one of the trail's
+pub variable_most : (t : TrailState) (v : ℕ) → IsTrail t → IsSome (entry_of t.entries v) → v ≤ t.vars
+variable_most t v h some = most_of t.vars t.entries v h.within some
+
+-- the last literal's variable is one of the trail's
+pub variable_of_last : (vars current : ℕ) (levels : List ℕ) (reasons : List (Option ℕ)) (all lits : List ℤ) (l : ℤ) → IsTrail (trail_in vars current levels reasons all) → all ≡ lits ++ l ∷ [] → variable_of l ≤ vars
+variable_of_last vars current levels reasons all lits l h splits =
+    last_within vars lits l (ap (is_within vars) (sym splits) ∙ ap (is_within vars) (sym (literals_of-entries_in levels reasons all)) ∙ h.within)

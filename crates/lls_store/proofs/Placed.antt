@@ -1,6 +1,6 @@
 -- Where the literals of a trail stand, kept in a table by variable.
-use Rattle.std.proofs.Common.{◌≡◌, ◌≢◌, ℕ, zero, suc, ◌+◌, ◌-◌, ◌<◌, ◌≤◌, Bool, true, cond, List, [], ◌∷◌, ◌++◌, length, get_or, set, Some, None, sym, ap, ◌∙◌, inl, inr, arith}
-use Rattle.std.specs.Prelude.{ℤ, pos, Option, ◌⊎◌, slice_get, nat_lt, ◌==◌}
+use Rattle.std.proofs.Common.{◌≡◌, ◌≢◌, ℕ, zero, suc, ◌+◌, ◌-◌, ◌<◌, ◌≤◌, true, cond, List, [], ◌∷◌, ◌++◌, length, get_or, set, Some, None, sym, ap, ◌∙◌, inl, inr, arith}
+use Rattle.std.specs.Prelude.{ℤ, pos, Option, IsSome, ◌⊎◌, slice_get, nat_lt, ◌==◌}
 use Rattle.std.specs.List.{position_or_len}
 use Rattle.std.proofs.lemmas.List.{length-set, length_push, length-map, get_or-set_other, get_or-map}
 use Rattle.std.proofs.lemmas.List.Folds.{find_at}
@@ -11,10 +11,10 @@ use Rattle.std.proofs.lemmas.Bool.Decides.{nat_tests, eqb_tells}
 use Rattle.lls_lit.specs.Literal.{variable_of}
 use Rattle.lls_lit.specs.Formula.{is_literal_of, is_within}
 use Rattle.lls_store.specs.Trail.{Entry, entry_of, place_of}
-use Rattle.lls_store.specs.Tables.{entry_in, entries_in, trail_in, value_of, ArePlaced, AreTables}
+use Rattle.lls_store.specs.Tables.{entry_in, entries_in, ArePlaced}
 use Rattle.lls_store.proofs.Entries.{entry_of-none, variable-entry_of}
 use Rattle.lls_store.proofs.Tabled.{variable_bounds}
-use Rattle.lls_store.proofs.Found.{valued}
+use Rattle.lls_store.proofs.Found.{present}
 
 -- a variable without an entry has no literal
 absent : (levels : List ℕ) (reasons : List (Option ℕ)) (lits : List ℤ) (v k : ℕ) → entry_of (entries_in levels reasons lits) v ≡ None → k < length lits → variable_of (get_or lits k (pos 0)) ≢ v
@@ -69,13 +69,13 @@ position_is n k lt = grind (arith, nat_tests)
 no_position : (n k : ℕ) → k ≤ n → cond (nat_lt n k) (Some n) None ≡ None
 no_position n k le = grind (arith, nat_tests)
 
--- where a variable has a value, its place is that of the table
-pub place_of-table : (vars current room i v : ℕ) (values : List (Option Bool)) (levels : List ℕ) (reasons : List (Option ℕ)) (lits : List ℤ) (places : List ℕ) (b : Bool)
-    → AreTables (trail_in vars current levels reasons lits) room values levels reasons → ArePlaced vars lits places → i + 1 ≡ v → i < length values → get_or values i None ≡ Some b
+-- where a variable has an entry, its place is that of the table
+pub place_of-some : (vars i v : ℕ) (levels : List ℕ) (reasons : List (Option ℕ)) (lits : List ℤ) (places : List ℕ)
+    → ArePlaced vars lits places → i + 1 ≡ v → IsSome (entry_of (entries_in levels reasons lits) v)
     → place_of (entries_in levels reasons lits) v ≡ Some (get_or places i 0)
-place_of-table vars current room i v values levels reasons lits places b h placed at inside value =
+place_of-some vars i v levels reasons lits places placed at some =
     let es = entries_in levels reasons lits in
-    let found = valued (entry_of es v) b (ap (λ n. value_of es n) (sym at) ∙ sym (h.are_values i inside) ∙ value) in
+    let found = present (entry_of es v) some in
     let k = position_or_len (λ (e : Entry). variable_of e.lit == v) es in
     let here : slice_get es k ≡ Some found.0 = sym (find_at (λ (e : Entry). variable_of e.lit == v) es) ∙ found.1 in
     let lt : k < length es = slice_get_within es k found.0 here in

@@ -5,11 +5,11 @@ use Rattle.std.proofs.lemmas.List.{map_push, get_or-set_other}
 use Rattle.std.proofs.lemmas.Grind.{get_or-set_at}
 use Rattle.std.proofs.lemmas.Bool.{and_parts}
 use Rattle.std.proofs.lemmas.Bool.Decides.{eqb_tells, nat_tests}
-use Rattle.lls_lit.specs.Literal.{variable_of}
+use Rattle.lls_lit.specs.Literal.{variable_of, is_positive}
 use Rattle.lls_lit.specs.Formula.{is_literal_of, is_within}
 use Rattle.lls_store.specs.Trail.{Entry, literals_of, entry_of, decisions, levels_after, has_variables_once}
 use Rattle.lls_store.specs.Changes.{with_reason_at}
-use Rattle.lls_store.specs.Tables.{is_positive, entry_in, entries_in, value_of}
+use Rattle.lls_store.specs.Tables.{entry_in, entries_in, value_of}
 use Rattle.lls_store.proofs.Entries.{entry_of-none, entry_of-cons_same, entry_of-cons_other, decisions_cons}
 
 pub variable_bounds : (vars v : ℕ) → (nat_le 1 v && nat_le v vars) ≡ true → (1 ≤ v) × (v ≤ vars)

@@ -5,10 +5,9 @@ use Rattle.std.specs.Prelude.{ℤ, pos, negsuc, ◌⊎◌, Option, is_none, opti
 use Rattle.std.specs.Ordering.{int_eq}
 use Rattle.std.proofs.lemmas.Bool.{and_parts}
 use Rattle.std.proofs.lemmas.Bool.Decides.{eqb_tells, Decides-int_eq}
-use Rattle.lls_lit.specs.Literal.{variable_of, negation}
+use Rattle.lls_lit.specs.Literal.{variable_of, negation, is_positive}
 use Rattle.lls_lit.specs.Formula.{is_literal_of, is_within}
 use Rattle.lls_store.specs.Trail.{Entry, entry_of, literals_of, IsConsistent, has, IsUnset, has_variables_once}
-use Rattle.lls_store.specs.Tables.{is_positive}
 use Rattle.lls_store.proofs.Tabled.{variable_bounds}
 use Rattle.lls_store.proofs.Entries.{entry_of-cons_same, entry_of-cons_other, variable-entry_of}
 

@@ -10,3 +10,6 @@ pub mod Standing
 pub mod Flat
 pub mod Scan
 pub mod Worked
+pub mod TruthTable
+pub mod Columns
+pub mod RowColumns

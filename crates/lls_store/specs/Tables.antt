@@ -1,11 +1,7 @@
 -- For private contracts alone: a trail is kept as a list of literals and three tables by variable.
-use Rattle.std.specs.Prelude.{◌≡◌, ◌≤◌, ◌<◌, ℕ, ◌+◌, ◌-◌, ℤ, pos, negsuc, Bool, true, false, List, length, map, slice_index_or, Option, None, is_none, option_map, sum_by, if◌then◌else◌}
-use Rattle.lls_lit.specs.Literal.{variable_of}
+use Rattle.std.specs.Prelude.{◌≡◌, ◌≤◌, ◌<◌, ℕ, ◌+◌, ◌-◌, ℤ, pos, Bool, List, length, map, slice_index_or, Option, None, is_none, option_map, sum_by, if◌then◌else◌}
+use Rattle.lls_lit.specs.Literal.{variable_of, is_positive}
 use Rattle.lls_store.specs.Trail.{Entry, TrailState, entry_of, IsTrail}
-
-abbrev pub is_positive : ℤ → Bool
-is_positive (pos n) = true
-is_positive (negsuc n) = false
 
 -- a literal with the level and the reason of its variable
 abbrev pub entry_in : List ℕ → List (Option ℕ) → ℤ → Entry

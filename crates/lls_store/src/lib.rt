@@ -6,15 +6,16 @@
 #![tactic(auto)]
 
 mod flat;
+mod rows;
 mod scan_store;
 mod standing;
 mod store;
 #[cfg(test)]
 mod store_tests;
-mod tables;
 mod trail;
 #[cfg(test)]
 mod trail_tests;
+mod truths;
 #[cfg(test)]
 mod worked_tests;
 

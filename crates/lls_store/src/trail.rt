@@ -1,10 +1,11 @@
 // A trail.
-ghost use Rattle.std.specs.Prelude.{◌≡◌, ◌<◌, ◌≤◌, ◌+◌, ◌-◌, if◌then◌else◌, ◌↔◌, true, false, length, take, slice_get, option_map, is_none, IfOk, IsSome};
+ghost use Rattle.std.specs.Prelude.{◌≡◌, ◌<◌, ◌≤◌, ◌+◌, ◌-◌, if◌then◌else◌, ◌↔◌, true, false, length, take, slice_get, option_map, is_none, is_some, Some, IfOk, IsSome};
 ghost use Rattle.lls_lit.specs.Literal.{variable_of};
-ghost use Rattle.lls_store.specs.Trail.{Has, HasNegated, IsConsistent, IsUnset, IsTrail, decisions, level_of, literals_of, place_of, reason_of};
+ghost use Rattle.lls_store.specs.Trail.{Has, HasNegated, IsConsistent, IsUnset, IsTrail, decisions, entry_of, level_of, literals_of, place_of, reason_of};
 ghost use Rattle.lls_store.specs.Changes.{taken, cut_to, decided, empty_trail, forced, with_reason};
 
-use crate::tables::{is_positive, place_of};
+use crate::rows::{Row, Rows};
+use crate::truths::Values;
 use lls_base::Memory;
 use lls_lit::{Lit, Var};
 use std::alloc::Global;
@@ -19,10 +20,8 @@ pub struct Trail {
     vars: u32,
     current: u32,
     lits: Vec<Lit>,
-    values: Vec<Option<bool>>,
-    levels: Vec<u32>,
-    reasons: Vec<Option<u32>>,
-    places: Vec<u32>,
+    values: Values,
+    rows: Rows,
 }
 
 impl Model for Trail {
@@ -32,10 +31,10 @@ impl Model for Trail {
 
     ghost Value = { TrailState };
 
-    ghost view = { λ t. trail_in t.vars t.current t.levels.items t.reasons.items t.lits.items };
+    ghost view = { λ t. trail_in t.vars t.current t.rows.levels t.rows.reasons t.lits.items };
 
-    ghost invariant = { λ t. AreTables (trail_in t.vars t.current t.levels.items t.reasons.items t.lits.items) (vec_capacity t.lits) t.values.items t.levels.items t.reasons.items
-        × ArePlaced t.vars t.lits.items t.places.items };
+    ghost invariant = { λ t. AreTables (trail_in t.vars t.current t.rows.levels t.rows.reasons t.lits.items) (vec_capacity t.lits) t.values t.rows.levels t.rows.reasons
+        × ArePlaced t.vars t.lits.items t.rows.places };
 }
 
 impl Trail {
@@ -45,18 +44,14 @@ impl Trail {
         ensures { IfOk result (λ trail. trail ≡ empty_trail vars) }
     {
         let lits = Vec::with_capacity(alloc, vars as usize)?;
-        let values = vec![in alloc; None; vars as usize]?;
-        let levels = vec![in alloc; 0; vars as usize]?;
-        let reasons = vec![in alloc; None; vars as usize]?;
-        let places = vec![in alloc; 0; vars as usize]?;
+        let values = Values::new(alloc, vars)?;
+        let rows = Rows::new(alloc, vars)?;
         Ok(Trail {
             vars,
             current: 0,
             lits,
             values,
-            levels,
-            reasons,
-            places,
+            rows,
         })
     }
 
@@ -78,16 +73,14 @@ impl Trail {
     }
 
     /// Whether the literal is true or false: None exactly where its variable has no value.
+    #[inline]
     pub fn value(&self, lit: Lit) -> Option<bool>
         requires { variable_of lit ≤ self.now.vars }
         ensures is_true { (result ≡ Some true) ↔ Has self.now.entries lit }
         ensures is_false { (result ≡ Some false) ↔ HasNegated self.now.entries lit }
         ensures unset { (result ≡ None) ↔ IsUnset self.now.entries lit }
     {
-        match self.values[place_of(lit.var())] {
-            Some(positive) => Some(positive == is_positive(lit)),
-            None => None,
-        }
+        self.values.of(lit)
     }
 
     /// The level of a variable's literal: None exactly where the variable has no value.
@@ -95,10 +88,10 @@ impl Trail {
         requires { var ≤ self.now.vars }
         ensures { result ≡ level_of self.now.entries var }
     {
-        let place = place_of(var);
-        match self.values[place] {
-            Some(_) => Some(self.levels[place]),
-            None => None,
+        if self.has_value(var) {
+            Some(self.known_level(var))
+        } else {
+            None
         }
     }
 
@@ -107,10 +100,10 @@ impl Trail {
         requires { var ≤ self.now.vars }
         ensures { result ≡ reason_of self.now.entries var }
     {
-        let place = place_of(var);
-        match self.values[place] {
-            Some(_) => self.reasons[place],
-            None => None,
+        if self.has_value(var) {
+            self.known_reason(var)
+        } else {
+            None
         }
     }
 
@@ -119,11 +112,46 @@ impl Trail {
         requires { var ≤ self.now.vars }
         ensures { result ≡ place_of self.now.entries var }
     {
-        let place = place_of(var);
-        match self.values[place] {
-            Some(_) => Some(self.places[place] as usize),
-            None => None,
+        if self.has_value(var) {
+            Some(self.known_place(var))
+        } else {
+            None
         }
+    }
+
+    /// The level of a variable's literal, where the variable has a value.
+    #[inline]
+    pub fn known_level(&self, var: Var) -> u32
+        requires { IsSome (entry_of self.now.entries var) }
+        ensures { level_of self.now.entries var ≡ Some result }
+    {
+        self.rows.level(var.index())
+    }
+
+    /// The number of the clause that forced a variable's literal, where the variable has a value: None where it was decided.
+    #[inline]
+    pub fn known_reason(&self, var: Var) -> Option<u32>
+        requires { IsSome (entry_of self.now.entries var) }
+        ensures { result ≡ reason_of self.now.entries var }
+    {
+        self.rows.reason(var.index())
+    }
+
+    /// Where a variable's literal stands, counted from 0, where the variable has a value.
+    #[inline]
+    pub fn known_place(&self, var: Var) -> usize
+        requires { IsSome (entry_of self.now.entries var) }
+        ensures { place_of self.now.entries var ≡ Some result }
+    {
+        self.rows.place(var.index())
+    }
+
+    // Whether the variable has a value.
+    fn has_value(&self, var: Var) -> bool
+        requires { var ≤ self.now.vars }
+        ensures { result ≡ is_some (entry_of self.now.entries var) }
+    {
+        self.values.of(Lit::new(var, true)).is_some()
     }
 
     /// The number of decisions.
@@ -170,7 +198,7 @@ impl Trail {
         requires forced { IsSome (reason_of self.old.entries var) }
         ensures { self.new ≡ with_reason self.old var reason }
     {
-        self.reasons[place_of(var)] = Some(reason);
+        self.rows.set_reason(var.index(), Some(reason));
     }
 
     // Makes a literal that has no value true: at the next level where it has no reason, else at the current one.
@@ -180,13 +208,19 @@ impl Trail {
         requires level { level ≡ self.old.current + (if is_none reason then 1 else 0) }
         ensures { self.new ≡ taken self.old lit level reason }
     {
-        let place = place_of(lit.var());
+        let index = lit.var().index();
+        let place = self.lits.len() as u32;
         self.current = level;
-        self.places[place] = self.lits.len() as u32;
         self.lits.push_reserved(lit);
-        self.values[place] = Some(is_positive(lit));
-        self.levels[place] = level;
-        self.reasons[place] = reason;
+        self.values.set(lit);
+        self.rows.write(
+            index,
+            Row {
+                level,
+                place,
+                reason,
+            },
+        );
     }
 
     // Takes back the last literal.
@@ -198,11 +232,11 @@ impl Trail {
         } }
     {
         if let Some(lit) = self.lits.pop() {
-            let place = place_of(lit.var());
-            if self.reasons[place].is_none() {
+            let index = lit.var().index();
+            if self.rows.reason(index).is_none() {
                 self.current -= 1;
             }
-            self.values[place] = None;
+            self.values.clear(lit);
         }
     }
 }

@@ -5,20 +5,26 @@ use Rattle.lls_store.proofs.Parts.{AreTables-reason}
 use Rattle.lls_store.proofs.Found.{reason_tabled, trail_in-reason}
 use Rattle.lls_store.proofs.trail.Trail.set_reason.Goals as goal
 
+pub set_reason-requires : goal.set_reason-requires
+set_reason-requires c =
+    let m = c.self.inside in
+    let most : c.args.var ≤ m.vars = rw (ap (λ (t : TrailState). t.vars) c.self.view_is) c.requires.within in
+    omega (arith, c.index.ensures.place, most, c.self.invariant.0.level_each)
+
 pub invariant_of-self : goal.invariant_of-self
 invariant_of-self c =
     let m = c.self.inside in
-    let place = c.place_of.result in
+    let i = c.index.result in
     let most : c.args.var ≤ m.vars = rw (ap (λ (t : TrailState). t.vars) c.self.view_is) c.requires.within in
-    let inside : place < length m.reasons.items = omega (arith, c.place_of.ensures, most, c.self.invariant.0.reason_each) in
+    let inside : i < length m.rows.reasons = omega (arith, c.index.ensures.place, most, c.self.invariant.0.reason_each) in
     let P : TrailState → Type 0 = λ t. IsSome (reason_of t.entries c.args.var) in
-    let tabled : is_none (get_or m.reasons.items place None) ≡ false = reason_tabled m.levels.items m.reasons.items m.lits.items place c.args.var c.place_of.ensures (subst P (sym c.self.view_is) c.requires.forced) in
-    (AreTables-reason m.vars m.current (vec_capacity m.lits) place c.args.reason m.values.items m.levels.items m.reasons.items m.lits.items c.self.invariant.0 inside tabled, c.self.invariant.1)
+    let tabled : is_none (get_or m.rows.reasons i None) ≡ false = reason_tabled m.rows.levels m.rows.reasons m.lits.items i c.args.var c.index.ensures.place (subst P (sym c.self.view_is) c.requires.forced) in
+    rw c.set_reason.ensures (AreTables-reason m.vars m.current (vec_capacity m.lits) i c.args.reason m.values m.rows.levels m.rows.reasons m.lits.items c.self.invariant.0 inside tabled, c.self.invariant.1)
 
 pub returns : goal.returns
 returns c =
     let m = c.self.inside in
-    let place = c.place_of.result in
+    let i = c.index.result in
     let most : c.args.var ≤ m.vars = rw (ap (λ (t : TrailState). t.vars) c.self.view_is) c.requires.within in
-    let inside : place < length m.reasons.items = omega (arith, c.place_of.ensures, most, c.self.invariant.0.reason_each) in
-    rw (← c.self.view_is) (trail_in-reason m.vars m.current (vec_capacity m.lits) place c.args.var c.args.reason m.values.items m.levels.items m.reasons.items m.lits.items c.self.invariant.0 c.place_of.ensures inside)
+    let inside : i < length m.rows.reasons = omega (arith, c.index.ensures.place, most, c.self.invariant.0.reason_each) in
+    rw (c.set_reason.ensures, ← c.self.view_is) (trail_in-reason m.vars m.current (vec_capacity m.lits) i c.args.var c.args.reason m.values m.rows.levels m.rows.reasons m.lits.items c.self.invariant.0 c.index.ensures.place inside)
