@@ -1,5 +1,6 @@
 #!/usr/bin/env python3
-"""Tests of the scripts for people: show.py, pose.py, rle.py, documents.py, the wrapper's own words, the completion and the man page.
+"""Tests of the scripts for people: show.py, pose.py, rle.py, documents.py, the wrapper's own words, the completion and the man page; and of
+what the gate reads of the must-fail edits.
 
     test_tools.py
 
@@ -335,6 +336,21 @@ def options_of(command):
     """The options in the head of a command's part: its first line, and lines that go on with an option."""
     head = re.search(rf"^    lls {command} .*\n(?: +\[--.*\n)*", usage(), re.MULTILINE).group(0)
     return set(re.findall(r"--[a-z]+", head))
+
+
+class Edits(unittest.TestCase):
+    """What the gate reads of `rt ci`, in the kit's words."""
+
+    SHOWS = "rt: must-fail a/b.edit: refused, as it must be: note: src/a.rt:1:2: it is not proved that what the function ensures holds"
+    NAMES = "rt: must-fail a/c.edit: refused, as it must be (only because a proof file names what the edit took away, so this says little)"
+    BAD = "rt: must-fail a/d.edit: BAD EDIT: an 'old:' text is in src/a.rt 0 times, and not once"
+
+    def test_edits_that_show_something(self):
+        self.assertEqual(ran(".ci/edits", text=f"{self.SHOWS}\nrt: ok\n3 passed, 0 failed\n"), (0, "", ""))
+
+    def test_edits_that_show_nothing(self):
+        status, _, said = ran(".ci/edits", text=f"{self.SHOWS}\n{self.NAMES}\n{self.BAD}\n3 passed, 0 failed\n")
+        self.assertEqual((status, said.splitlines()), (1, [f"edits: {self.NAMES}", f"edits: {self.BAD}"]))
 
 
 if __name__ == "__main__":
