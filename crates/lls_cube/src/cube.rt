@@ -15,6 +15,25 @@ pub struct Cube {
     pub value: u16,
 }
 
+impl Cube {
+    /// Whether the cube contains a row.
+    pub fn contains(self, row: usize) -> bool
+        ensures { result ≡ contains row self }
+    {
+        row & usize::from(self.care) == usize::from(self.value & self.care)
+    }
+
+    /// The cube that cares for no input but those of a mask.
+    pub(crate) fn within(self, mask: u16) -> Cube
+        ensures { result ≡ record { care = bit_and self.care mask; value = bit_and self.value mask } }
+    {
+        Cube {
+            care: self.care & mask,
+            value: self.value & mask,
+        }
+    }
+}
+
 /// A cube for each forbidden row, ascending, that holds that row alone: it cares for every bit.
 pub fn rows<const K: usize, const W: usize>(
     alloc: Global,

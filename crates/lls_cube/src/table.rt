@@ -1,7 +1,10 @@
 // A table of forbidden rows.
 ghost use Rattle.std.specs.Prelude.{◌≡◌, ◌≤◌, ◌<◌, ◌*◌, ◌^◌, false, true, length, replicate, slice_set};
 ghost use Rattle.lls_cube.specs.Table.{is_forbidden};
+ghost use Rattle.lls_cube.specs.Cube.{row_cube};
+ghost use Rattle.lls_cube.specs.Cover.{all_but, forbids_all};
 
+use crate::Cube;
 use std::marker::Model;
 
 /// How many rows a word holds.
@@ -67,5 +70,37 @@ impl<const K: usize, const W: usize> Table<K, W> {
         ensures { result ≡ is_forbidden self.now row }
     {
         self.words[row / WORD_BITS] >> (row % WORD_BITS) & 1 == 1
+    }
+
+    /// The cube of a row alone: it cares for every input.
+    pub(crate) fn row_cube(&self, row: usize) -> Cube
+        requires { row < 2 ^ K }
+        ensures { result ≡ row_cube K row }
+    {
+        Cube {
+            care: (self.row_count() - 1) as u16,
+            value: row as u16,
+        }
+    }
+
+    /// The bits of all inputs but one.
+    pub(crate) fn all_but(&self, input: usize) -> u16
+        requires { input < K }
+        ensures { result ≡ all_but K input }
+    {
+        let _words = &self.words;
+        (self.row_count() - 1 - (1 << (K - 1 - input))) as u16
+    }
+
+    /// Whether every row that a cube contains is forbidden.
+    pub(crate) fn forbids_all(&self, cube: Cube) -> bool
+        ensures { result ≡ forbids_all self.now cube }
+    {
+        for row in 0..self.row_count() {
+            if cube.contains(row) && !self.forbidden(row) {
+                return false;
+            }
+        }
+        true
     }
 }
