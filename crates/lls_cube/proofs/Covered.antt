@@ -1,19 +1,19 @@
 -- Covers: each chosen cube contains forbidden rows only, and each forbidden row is in one.
-use Rattle.std.proofs.Common.{◌≡◌, ℕ, zero, suc, ◌+◌, ◌-◌, ◌^◌, ◌<◌, ◌≤◌, List, [], ◌∷◌, ◌++◌, Bool, true, false, cond, not, ◌||◌, ◌&&◌, length, refl, ap, ◌∙◌, sym, subst, nat_eq, bit_and, inl, inr, eqb-true, eq-eqb, true≢false, ap₂, le_trans, le_of_eq, zero-add, arith, add-one}
+use Rattle.std.proofs.Common.{◌≡◌, ℕ, zero, suc, ◌+◌, ◌-◌, ◌*◌, ◌/◌, ◌^◌, ◌<◌, ◌≤◌, List, [], ◌∷◌, ◌++◌, Bool, true, false, cond, not, ◌||◌, ◌&&◌, length, refl, ap, ◌∙◌, sym, subst, nat_eq, bit_and, inl, inr, eqb-true, eq-eqb, true≢false, ap₂, le_trans, le_of_eq, zero-add, arith, add-one}
 use Rattle.std.specs.Prelude.{All, filter, fold}
 use Rattle.std.specs.List.{range_with_len, list_all, list_any}
 use Rattle.std.specs.Int.Bits.{and_self}
 use Rattle.std.proofs.Math.Pow.{pow-lt}
-use Rattle.std.proofs.lemmas.Nat.{and_assoc, and_comm, and_le_l}
+use Rattle.std.proofs.lemmas.Nat.{and_assoc, and_comm, and_le_l, and_shr}
 use Rattle.std.proofs.lemmas.Bool.{and_parts, or_cases, or_left, or_right, cond-true, cond_both, cases_Bool, not-true}
-use Rattle.std.proofs.lemmas.Bool.Decides.{eqb_tells, nat_tests}
+use Rattle.std.proofs.lemmas.Bool.Decides.{eqb_tells, leb_tells, nat_tests}
 use Rattle.std.proofs.lemmas.List.{length_push}
 use Rattle.std.proofs.lemmas.List.Elements.{All-nil, All-push, All-head, All-tail}
 use Rattle.std.proofs.lemmas.List.Folds.{list_any-append}
 use Rattle.lls_cube.specs.declared.cube.Cube.{Cube}
 use Rattle.lls_cube.specs.Cube.{row_cube, contains}
 use Rattle.lls_cube.specs.Table.{is_forbidden, forbidden_rows}
-use Rattle.lls_cube.specs.Cover.{forbids_all, all_but, without, after_input, widest, after_row, cover_of}
+use Rattle.lls_cube.specs.Cover.{forbids_between, forbids_all, all_but, without, after_input, widest, after_row, cover_of}
 use Rattle.lls_cube.proofs.Listed.{masked, contains-row_cube}
 
 fold_suc : {A : Type 0} (f : A → ℕ → A) (a n j : ℕ) (x : A) → a + n ≡ j → fold f x (range_with_len a (suc n)) ≡ f (fold f x (range_with_len a n)) j
@@ -59,36 +59,72 @@ all_from p a (suc n) each =
     ap (λ b. b && list_all p (range_with_len (a + 1) n)) (each a (omega arith) (omega arith))
     ∙ all_from p (a + 1) n (λ row low high. each row (omega (arith, low)) (omega (arith, high)))
 
--- a row of a cube that contains forbidden rows only
-pub forbidden_in : (table : List Bool) (cube : Cube) (row : ℕ) → forbids_all table cube ≡ true → row < length table → contains row cube ≡ true → is_forbidden table row ≡ true
-unfolding forbids_all
-forbidden_in table cube row all within inside =
-    elim (or_cases (not (contains row cube)) (is_forbidden table row) (all_at (λ r. not (contains r cube) || is_forbidden table r) 0 (length table) row all (omega arith) (omega (arith, within)))) [
+-- one of these rows that is in the cube
+forbidden_between : (table : List Bool) (cube : Cube) (a n row : ℕ) → forbids_between table cube a n ≡ true → a ≤ row → row < a + n → contains row cube ≡ true → is_forbidden table row ≡ true
+unfolding forbids_between
+forbidden_between table cube a n row all low high inside =
+    elim (or_cases (not (contains row cube)) (is_forbidden table row) (all_at (λ r. not (contains r cube) || is_forbidden table r) a n row all low high)) [
       | inl out ↦ absurd (true≢false (sym inside ∙ not-true (contains row cube) out))
       | inr also ↦ also
     ]
 
--- a row of the cube that isn't forbidden
-pub not_all : (table : List Bool) (cube : Cube) (row : ℕ) → row < length table → contains row cube ≡ true → is_forbidden table row ≡ false → false ≡ forbids_all table cube
-not_all table cube row within inside fails = elim (cases_Bool (forbids_all table cube)) [
-  | inl all ↦ absurd (true≢false (sym (forbidden_in table cube row all within inside) ∙ fails))
+-- each of these rows is out of the cube, or forbidden
+pub between_from : (table : List Bool) (cube : Cube) (a n : ℕ) → ((row : ℕ) → a ≤ row → row < a + n → contains row cube ≡ true → is_forbidden table row ≡ true) → forbids_between table cube a n ≡ true
+unfolding forbids_between
+between_from table cube a n each =
+    all_from (λ r. not (contains r cube) || is_forbidden table r) a n (λ r low high.
+    elim (cases_Bool (contains r cube)) [
+      | inl inside ↦ or_right (not (contains r cube)) (is_forbidden table r) (each r low high inside)
+      | inr outside ↦ or_left (not (contains r cube)) (is_forbidden table r) (ap not outside)
+    ])
+
+pub forbidden_in : (table : List Bool) (cube : Cube) (row : ℕ) → forbids_all table cube ≡ true → row < length table → contains row cube ≡ true → is_forbidden table row ≡ true
+forbidden_in table cube row all within inside = forbidden_between table cube 0 (length table) row all (omega arith) (omega (arith, within)) inside
+
+-- one of these rows that is in the cube and isn't forbidden
+pub not_between : (table : List Bool) (cube : Cube) (a n row : ℕ) → a ≤ row → row < a + n → contains row cube ≡ true → is_forbidden table row ≡ false → false ≡ forbids_between table cube a n
+not_between table cube a n row low high inside fails = elim (cases_Bool (forbids_between table cube a n)) [
+  | inl all ↦ absurd (true≢false (sym (forbidden_between table cube a n row all low high inside) ∙ fails))
   | inr none ↦ sym none
 ]
 
--- one row more, and all of them
-pub row_passed : (p : ℕ → Bool) (n : ℕ) → list_all p (range_with_len 0 n) ≡ true → p n ≡ true → list_all p (range_with_len 0 (n + 1)) ≡ true
-row_passed p n so_far here = all_from p 0 (n + 1) (λ row low high.
-    elim (cases_Bool (nat_eq n row)) [
-      | inl e ↦ subst (λ r. p r ≡ true) (eqb-true n row e) here
-      | inr e ↦ all_at p 0 n row so_far low (below n row high e)
-    ])
-  where
-    below : (n row : ℕ) → row < 0 + (n + 1) → nat_eq n row ≡ false → row < 0 + n
-    below n row high apart = grind (arith, nat_tests)
+pub between_none : (table : List Bool) (cube : Cube) (a : ℕ) → forbids_between table cube a 0 ≡ true
+unfolding forbids_between
+between_none table cube a = refl
 
-pub all_passed : (table : List Bool) (cube : Cube) (n : ℕ) → n ≡ length table → list_all (λ row. not (contains row cube) || is_forbidden table row) (range_with_len 0 n) ≡ true → true ≡ forbids_all table cube
-unfolding forbids_all
-all_passed table cube n all so_far = sym so_far ∙ ap (λ m. list_all (λ row. not (contains row cube) || is_forbidden table row) (range_with_len 0 m)) all
+-- one row more
+pub row_passed : (table : List Bool) (cube : Cube) (a n row : ℕ) → a + n ≡ row → forbids_between table cube a n ≡ true → (contains row cube ≡ true → is_forbidden table row ≡ true) → forbids_between table cube a (n + 1) ≡ true
+row_passed table cube a n row at so_far here =
+    between_from table cube a (n + 1) (λ r low high inside. elim (eqb_tells row r) [
+      | inl t ↦ subst (λ i. is_forbidden table i ≡ true) t.1 (here (subst (λ i. contains i cube ≡ true) (sym t.1) inside))
+      | inr t ↦ forbidden_between table cube a n r so_far low (omega (arith, at, high, t.1)) inside
+    ])
+
+-- the rows of one word more
+pub word_passed : (table : List Bool) (cube : Cube) (word : ℕ) → forbids_between table cube 0 (64 * word) ≡ true → forbids_between table cube (64 * word) 64 ≡ true → forbids_between table cube 0 (64 * (word + 1)) ≡ true
+word_passed table cube word so_far here =
+    between_from table cube 0 (64 * (word + 1)) (λ r low high inside. elim (leb_tells (64 * word) r) [
+      | inl t ↦ forbidden_between table cube (64 * word) 64 r here t.1 (omega (arith, high)) inside
+      | inr t ↦ forbidden_between table cube 0 (64 * word) r so_far low (omega (arith, t.1)) inside
+    ])
+
+pub all_words : (table : List Bool) (cube : Cube) (n : ℕ) → 64 * n ≡ length table → forbids_between table cube 0 (64 * n) ≡ true → true ≡ forbids_all table cube
+all_words table cube n all so_far = sym so_far ∙ ap (forbids_between table cube 0) all
+
+-- a word that fails is in the table
+pub word_failed : (table : List Bool) (cube : Cube) (word : ℕ) → 64 * (word + 1) ≤ length table → forbids_between table cube (64 * word) 64 ≡ false → false ≡ forbids_all table cube
+word_failed table cube word within fails = elim (cases_Bool (forbids_all table cube)) [
+  | inl all ↦ absurd (true≢false (sym (between_from table cube (64 * word) 64 (λ r low high inside. forbidden_in table cube r all (omega (arith, within, high)) inside)) ∙ fails))
+  | inr none ↦ sym none
+]
+
+-- a word that differs from the cube above its own bits has none of its rows
+pub word_outside : (table : List Bool) (cube : Cube) (word : ℕ) → nat_eq (bit_and word (cube.care / 64)) (bit_and cube.value cube.care / 64) ≡ false → forbids_between table cube (64 * word) 64 ≡ true
+word_outside table cube word apart =
+    between_from table cube (64 * word) 64 (λ r low high inside. absurd (true≢false (sym (meets r cube word (omega (arith, low, high)) inside) ∙ apart)))
+  where
+    meets : (r : ℕ) (cube : Cube) (word : ℕ) → r / 64 ≡ word → contains r cube ≡ true → nat_eq (bit_and word (cube.care / 64)) (bit_and cube.value cube.care / 64) ≡ true
+    meets r cube word at inside = eq-eqb _ _ (ap (λ w. bit_and w (cube.care / 64)) (sym at) ∙ sym (and_shr r cube.care 6) ∙ ap (λ n. n / 64) (eqb-true _ _ inside))
 
 -- the weight of an input is below the number of rows
 pub weight-lt : (k i : ℕ) → i < k → 2 ^ (k - 1 - i) < 2 ^ k
@@ -96,14 +132,10 @@ weight-lt k i within = pow-lt (omega (arith, within))
 
 -- the cube of one row alone
 forbids_alone : (table : List Bool) (k row : ℕ) → length table ≡ 2 ^ k → row < 2 ^ k → is_forbidden table row ≡ true → forbids_all table (row_cube k row) ≡ true
-unfolding forbids_all
 forbids_alone table k row size within forbidden =
-    all_from (λ r. not (contains r (row_cube k row)) || is_forbidden table r) 0 (length table) (λ r low high.
-    let inside : r < 2 ^ k = omega (arith, high, size) in
-    elim (cases_Bool (nat_eq r row)) [
-      | inl e ↦ or_right (not (contains r (row_cube k row))) (is_forbidden table r) (subst (λ n. is_forbidden table n ≡ true) (sym (eqb-true r row e)) forbidden)
-      | inr e ↦ or_left (not (contains r (row_cube k row))) (is_forbidden table r) (ap not (contains-row_cube k r row inside within ∙ e))
-    ])
+    between_from table (row_cube k row) 0 (length table) (λ r low high inside.
+    subst (λ n. is_forbidden table n ≡ true)
+    (sym (eqb-true r row (sym (contains-row_cube k r row (omega (arith, high, size)) within) ∙ inside))) forbidden)
 
 -- a chosen cube of a row
 abbrev IsChosen : List Bool → ℕ → ℕ → Cube → Type 0
@@ -241,6 +273,9 @@ cover_made table k n cubes all so_far = so_far ∙ ap (λ m. fold (after_row tab
 pub widest_made : (table : List Bool) (k row n : ℕ) (cube : Cube) → n ≡ k → cube ≡ fold (after_input table k) (row_cube k row) (range_with_len 0 n) → cube ≡ widest table k row
 unfolding widest
 widest_made table k row n cube all so_far = so_far ∙ ap (λ m. fold (after_input table k) (row_cube k row) (range_with_len 0 m)) all
+
+pub without_made : (k i mask : ℕ) (cube wider : Cube) → wider ≡ record { care = bit_and cube.care mask; value = bit_and cube.value mask } → mask ≡ all_but k i → wider ≡ without k i cube
+without_made k i mask cube wider made is = subst (λ m. wider ≡ record { care = bit_and cube.care m; value = bit_and cube.value m }) is made
 
 pub input_dropped : (table : List Bool) (k i : ℕ) (cube wider : Cube) → wider ≡ without k i cube → forbids_all table wider ≡ true → wider ≡ after_input table k cube i
 input_dropped table k i cube wider same forbids =

@@ -5,9 +5,13 @@ use Rattle.lls_cube.specs.declared.cube.Cube.{Cube}
 use Rattle.lls_cube.specs.Cube.{contains, row_cube}
 use Rattle.lls_cube.specs.Table.{is_forbidden}
 
+-- whether every one of these rows that the cube contains is forbidden
+unfoldable pub forbids_between : List Bool → Cube → ℕ → ℕ → Bool
+forbids_between table cube from count = list_all (λ row. not (contains row cube) || is_forbidden table row) (range_with_len from count)
+
 -- whether every row of the table that the cube contains is forbidden
-unfoldable pub forbids_all : List Bool → Cube → Bool
-forbids_all table cube = list_all (λ row. not (contains row cube) || is_forbidden table row) (range_with_len 0 (length table))
+abbrev pub forbids_all : List Bool → Cube → Bool
+forbids_all table cube = forbids_between table cube 0 (length table)
 
 -- all of so many inputs but the ith
 abbrev pub all_but : ℕ → ℕ → ℕ

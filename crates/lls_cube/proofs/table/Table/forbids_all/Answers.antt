@@ -1,23 +1,32 @@
-use Rattle.std.proofs.Common.{ℕ, ◌∙◌, sym, not, ◌||◌, arith}
-use Rattle.std.proofs.lemmas.Bool.{or_left, or_right, not_from_false}
-use Rattle.lls_cube.specs.Cube.{contains}
-use Rattle.lls_cube.specs.Table.{is_forbidden}
-use Rattle.lls_cube.proofs.Covered.{not_all, row_passed, all_passed}
+use Rattle.std.proofs.Common.{ℕ, List, Bool, ◌≡◌, ◌*◌, ◌∙◌, sym, ap, length, arith}
+use Rattle.lls_cube.specs.Words.{table_in}
+use Rattle.lls_cube.proofs.Bits.{length-table_in}
+use Rattle.lls_cube.proofs.Covered.{between_none, all_words, word_failed, word_passed, word_outside}
 use Rattle.lls_cube.proofs.table.Table.forbids_all.Goals as goal
-use Rattle.lls_cube.proofs.table.Table.forbids_all.Goals.{else-contains-via-then-contains+else-not-forbidden, else-contains-via-else-contains}
+use Rattle.lls_cube.proofs.table.Table.forbids_all.Goals.{else-has_rows_in-via-then-has_rows_in+else-not-forbids_all_in, else-has_rows_in-via-else-has_rows_in}
 
-pub returns-then-not-forbidden : goal.returns-then-not-forbidden
-returns-then-not-forbidden g c =
-    not_all c.args.self.now c.args.cube c.loop-row.row (omega (arith, c.row_count-row-end.ensures.rows)) (sym c.contains.ensures ∙ c.if-contains.true) (sym c.forbidden.ensures ∙ c.if-not-forbidden.true)
+-- how many rows the words of a table have
+size : (words : List ℕ) (table : List Bool) (count : ℕ) → table_in words ≡ table → length words ≡ count → length table ≡ 64 * count
+size words table count is all = sym (ap length is) ∙ length-table_in words ∙ ap (λ n. 64 * n) all
 
-pub loop-row-preserved : goal.loop-row-preserved
-loop-row-preserved g c =
-    let row = c.loop-row.row in
-    let test = λ (r : ℕ). not (contains r c.args.cube) || is_forbidden c.args.self.now r in
-    row_passed test row c.loop-row.invariant (elim c.else-contains.branch [
-      | else-contains-via-then-contains+else-not-forbidden w ↦ or_right (not (contains row c.args.cube)) (is_forbidden c.args.self.now row) (sym w.forbidden.ensures ∙ w.if-not-forbidden.false)
-      | else-contains-via-else-contains w ↦ or_left (not (contains row c.args.cube)) (is_forbidden c.args.self.now row) (not_from_false (contains row c.args.cube) (sym c.contains.ensures ∙ w.if-contains.false))
+pub loop-word-init : goal.loop-word-init
+loop-word-init g c = between_none c.args.self.now c.args.cube 0
+
+pub returns-then-not-forbids_all_in : goal.returns-then-not-forbids_all_in
+returns-then-not-forbids_all_in g c =
+    word_failed c.args.self.now c.args.cube c.loop-word.word
+    (omega (arith, size c.self.inside.words c.args.self.now g.row.W c.self.view_is c.self.invariant.words_are, c.loop-word-test.true))
+    (sym c.forbids_all_in.ensures ∙ c.if-not-forbids_all_in.true)
+
+pub loop-word-preserved : goal.loop-word-preserved
+loop-word-preserved g c =
+    word_passed c.args.self.now c.args.cube c.loop-word.word c.loop-word.invariant (elim c.else-has_rows_in.branch [
+      | else-has_rows_in-via-then-has_rows_in+else-not-forbids_all_in w ↦ sym w.forbids_all_in.ensures ∙ w.if-not-forbids_all_in.false
+      | else-has_rows_in-via-else-has_rows_in w ↦ word_outside c.args.self.now c.args.cube c.loop-word.word (sym c.has_rows_in.ensures ∙ w.if-has_rows_in.false)
     ])
 
 pub returns : goal.returns
-returns g c = all_passed c.args.self.now c.args.cube c.loop-row.row (omega (arith, c.row_count-row-end.ensures.rows)) c.loop-row.invariant
+returns g c =
+    all_words c.args.self.now c.args.cube c.loop-word.word
+    (omega (arith, size c.self.inside.words c.args.self.now g.row.W c.self.view_is c.self.invariant.words_are, c.loop-word-test.false, c.loop-word.auto.word-end))
+    c.loop-word.invariant

@@ -1,9 +1,7 @@
-use Rattle.std.proofs.Common.{◌≡◌, true, not, ◌||◌}
-use Rattle.std.specs.List.{range_with_len, list_all}
-use Rattle.lls_cube.specs.Cube.{contains}
-use Rattle.lls_cube.specs.Table.{is_forbidden}
+use Rattle.std.proofs.Common.{◌≡◌, ◌*◌, true}
+use Rattle.lls_cube.specs.Cover.{forbids_between}
 use Rattle.lls_cube.proofs.table.Table.forbids_all.Given as goal
 
--- no row so far is in the cube and allowed
-abbrev pub invariant-loop-row : goal.invariant-loop-row
-invariant-loop-row g l = list_all (λ row. not (contains row l.cube) || is_forbidden l.self row) (range_with_len 0 l.row) ≡ true
+-- the rows of the words so far are out of the cube, or forbidden
+abbrev pub invariant-loop-word : goal.invariant-loop-word
+invariant-loop-word g l = forbids_between l.self l.cube 0 (64 * l.word) ≡ true
