@@ -46,10 +46,10 @@ cubes_passed p k n before fails so_far =
     so_far ∙ sym (append-nil (cubes_in p k 0 n)) ∙ ap (λ b. cubes_in p k 0 n ++ cond b (row_cube k n ∷ []) []) (sym fails) ∙ sym (cubes-more p k n)
 
 -- a row of so many inputs under a mask of them all
-masked : (k row : ℕ) → row < 2 ^ k → bit_and row (2 ^ k - 1) ≡ row
+pub masked : (k row : ℕ) → row < 2 ^ k → bit_and row (2 ^ k - 1) ≡ row
 masked k row inside = and_mask row k ∙ mod-eq_of_lt inside
 
-contains-row_cube : (k row other : ℕ) → row < 2 ^ k → other < 2 ^ k → contains row (row_cube k other) ≡ nat_eq row other
+pub contains-row_cube : (k row other : ℕ) → row < 2 ^ k → other < 2 ^ k → contains row (row_cube k other) ≡ nat_eq row other
 contains-row_cube k row other inside inside' =
     ap (λ n. nat_eq n (bit_and other (2 ^ k - 1))) (masked k row inside) ∙ ap (nat_eq row) (masked k other inside')
 

@@ -1,3 +1,4 @@
 pub mod Table
 pub mod Cube
+pub mod Cover
 pub mod Words

@@ -1,10 +1,10 @@
 // Cubes of rows.
-ghost use Rattle.std.specs.Prelude.{◌≡◌, ℕ, ◌<◌, ◌^◌, map, All, IfOk, bit_and};
+ghost use Rattle.std.specs.Prelude.{◌≡◌, ℕ, ◌<◌, ◌/◌, ◌^◌, ◌==◌, map, All, IfOk, bit_and};
 ghost use Rattle.std.specs.List.{list_any};
 ghost use Rattle.lls_cube.specs.Table.{is_forbidden, forbidden_rows};
 ghost use Rattle.lls_cube.specs.Cube.{row_cube, contains};
 
-use crate::Table;
+use crate::{Table, WORD_BITS};
 use lls_base::Memory;
 use std::alloc::Global;
 
@@ -13,6 +13,34 @@ use std::alloc::Global;
 pub struct Cube {
     pub care: u16,
     pub value: u16,
+}
+
+impl Cube {
+    /// Whether the cube contains a row.
+    pub fn contains(self, row: usize) -> bool
+        ensures { result ≡ contains row self }
+    {
+        row & usize::from(self.care) == usize::from(self.value & self.care)
+    }
+
+    /// Whether a word of rows agrees with the cube in the bits above those of a row in its word. Where it doesn't, the
+    /// cube contains none of them.
+    pub(crate) fn has_rows_in(self, word: usize) -> bool
+        ensures { result ≡ (bit_and word (self.care / WORD_BITS) == bit_and self.value self.care / WORD_BITS) }
+    {
+        word & (usize::from(self.care) / WORD_BITS)
+            == usize::from(self.value & self.care) / WORD_BITS
+    }
+
+    /// The cube that cares for no input but those of a mask.
+    pub(crate) fn within(self, mask: u16) -> Cube
+        ensures { result ≡ record { care = bit_and self.care mask; value = bit_and self.value mask } }
+    {
+        Cube {
+            care: self.care & mask,
+            value: self.value & mask,
+        }
+    }
 }
 
 /// A cube for each forbidden row, ascending, that holds that row alone: it cares for every bit.

@@ -1,7 +1,10 @@
 // A table of forbidden rows.
 ghost use Rattle.std.specs.Prelude.{◌≡◌, ◌≤◌, ◌<◌, ◌*◌, ◌^◌, false, true, length, replicate, slice_set};
 ghost use Rattle.lls_cube.specs.Table.{is_forbidden};
+ghost use Rattle.lls_cube.specs.Cube.{row_cube};
+ghost use Rattle.lls_cube.specs.Cover.{all_but, forbids_between, forbids_all};
 
+use crate::Cube;
 use std::marker::Model;
 
 /// How many rows a word holds.
@@ -67,5 +70,53 @@ impl<const K: usize, const W: usize> Table<K, W> {
         ensures { result ≡ is_forbidden self.now row }
     {
         self.words[row / WORD_BITS] >> (row % WORD_BITS) & 1 == 1
+    }
+
+    /// The cube of a row alone: it cares for every input.
+    pub(crate) fn row_cube(&self, row: usize) -> Cube
+        requires { row < 2 ^ K }
+        ensures { result ≡ row_cube K row }
+    {
+        Cube {
+            care: (self.row_count() - 1) as u16,
+            value: row as u16,
+        }
+    }
+
+    /// The bits of all inputs but one.
+    pub(crate) fn all_but(&self, input: usize) -> u16
+        requires { input < K }
+        ensures { result ≡ all_but K input }
+    {
+        let _words = &self.words;
+        (self.row_count() - 1 - (1 << (K - 1 - input))) as u16
+    }
+
+    /// Whether every row that a cube contains is forbidden. It passes over the words in which the cube has no row.
+    pub(crate) fn forbids_all(&self, cube: Cube) -> bool
+        ensures { result ≡ forbids_all self.now cube }
+    {
+        let _words = &self.words;
+        for word in 0..W {
+            if cube.has_rows_in(word) && !self.forbids_all_in(word, cube) {
+                return false;
+            }
+        }
+        true
+    }
+
+    /// Whether every row of a word that a cube contains is forbidden.
+    fn forbids_all_in(&self, word: usize, cube: Cube) -> bool
+        requires { word < W }
+        ensures { result ≡ forbids_between self.now cube (WORD_BITS * word) WORD_BITS }
+    {
+        let _words = &self.words;
+        for low in 0..WORD_BITS {
+            let row = WORD_BITS * word + low;
+            if cube.contains(row) && !self.forbidden(row) {
+                return false;
+            }
+        }
+        true
     }
 }
