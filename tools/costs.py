@@ -1,0 +1,73 @@
+#!/usr/bin/env python3
+"""Says what each crate costs of a gate, in processor minutes: its proof, its tests, its must-fail edits.
+
+    costs.py COMMAND WORD..
+
+Runs the command, usually `rt ci`, and looks each half second at the processes of the prover. Prints a table on standard error when the
+command ends, and ends with its status. A process that lives shorter than half a second isn't seen.
+"""
+import os
+import subprocess
+import sys
+import time
+
+TICKS = os.sysconf("SC_CLK_TCK")
+KINDS = ("proof", "tests", "edits")
+
+
+def kind_of(pid, words):
+    """Returns what a process of the prover works at."""
+    if "/rt-edit-" in os.readlink(f"/proc/{pid}/cwd"):
+        return "edits"
+    return "tests" if "--test" in words else "proof"
+
+
+def look(seen):
+    """Notes the processor seconds of each process of the prover, by process, crate and kind."""
+    for pid in filter(str.isdigit, os.listdir("/proc")):
+        try:
+            with open(f"/proc/{pid}/cmdline", encoding="utf-8", errors="replace") as file:
+                words = file.read().split("\0")
+            if not words[0].endswith("/rattle") or "--crate-name" not in words:
+                continue
+            crate = words[words.index("--crate-name") + 1]
+            kind = kind_of(pid, words)
+            with open(f"/proc/{pid}/stat", encoding="utf-8", errors="replace") as file:
+                fields = file.read().rpartition(")")[2].split()
+        except (OSError, IndexError):
+            continue
+        # Behind the name: user and system time are the 12th and 13th fields, the start is the 20th.
+        seen[pid, fields[19], crate, kind] = (int(fields[11]) + int(fields[12])) / TICKS
+
+
+def table(seen):
+    """Returns the lines of the table, the dearest crate first."""
+    spent = {}
+    for (_, _, crate, kind), seconds in seen.items():
+        spent.setdefault(crate, dict.fromkeys(KINDS, 0.0))[kind] += seconds
+    rows = sorted(spent.items(), key=lambda row: -sum(row[1].values()))
+    rows.append(("all", {kind: sum(row[kind] for row in spent.values()) for kind in KINDS}))
+    lines = ["| Crate | Proof | Tests | Edits | Sum |", "|---|---|---|---|---|"]
+    for crate, row in rows:
+        cells = [f"{row[kind] / 60:.1f}" for kind in KINDS] + [f"{sum(row.values()) / 60:.1f}"]
+        lines.append(f"| {crate} | {' | '.join(cells)} |")
+    return lines
+
+
+def main(words):
+    if not words:
+        print(__doc__.split("\n\n")[1].strip(), file=sys.stderr)
+        return 2
+    seen, start = {}, time.time()
+    running = subprocess.Popen(words)
+    while running.poll() is None:
+        look(seen)
+        time.sleep(0.5)
+    for line in table(seen):
+        print(line, file=sys.stderr)
+    print(f"{(time.time() - start) / 60:.0f} minutes, {os.cpu_count()} processors", file=sys.stderr)
+    return running.returncode
+
+
+if __name__ == "__main__":
+    sys.exit(main(sys.argv[1:]))
