@@ -1,27 +1,82 @@
 #!/usr/bin/env python3
-"""Makes the pattern of a solver's model: the values of the first variables, in the order generation, row, column.
+"""Makes the pattern of a solver's model of a search file's formula.
 
-    pattern.py HEIGHT WIDTH [GENERATIONS] < MODEL
+    pattern.py SEARCH < MODEL
 
-MODEL is what a SAT solver prints, with its values on lines that begin with `v`. GENERATIONS is 2 where it isn't given.
+SEARCH is the search file whose formula `lls cnf` printed; the pattern has its generations, rows and columns. MODEL is what a SAT
+solver prints: the line `s SATISFIABLE`, and values on lines that begin with `v`, one for each cell at least. Anything else, as a
+formula without a model, is refused with a sentence and status 1, and no pattern is printed.
+
 Nothing has to be trusted here: `lls judge` judges what is printed.
 """
 import sys
 
+from refute import read_search_file
+
+
+class BadInput(Exception):
+    """A model or a search file that makes no pattern, with why."""
+
+
+def sizes_of(text):
+    """Returns how many generations, rows and columns a search file has."""
+    generations = read_search_file(text)
+    if not generations or not generations[0]:
+        raise BadInput("the search file has no rows of cells")
+    height, width = len(generations[0]), len(generations[0][0])
+    if any(len(rows) != height or any(len(row) != width for row in rows) for rows in generations):
+        raise BadInput("the search file's generations or rows differ in size")
+    return len(generations), height, width
+
+
+def values_of(text):
+    """Returns the values that a solver printed, by variable."""
+    lines = text.splitlines()
+    status = next((line.split(maxsplit=1)[1].strip() for line in lines if line.startswith("s ")), None)
+    if status is None:
+        raise BadInput("no line 's SATISFIABLE': this is no solver's answer")
+    if status != "SATISFIABLE":
+        raise BadInput(f"the solver says '{status}', so there is no model")
+    try:
+        numbers = [int(word) for line in lines if line.startswith("v") for word in line.split()[1:]]
+    except ValueError:
+        raise BadInput("a word on a line 'v' is no number") from None
+    return {abs(number): number > 0 for number in numbers if number}
+
+
+def pattern_of(search, model):
+    """Returns the lines of the pattern: the first variables are the cells by generation, row and column."""
+    generations, height, width = sizes_of(search)
+    values = values_of(model)
+    missing = next((cell for cell in range(1, generations * height * width + 1) if cell not in values), None)
+    if missing is not None:
+        raise BadInput(f"the model gives no value to variable {missing}, a cell: was it made of another formula?")
+    lines = []
+    for t in range(generations):
+        for y in range(height):
+            first = (t * height + y) * width + 1
+            lines.append(" ".join("01"[values[cell]] for cell in range(first, first + width)))
+        lines.append("")
+    return lines[:-1]
+
 
 def main():
-    height, width = int(sys.argv[1]), int(sys.argv[2])
-    generations = int(sys.argv[3]) if len(sys.argv) > 3 else 2
-    words = [word for line in sys.stdin if line.startswith("v") for word in line.split()[1:]]
-    live = {int(word) for word in words if int(word) > 0}
-    cell = 1
-    for t in range(generations):
-        if t:
-            print()
-        for _ in range(height):
-            print(*(int(k in live) for k in range(cell, cell + width)))
-            cell += width
+    if len(sys.argv) != 2 or sys.argv[1] in ("-h", "--help"):
+        print(__doc__.strip(), file=sys.stdout if sys.argv[1:] in (["-h"], ["--help"]) else sys.stderr)
+        return 0 if sys.argv[1:] in (["-h"], ["--help"]) else 2
+    try:
+        with open(sys.argv[1], encoding="utf-8", errors="replace") as file:
+            search = file.read()
+        lines = pattern_of(search, sys.stdin.buffer.read().decode("utf-8", errors="replace"))
+    except OSError as fault:
+        print(f"pattern.py: {sys.argv[1]}: {fault.strerror}", file=sys.stderr)
+        return 1
+    except BadInput as fault:
+        print(f"pattern.py: {fault}", file=sys.stderr)
+        return 1
+    print("\n".join(lines))
+    return 0
 
 
 if __name__ == "__main__":
-    main()
+    sys.exit(main())

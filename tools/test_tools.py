@@ -338,6 +338,39 @@ def options_of(command):
     return set(re.findall(r"--[a-z]+", head))
 
 
+class Pattern(unittest.TestCase):
+    """pattern.py: the pattern of a solver's model, and nothing where there is none."""
+
+    def of(self, model, search="* *\n\n* 1\n\n0 *\n"):
+        return ran("tools/pattern.py", scratch(self, "q.lls", search), text=model)
+
+    def test_values_are_cells_by_generation_row_and_column(self):
+        self.assertEqual(self.of("c a model\ns SATISFIABLE\nv 1 -2 -3\nv 4 -5 6 7 0\n"), (0, "1 0\n\n0 1\n\n0 1\n", ""))
+
+    def test_answers_without_a_model_make_no_pattern(self):
+        for model, why in [
+            ("s UNSATISFIABLE\n", "the solver says 'UNSATISFIABLE', so there is no model"),
+            ("s UNKNOWN\n", "the solver says 'UNKNOWN', so there is no model"),
+            ("", "no line 's SATISFIABLE': this is no solver's answer"),
+            ("no pattern\n\x00\xff garbage\n", "no line 's SATISFIABLE': this is no solver's answer"),
+            ("v 1 2 3 4 5 6 0\n", "no line 's SATISFIABLE': this is no solver's answer"),
+            ("s SATISFIABLE\n", "the model gives no value to variable 1, a cell: was it made of another formula?"),
+            ("s SATISFIABLE\nv 1 2 3 4 5 0\n", "the model gives no value to variable 6, a cell: was it made of another formula?"),
+            ("s SATISFIABLE\nv 1 two 0\n", "a word on a line 'v' is no number"),
+        ]:
+            self.assertEqual(self.of(model), (1, "", f"pattern.py: {why}\n"), model)
+
+    def test_files_without_cells(self):
+        model = "s SATISFIABLE\nv 1 0\n"
+        self.assertEqual(self.of(model, search="# nothing\n")[::2], (1, "pattern.py: the search file has no rows of cells\n"))
+        self.assertEqual(self.of(model, search="* *\n*\n")[::2], (1, "pattern.py: the search file's generations or rows differ in size\n"))
+        self.assertEqual(ran("tools/pattern.py", "nowhere.lls")[::2], (1, "pattern.py: nowhere.lls: No such file or directory\n"))
+
+    def test_usage(self):
+        self.assertEqual(ran("tools/pattern.py")[:2], (2, ""))
+        self.assertEqual(ran("tools/pattern.py", "--help")[::2], (0, ""))
+
+
 class Edits(unittest.TestCase):
     """What the gate reads of `rt ci`, in the kit's words."""
 
