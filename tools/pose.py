@@ -2,10 +2,14 @@
 """Writes the search file of a common question, and says which options go with it.
 
     pose.py still W H [--margin N]                 a still life in a box of W columns and H rows
-    pose.py oscillator W H P [--margin N]          an oscillator of period P whose first phase lies in the box
+    pose.py oscillator W H P [--margin N]          an oscillator of period P whose first phase lies in the box, and whose other
+                                                   phases lie in the box and its margin
     pose.py spaceship W H P DX DY [--margin N]     a pattern in the box that is there again P generations later, moved by
-                                                   DX columns to the right and DY rows down
-    pose.py predecessor FILE.rle [--margin N]      a generation before a pattern
+                                                   DX columns to the right and DY rows down; its phases on the way lie in the
+                                                   box, its margin and the room that it moves through
+    pose.py predecessor FILE.rle [--margin N]      a generation before a pattern, in the pattern's own box and its margin
+    pose.py orphan FILE.rle [--margin N]           any generation before a pattern, wherever its cells are: `no pattern` says that
+                                                   nothing at all comes before these cells
 
 The search file goes to the standard output, the options to the standard error:
 
@@ -13,8 +17,8 @@ The search file goes to the standard output, the options to the standard error:
     options: --period 2 --differ 0,1
 
 The margin is N rows and columns more on each side, 0 where it isn't given. Generation 0 is dead there, and later ones may use it;
-of a predecessor it is the other way round. A spaceship's grid also has the room that it moves through. Round the grid everything
-stays dead, unless `--edge open` is added.
+of a predecessor it is the other way round, and of an orphan the pattern is dead there. Round the grid everything stays dead. Where a
+question leaves out what a reader may think of, a note says so.
 """
 import argparse
 import math
@@ -32,8 +36,8 @@ class BadQuestion(Exception):
 class Question:
     """Generations of words of search files, the options that go with them, and what the asker has to know besides."""
 
-    def __init__(self, generations, options, note=None):
-        self.generations, self.options, self.note = generations, options, note
+    def __init__(self, generations, options, notes=()):
+        self.generations, self.options, self.notes = generations, options, notes
 
 
 def still(width, height, margin):
@@ -47,8 +51,13 @@ def oscillator(width, height, period, margin):
     first = boxed(width + 2 * margin, height + 2 * margin, margin, margin, width, height)
     apart = period // least_factor(period)
     left = [divisor for divisor in range(2, period) if period % divisor == 0 and apart % divisor]
-    note = f"oscillators of period {' and '.join(map(str, left))} fit too" if left else None
-    return Question([first] + [unknown_like(first)] * period, [f"--period {period}", f"--differ 0,{apart}"], note)
+    notes = [f"oscillators of period {' and '.join(map(str, left))} fit too"] if left else []
+    return Question([first] + [unknown_like(first)] * period, [f"--period {period}", f"--differ 0,{apart}"], notes + [phases_note(first, margin)])
+
+
+def phases_note(rows, margin):
+    """Says what is left out: patterns whose phases reach out of the grid."""
+    return f"all phases have to lie in the grid of {len(rows[0])} by {len(rows)}; --margin {margin + 1} leaves them more room"
 
 
 def least_factor(number):
@@ -63,12 +72,27 @@ def spaceship(width, height, period, right, down, margin):
     left, top = margin + max(0, -right), margin + max(0, -down)
     first = boxed(width + 2 * margin + abs(right), height + 2 * margin + abs(down), left, top, width, height)
     times = math.gcd(period, right, down)
-    note = f"what is there again {period // times} generations later, moved by {right // times},{down // times}, fits too"
+    notes = [f"what is there again {period // times} generations later, moved by {right // times},{down // times}, fits too"]
     options = [f"--period {period},{right},{down}", "--live 0:1-"]
-    return Question([first] + [unknown_like(first)] * period, options, note if times > 1 else None)
+    return Question([first] + [unknown_like(first)] * period, options, (notes if times > 1 else []) + [phases_note(first, margin)])
 
 
 def predecessor(name, margin):
+    wanted, options = wanted_pattern(name, margin)
+    notes = ["generations before it that reach outside of the grid are left out; `orphan` asks for any"]
+    return Question([unknown_like(wanted), wanted], options, notes)
+
+
+def orphan(name, margin):
+    wanted, options = wanted_pattern(name, margin)
+    # The cells of the pattern depend on a ring round them and on nothing else, so of the ring's own next state nothing is asked.
+    free = ["*'"] * (len(wanted[0]) + 2)
+    later = [free] + [["*'"] + row + ["*'"] for row in wanted] + [free]
+    return Question([unknown_like(later), later], options + ["--edge open"], [])
+
+
+def wanted_pattern(name, margin):
+    """Returns the cells of the first pattern of a file with dead ones round them, and the options that it asks for."""
     try:
         with open(name, encoding="utf-8", errors="replace") as file:
             patterns = read_rles(file.read())
@@ -82,8 +106,7 @@ def predecessor(name, margin):
     side = ["0"] * margin
     rows = [side + [str(cell) for cell in row] + side for row in pattern.rows]
     dead = [["0"] * len(rows[0]) for _ in range(margin)]
-    wanted = dead + rows + dead
-    return Question([unknown_like(wanted), wanted], [f"--rule {pattern.rule}"] if pattern.rule else [])
+    return dead + rows + dead, [f"--rule {pattern.rule}"] if pattern.rule else []
 
 
 def boxed(width, height, left, top, box_width, box_height):
@@ -124,7 +147,7 @@ def margin_size(word):
 
 def question_of_words():
     parser = argparse.ArgumentParser(description=__doc__, formatter_class=argparse.RawDescriptionHelpFormatter)
-    kinds = parser.add_subparsers(dest="kind", required=True, metavar="still|oscillator|spaceship|predecessor")
+    kinds = parser.add_subparsers(dest="kind", required=True, metavar="still|oscillator|spaceship|predecessor|orphan")
     for kind in (still, oscillator, spaceship):
         words = kinds.add_parser(kind.__name__)
         words.add_argument("width", metavar="W", type=size)
@@ -135,9 +158,10 @@ def question_of_words():
             words.add_argument("right", metavar="DX", type=int)
             words.add_argument("down", metavar="DY", type=int)
         words.set_defaults(ask=kind)
-    words = kinds.add_parser("predecessor")
-    words.add_argument("name", metavar="FILE.rle")
-    words.set_defaults(ask=predecessor)
+    for kind in (predecessor, orphan):
+        words = kinds.add_parser(kind.__name__)
+        words.add_argument("name", metavar="FILE.rle")
+        words.set_defaults(ask=kind)
     for words in kinds.choices.values():
         words.add_argument("--margin", metavar="N", type=margin_size, default=0)
     values = vars(parser.parse_args())
@@ -154,8 +178,8 @@ def main():
         sys.exit(2)
     print("\n\n".join("\n".join(" ".join(row) for row in rows) for rows in question.generations))
     print("options:", " ".join(question.options) or "none", file=sys.stderr)
-    if question.note:
-        print("note:", question.note, file=sys.stderr)
+    for note in question.notes:
+        print("note:", note, file=sys.stderr)
 
 
 if __name__ == "__main__":

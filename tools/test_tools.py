@@ -143,19 +143,22 @@ class Pose(unittest.TestCase):
         out, err = self.posed("oscillator", 2, 1, 2, "--margin", 1)
         free = "* * * *\n* * * *\n* * * *\n"
         self.assertEqual(out, "0 0 0 0\n0 * * 0\n0 0 0 0\n\n" + free + "\n" + free)
-        self.assertEqual(err, "options: --period 2 --differ 0,1\n")
+        note = "note: all phases have to lie in the grid of 4 by 3; --margin 2 leaves them more room\n"
+        self.assertEqual(err, "options: --period 2 --differ 0,1\n" + note)
 
     def test_oscillators_of_smaller_periods_are_kept_out(self):
         rows = {3: ("0,1", None), 4: ("0,2", None), 6: ("0,3", "2"), 9: ("0,3", None), 12: ("0,6", "4"), 30: ("0,15", "2 and 6 and 10")}
         for period, (differ, left) in rows.items():
             err = self.posed("oscillator", 1, 1, period)[1]
             note = f"note: oscillators of period {left} fit too\n" if left else ""
-            self.assertEqual(err, f"options: --period {period} --differ {differ}\n{note}")
+            room = "note: all phases have to lie in the grid of 1 by 1; --margin 1 leaves them more room\n"
+            self.assertEqual(err, f"options: --period {period} --differ {differ}\n{note}{room}")
 
     def test_spaceship_has_room_to_move(self):
         out, err = self.posed("spaceship", 2, 1, 1, -1, 2)
         self.assertEqual(out, "0 * *\n0 0 0\n0 0 0\n\n* * *\n* * *\n* * *\n")
-        self.assertEqual(err, "options: --period 1,-1,2 --live 0:1-\n")
+        note = "note: all phases have to lie in the grid of 3 by 3; --margin 1 leaves them more room\n"
+        self.assertEqual(err, "options: --period 1,-1,2 --live 0:1-\n" + note)
 
     def test_slower_twins_are_named(self):
         err = self.posed("spaceship", 4, 4, 4, 2, 0)[1]
@@ -166,11 +169,21 @@ class Pose(unittest.TestCase):
         out, err = self.posed("predecessor", path, "--margin", 1)
         free = "* * * *\n* * * *\n* * * *\n"
         self.assertEqual(out, free + "\n0 0 0 0\n0 0 1 0\n0 0 0 0\n")
-        self.assertEqual(err, "options: --rule B36/S23\n")
+        note = "note: generations before it that reach outside of the grid are left out; `orphan` asks for any\n"
+        self.assertEqual(err, "options: --rule B36/S23\n" + note)
+
+    def test_orphan_asks_for_any_generation_before(self):
+        path = scratch(self, "p.rle", "x = 2, y = 1, rule = B36/S23\nbo!\n")
+        out, err = self.posed("orphan", path)
+        free, ring = "* * * *\n* * * *\n* * * *\n", "*' *' *' *'\n"
+        self.assertEqual(out, free + "\n" + ring + "*' 0 1 *'\n" + ring)
+        self.assertEqual(err, "options: --rule B36/S23 --edge open\n")
+        out, err = self.posed("orphan", path, "--margin", 1)
+        self.assertEqual(out.split("\n")[6:9], ["*' *' *' *' *' *'", "*' 0 0 0 0 *'", "*' 0 0 1 0 *'"])
 
     def test_refusals(self):
         rows = ["still 0 3", "still 65 3", "still 3", "oscillator 5 5 1", "oscillator 5 5 64", "oscillator 64 64 2", "spaceship 3 3 4 0 0"]
-        for words in rows + ["spaceship 3 3 0 1 0", "predecessor no-such-file", "still 3 3 --margin -1", "glider", ""]:
+        for words in rows + ["spaceship 3 3 0 1 0", "predecessor no-such-file", "orphan no-such-file", "still 3 3 --margin -1", "glider", ""]:
             status, out, err = ran("tools/pose.py", *words.split())
             self.assertEqual((status, out), (2, ""), words)
             self.assertNotEqual(err, "")
