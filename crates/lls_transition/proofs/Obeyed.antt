@@ -16,8 +16,8 @@ use Rattle.lls_cube.proofs.Listed.{list_any-cubes}
 use Rattle.lls_transition.specs.declared.place.Place.{Place}
 use Rattle.lls_transition.specs.declared.place.Place.TheVariants.{Known}
 use Rattle.lls_transition.specs.Place.{place_within, value_of}
-use Rattle.lls_transition.specs.Clause.{row_of}
-use Rattle.lls_transition.specs.Transition.{is_forbidden, table_of, transition_clauses, Obeys}
+use Rattle.lls_transition.specs.Clause.{cube_clauses, row_of}
+use Rattle.lls_transition.specs.Transition.{is_forbidden, table_of, transition_clauses, ContainForbidden, Obeys}
 use Rattle.lls_transition.proofs.Excluded.{satisfies-cube_clauses}
 
 length-table_of : (rule : List Bool) → length (table_of rule) ≡ 1024
@@ -37,13 +37,19 @@ row_in values inputs ten =
     subst (λ n. row_of values inputs < 2 ^ n) (length-map inputs (value_of values) ∙ ten) (number_of-lt (map (value_of values) inputs))
 
 -- the row of the inputs' values isn't forbidden
-pub satisfies-transition_clauses : (values : List Bool) (vars : ℕ) (rule : List Bool) (inputs : List Place) → list_all (place_within vars) inputs ≡ true → length inputs ≡ 10
-    → satisfies values (transition_clauses rule inputs) ≡ not (is_forbidden rule (row_of values inputs))
-satisfies-transition_clauses values vars rule inputs all ten =
+satisfies-forbidden : (values : List Bool) (vars : ℕ) (rule : List Bool) (inputs : List Place) (cubes : List Cube) → list_all (place_within vars) inputs ≡ true → length inputs ≡ 10 → ContainForbidden rule cubes
+    → satisfies values (cube_clauses inputs cubes) ≡ not (is_forbidden rule (row_of values inputs))
+satisfies-forbidden values vars rule inputs cubes all ten just =
     let row = row_of values inputs in
     let inside = row_in values inputs ten in
-    satisfies-cube_clauses values vars inputs (map (row_cube 10) (forbidden_rows (table_of rule))) all ten (small_cares (forbidden_rows (table_of rule)))
-    ∙ ap not (list_any-cubes (table.is_forbidden (table_of rule)) 10 (length (table_of rule)) row (length-table_of rule) inside ∙ is_forbidden-table_of rule row inside)
+    satisfies-cube_clauses values vars inputs cubes all ten just.inputs ∙ ap not (just.rows row inside ∙ is_forbidden-table_of rule row inside)
+
+-- the cubes of the forbidden rows
+forbidden_cubes : (rule : List Bool) → ContainForbidden rule (map (row_cube 10) (forbidden_rows (table_of rule)))
+forbidden_cubes rule = record {
+  inputs = small_cares (forbidden_rows (table_of rule));
+  rows = λ row inside. list_any-cubes (table.is_forbidden (table_of rule)) 10 (length (table_of rule)) row (length-table_of rule) inside;
+}
 
 -- a row by its last bit and the nine before it
 halved : (n : ℕ) → ((2 * n + 0) / 2 ≡ n) × ((2 * n + 0) % 2 ≡ 0)
@@ -75,15 +81,20 @@ both : (p : Bool) (a b last answered : Bool) → p ≡ not (cond a (not b) b) �
 both p a b last answered e at_last at_answer =
     subst (λ q. (q ≡ true) ↔ (last ≡ answered)) (sym e) (subst (λ l. (not (cond a (not b) b) ≡ true) ↔ (l ≡ answered)) at_last (subst (λ r. (not (cond a (not b) b) ≡ true) ↔ (b ≡ r)) at_answer (agrees a b)))
 
-pub satisfies_obeys : (values : List Bool) (vars : ℕ) (rule : List Bool) (inputs : List Place) → list_all (place_within vars) inputs ≡ true → length inputs ≡ 10
-    → (satisfies values (transition_clauses rule inputs) ≡ true) ↔ Obeys values rule inputs
-satisfies_obeys values vars rule inputs all ten =
+-- clauses of cubes that contain just the forbidden rows
+pub cubes_obey : (values : List Bool) (vars : ℕ) (rule : List Bool) (inputs : List Place) (cubes : List Cube) → list_all (place_within vars) inputs ≡ true → length inputs ≡ 10 → ContainForbidden rule cubes
+    → (satisfies values (cube_clauses inputs cubes) ≡ true) ↔ Obeys values rule inputs
+cubes_obey values vars rule inputs cubes all ten just =
     let bits : List Bool = map (value_of values) inputs in
     let count : length bits ≡ 10 = length-map inputs (value_of values) ∙ ten in
-    both (satisfies values (transition_clauses rule inputs)) (answer rule (number_of (take 9 bits))) (get_or bits 9 false) _ _
-    (satisfies-transition_clauses values vars rule inputs all ten ∙ ap not (ap (is_forbidden rule) (number_of-ten bits count) ∙ is_forbidden-row rule (number_of (take 9 bits)) (get_or bits 9 false)))
+    both (satisfies values (cube_clauses inputs cubes)) (answer rule (number_of (take 9 bits))) (get_or bits 9 false) _ _
+    (satisfies-forbidden values vars rule inputs cubes all ten just ∙ ap not (ap (is_forbidden rule) (number_of-ten bits count) ∙ is_forbidden-row rule (number_of (take 9 bits)) (get_or bits 9 false)))
     (get_or-map (value_of values) inputs 9 (Known false) false (omega arith))
     (ap (λ bs. answer rule (number_of bs)) (take-map (value_of values) 9 inputs))
+
+pub satisfies_obeys : (values : List Bool) (vars : ℕ) (rule : List Bool) (inputs : List Place) → list_all (place_within vars) inputs ≡ true → length inputs ≡ 10
+    → (satisfies values (transition_clauses rule inputs) ≡ true) ↔ Obeys values rule inputs
+satisfies_obeys values vars rule inputs all ten = cubes_obey values vars rule inputs (map (row_cube 10) (forbidden_rows (table_of rule))) all ten (forbidden_cubes rule)
 
 -- of two rows that differ in the last bit alone, one is forbidden
 one_of : (a x y : Bool) (b c : ℕ) (rest : List ℕ) → x ≡ cond a true false → y ≡ cond a false true → length (cond x (b ∷ cond y (c ∷ rest) rest) (cond y (c ∷ rest) rest)) ≡ suc (length rest)

@@ -1,10 +1,12 @@
 -- The transitions that a rule forbids, and their clauses.
-use Rattle.std.specs.Prelude.{◌≡◌, ℕ, ◌-◌, ◌/◌, ◌%◌, ◌^◌, ◌==◌, Bool, false, List, map, take, slice_index_or, if◌then◌else◌}
-use Rattle.std.specs.List.{range_with_len}
+use Rattle.std.specs.Prelude.{◌≡◌, ℕ, ◌<◌, ◌-◌, ◌/◌, ◌%◌, ◌^◌, ◌==◌, Bool, false, List, All, map, take, slice_index_or, if◌then◌else◌}
+use Rattle.std.specs.List.{range_with_len, list_any}
 use Rattle.lls_lit.specs.Formula.{Clause}
 use Rattle.lls_rule.specs.Rule.{answer, successor}
 use Rattle.lls_cube.specs.Table.{forbidden_rows}
-use Rattle.lls_cube.specs.Cube.{row_cube}
+use Rattle.lls_cube.specs.Table as table
+use Rattle.lls_cube.specs.Cube.{contains, row_cube}
+use Rattle.lls_cube.specs.declared.cube.Cube.{Cube}
 use Rattle.lls_transition.specs.declared.place.Place.{Place}
 use Rattle.lls_transition.specs.declared.place.Place.TheVariants.{Known}
 use Rattle.lls_transition.specs.declared.table.TheConstants.{INPUTS}
@@ -27,3 +29,8 @@ transition_clauses rule inputs = cube_clauses inputs (map (row_cube INPUTS) (for
 abbrev pub Obeys : List Bool → List Bool → List Place → Type 0
 Obeys values rule inputs =
     value_of values (slice_index_or inputs (INPUTS - 1) (Known false)) ≡ successor rule (map (value_of values) (take (INPUTS - 1) inputs))
+
+-- the cubes care for the inputs alone, and contain just the rows that the rule forbids
+pub record ContainForbidden (rule : List Bool) (cubes : List Cube) : Type 0 where
+  pub inputs : All (λ cube. cube.care < 2 ^ INPUTS) cubes
+  pub rows : (row : ℕ) → row < 2 ^ INPUTS → list_any (contains row) cubes ≡ table.is_forbidden (table_of rule) row

@@ -5,7 +5,7 @@ ghost use Rattle.lls_lit.specs.Formula.{satisfies};
 ghost use Rattle.lls_cube.specs.Cube.{contains};
 ghost use Rattle.lls_transition.specs.Place.{place_within};
 ghost use Rattle.lls_transition.specs.Clause.{with_clauses, cube_clauses, row_of};
-ghost use Rattle.lls_transition.specs.Transition.{transition_clauses, Obeys};
+ghost use Rattle.lls_transition.specs.Transition.{transition_clauses, ContainForbidden, Obeys};
 
 use crate::clause::write_clause;
 use crate::{INPUTS, Place, table_of};
@@ -52,6 +52,11 @@ pub fn push_cubes(
     // An assignment satisfies these clauses exactly where no cube contains the row of the inputs' values.
     ensures excludes { (values : List Bool) → All (λ cube. cube.care < 2 ^ INPUTS) cubes.now
         → satisfies values (cube_clauses inputs.now cubes.now) ≡ not (list_any (contains (row_of values inputs.now)) cubes.now) }
+
+    // Where the cubes contain just the rows that a rule forbids, as `rows` and `cover` do of its table, an assignment
+    // satisfies these clauses exactly where the last input is the rule's successor of the nine before it.
+    ensures obeys { (values rule : List Bool) → ContainForbidden rule cubes.now
+        → (satisfies values (cube_clauses inputs.now cubes.now) ≡ true) ↔ Obeys values rule inputs.now }
 {
     let clauses = formula.len();
     let vars = formula.vars();

@@ -1,5 +1,6 @@
 use Rattle.std.proofs.Common.{refl}
 use Rattle.lls_transition.proofs.Excluded.{satisfies-cube_clauses}
+use Rattle.lls_transition.proofs.Obeyed.{cubes_obey}
 use Rattle.lls_transition.proofs.Pushed.{cube_clauses-more, room_after}
 use Rattle.lls_transition.proofs.push.push_cubes.Goals as goal
 
@@ -18,3 +19,11 @@ returns-in-Err-clause-excludes c =
 pub returns-clause-excludes : goal.returns-clause-excludes
 returns-clause-excludes c =
     λ values small. satisfies-cube_clauses values c.args.formula.now.vars c.args.inputs.now c.args.cubes.now c.requires.within c.type_inv.inputs small
+
+pub returns-in-Err-clause-obeys : goal.returns-in-Err-clause-obeys
+returns-in-Err-clause-obeys c =
+    λ values rule just. cubes_obey values c.args.formula.now.vars rule c.args.inputs.now c.args.cubes.now c.requires.within c.type_inv.inputs just
+
+pub returns-clause-obeys : goal.returns-clause-obeys
+returns-clause-obeys c =
+    λ values rule just. cubes_obey values c.args.formula.now.vars rule c.args.inputs.now c.args.cubes.now c.requires.within c.type_inv.inputs just
