@@ -37,7 +37,7 @@ _lls_reply() {
 _lls() {
     local current=${COMP_WORDS[COMP_CWORD]} previous=${COMP_WORDS[COMP_CWORD - 1]} commands='check cnf judge lrat make rule sat search'
     local first=1 words=()
-    [ "${COMP_WORDS[1]-}" != --unproved ] || first=2
+    [[ "${COMP_WORDS[1]-}" != --unproved && "${COMP_WORDS[1]-}" != --posed ]] || first=2
     # `--edge=open` comes as three words.
     if [ "$current" = = ]; then
         current=
@@ -45,11 +45,11 @@ _lls() {
         previous=${COMP_WORDS[COMP_CWORD - 2]}
     fi
     if [ "$COMP_CWORD" -eq "$first" ]; then
-        [ "$first" -eq 2 ] || commands="$commands --help --version --unproved"
+        [ "$first" -eq 2 ] || commands="$commands --help --version --posed --unproved"
         read -ra words <<<"$commands"
     elif [ "$previous" = --help ]; then
         read -ra words <<<"$commands"
-    elif [[ $previous = --* && $previous != --unproved ]]; then
+    elif [[ $previous = --* && $previous != --unproved && $previous != --posed ]]; then
         read -ra words <<<"$(_lls_values "$previous")"
     elif [[ $current = -* ]]; then
         read -ra words <<<"$(_lls_options "${COMP_WORDS[first]}")"

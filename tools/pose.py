@@ -16,6 +16,8 @@ The search file goes to the standard output, the options to the standard error:
     pose.py oscillator 5 5 2 > q.lls
     options: --period 2 --differ 0,1
 
+They also stand in the file's first line, `#! --period 2 --differ 0,1`, from which `lls --posed COMMAND q.lls ..` takes them.
+
 The margin is N rows and columns more on each side, 0 where it isn't given. Generation 0 is dead there, and later ones may use it;
 of a predecessor it is the other way round, and of an orphan the pattern is dead there. Round the grid everything stays dead. Where a
 question leaves out what a reader may think of, a note says so.
@@ -176,6 +178,8 @@ def main():
     except BadQuestion as fault:
         print(f"pose.py: {fault}", file=sys.stderr)
         sys.exit(2)
+    if question.options:
+        print("#!", " ".join(question.options))
     print("\n\n".join("\n".join(" ".join(row) for row in rows) for rows in question.generations))
     print("options:", " ".join(question.options) or "none", file=sys.stderr)
     for note in question.notes:

@@ -136,13 +136,13 @@ class Pose(unittest.TestCase):
 
     def test_still(self):
         out, err = self.posed("still", 3, 2)
-        self.assertEqual(out, "* * *\n* * *\n\n* * *\n* * *\n")
+        self.assertEqual(out, "#! --period 1 --live 0:1-\n* * *\n* * *\n\n* * *\n* * *\n")
         self.assertEqual(err, "options: --period 1 --live 0:1-\n")
 
     def test_oscillator_with_a_margin(self):
         out, err = self.posed("oscillator", 2, 1, 2, "--margin", 1)
         free = "* * * *\n* * * *\n* * * *\n"
-        self.assertEqual(out, "0 0 0 0\n0 * * 0\n0 0 0 0\n\n" + free + "\n" + free)
+        self.assertEqual(out, "#! --period 2 --differ 0,1\n0 0 0 0\n0 * * 0\n0 0 0 0\n\n" + free + "\n" + free)
         note = "note: all phases have to lie in the grid of 4 by 3; --margin 2 leaves them more room\n"
         self.assertEqual(err, "options: --period 2 --differ 0,1\n" + note)
 
@@ -156,7 +156,7 @@ class Pose(unittest.TestCase):
 
     def test_spaceship_has_room_to_move(self):
         out, err = self.posed("spaceship", 2, 1, 1, -1, 2)
-        self.assertEqual(out, "0 * *\n0 0 0\n0 0 0\n\n* * *\n* * *\n* * *\n")
+        self.assertEqual(out, "#! --period 1,-1,2 --live 0:1-\n0 * *\n0 0 0\n0 0 0\n\n* * *\n* * *\n* * *\n")
         note = "note: all phases have to lie in the grid of 3 by 3; --margin 1 leaves them more room\n"
         self.assertEqual(err, "options: --period 1,-1,2 --live 0:1-\n" + note)
 
@@ -168,7 +168,7 @@ class Pose(unittest.TestCase):
         path = scratch(self, "p.rle", "x = 2, y = 1, rule = B36/S23\nbo!\n")
         out, err = self.posed("predecessor", path, "--margin", 1)
         free = "* * * *\n* * * *\n* * * *\n"
-        self.assertEqual(out, free + "\n0 0 0 0\n0 0 1 0\n0 0 0 0\n")
+        self.assertEqual(out, "#! --rule B36/S23\n" + free + "\n0 0 0 0\n0 0 1 0\n0 0 0 0\n")
         note = "note: generations before it that reach outside of the grid are left out; `orphan` asks for any\n"
         self.assertEqual(err, "options: --rule B36/S23\n" + note)
 
@@ -176,10 +176,10 @@ class Pose(unittest.TestCase):
         path = scratch(self, "p.rle", "x = 2, y = 1, rule = B36/S23\nbo!\n")
         out, err = self.posed("orphan", path)
         free, ring = "* * * *\n* * * *\n* * * *\n", "*' *' *' *'\n"
-        self.assertEqual(out, free + "\n" + ring + "*' 0 1 *'\n" + ring)
+        self.assertEqual(out, "#! --rule B36/S23 --edge open\n" + free + "\n" + ring + "*' 0 1 *'\n" + ring)
         self.assertEqual(err, "options: --rule B36/S23 --edge open\n")
         out, err = self.posed("orphan", path, "--margin", 1)
-        self.assertEqual(out.split("\n")[6:9], ["*' *' *' *' *' *'", "*' 0 0 0 0 *'", "*' 0 0 1 0 *'"])
+        self.assertEqual(out.split("\n")[7:10], ["*' *' *' *' *' *'", "*' 0 0 0 0 *'", "*' 0 0 1 0 *'"])
 
     def test_refusals(self):
         rows = ["still 0 3", "still 65 3", "still 3", "oscillator 5 5 1", "oscillator 5 5 64", "oscillator 64 64 2", "spaceship 3 3 4 0 0"]
@@ -289,6 +289,37 @@ class Building(unittest.TestCase):
         os.utime(path, (2**31, 2**31))
         self.assertEqual(self.lls("echo built >&2", "judge"), (3, "there\n", ""))
 
+    def test_posed(self):
+        path = self.write("crates/lls_cli/out/lls_cli", "#!/bin/bash\nprintf '%s\\n' \"$@\"\nexit 3\n")
+        os.utime(path, (2**31, 2**31))
+        self.write("q.lls", "# a ship\n#! --period 4,1,1 --live=0:1- --rule B2-a/S12\n* *\n")
+        taken = ["--period", "4,1,1", "--live", "0:1-", "--rule", "B2-a/S12"]
+        for words, ran_with in [
+            (["search", "q.lls", "p"], ["search", "q.lls", "p", *taken]),
+            (["check", "--period", "4,1,1", "q.lls", "p"], ["check", "--period", "4,1,1", "q.lls", "p", *taken[2:]]),
+            (["search", "--budget", "9", "q.lls", "p", "--live=0:1-"], ["search", "--budget", "9", "q.lls", "p", "--live=0:1-", *taken[:2], *taken[4:]]),
+        ]:
+            said = f"lls: {' '.join(ran_with)}\n"
+            self.assertEqual(self.lls("exit 9", "--posed", *words), (3, "\n".join(ran_with) + "\n", said), words)
+
+    def test_posed_refusals(self):
+        path = self.write("crates/lls_cli/out/lls_cli", "#!/bin/bash\necho ran\n")
+        os.utime(path, (2**31, 2**31))
+        self.write("q.lls", "#! --period 4,1,1\n* *\n")
+        self.write("plain.lls", "# --period 4\n* *\n")
+        self.write("odd.lls", "#! --budget 4\n* *\n")
+        self.write("short.lls", "#! --rule\n* *\n")
+        for words, why in [
+            ("search q.lls p --period 3", "the file says '--period 4,1,1', and the words say '--period 3'"),
+            ("check q.lls p --period=4", "the file says '--period 4,1,1', and the words say '--period 4'"),
+            ("search plain.lls p", "plain.lls has no line '#! OPTIONS'"),
+            ("search odd.lls p", "odd.lls: '--budget' on its line '#!' is no option of a question"),
+            ("search short.lls p", "short.lls: --rule on its line '#!' has no value"),
+            ("search nowhere.lls p", "no file 'nowhere.lls' to take options from"),
+            ("search", "a command and a search file have to follow"),
+        ]:
+            self.assertEqual(self.lls("exit 9", "--posed", *words.split()), (2, "", f"lls: --posed: {why}\n"), words)
+
     def test_unproved(self):
         rt = 'printf "%s\\n" "$@"; echo "checked: ended status=20" >&2; echo "lls: words: Fault" >&2; echo "run=ended status=20 runners=1 proved=no" >&2; exit 20'
         words = ["search", "q.lls", "--rule", "B3/S23", "--edge=open", "/p"]
@@ -315,6 +346,7 @@ class Completion(unittest.TestCase):
         self.assertEqual(self.replies("ju"), ["judge"])
         self.assertEqual(self.replies("--help", "ju"), ["judge"])
         self.assertEqual(self.replies("--unproved", "ju"), ["judge"])
+        self.assertEqual(self.replies("--posed", "ju"), ["judge"])
         self.assertEqual(self.replies("check", "a.lls", "--edge", "o"), ["open"])
         self.assertEqual(self.replies("check", "a.lls", "--edge", "="), ["closed", "open"])
         self.assertEqual(self.replies("check", "a.lls", "--symmetry", "D2"), ["D2-", "D2\\|", "D2\\\\", "D2/"])
