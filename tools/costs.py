@@ -11,6 +11,8 @@ import subprocess
 import sys
 import time
 
+import ending
+
 TICKS = os.sysconf("SC_CLK_TCK")
 KINDS = ("proof", "tests", "edits")
 
@@ -54,10 +56,8 @@ def table(seen):
     return lines
 
 
-def main(words):
-    if not words:
-        print(__doc__.split("\n\n")[1].strip(), file=sys.stderr)
-        return 2
+def main():
+    words = ending.words(__doc__, "COMMAND", "WORD..")
     seen, start = {}, time.time()
     running = subprocess.Popen(words)
     while running.poll() is None:
@@ -70,4 +70,4 @@ def main(words):
 
 
 if __name__ == "__main__":
-    sys.exit(main(sys.argv[1:]))
+    ending.run(main, __doc__)

@@ -14,6 +14,8 @@ import random
 import subprocess
 import sys
 
+import ending
+
 MOST_BUDGET = 10_000_000
 
 
@@ -65,11 +67,11 @@ def write(file, variables, clauses):
 
 
 def main():
-    program, seed, count, folder = sys.argv[1:]
-    random.seed(int(seed))
+    program, seed, count, folder = ending.words(__doc__, "PROGRAM", "SEED", "COUNT", "FOLDER")
+    random.seed(ending.number(seed, "SEED"))
     file, proof = os.path.join(folder, "formula"), os.path.join(folder, "proof")
     failed = 0
-    for _ in range(int(count)):
+    for _ in range(ending.number(count, "COUNT")):
         variables, clauses = formula()
         write(file, variables, clauses)
         satisfiable = is_satisfiable(variables, clauses)
@@ -86,8 +88,8 @@ def main():
     if not is_found:
         print("decided: 200 variables are not decided within a second", file=sys.stderr)
         failed = 1
-    sys.exit(failed)
+    return failed
 
 
 if __name__ == "__main__":
-    main()
+    ending.run(main, __doc__)

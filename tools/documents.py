@@ -18,6 +18,8 @@ import subprocess
 import sys
 import tempfile
 
+import ending
+
 TOP = os.path.dirname(os.path.dirname(os.path.abspath(__file__)))
 SECONDS = 120
 PLAIN = ("cat", "cp", "echo", "head", "wc")
@@ -109,8 +111,8 @@ def main():
             print(f"documents: {name}:{line}: {words}", file=sys.stderr)
         print(f"documents: {name}: {count} commands, {len(faults)} at fault")
         is_wrong = is_wrong or faults or count == 0
-    sys.exit(1 if is_wrong else 0)
+    return 1 if is_wrong else 0
 
 
 if __name__ == "__main__":
-    main()
+    ending.run(main, __doc__)

@@ -7,6 +7,7 @@
 BIRTHS and SURVIVALS are digits, or `-` for none. LOW and HIGH may be left out. The clauses are made by refute.py beside this
 file, which shares nothing with the crates.
 """
+import ending
 from refute import formula_of_words
 
 
@@ -18,4 +19,4 @@ def main():
 
 
 if __name__ == "__main__":
-    main()
+    ending.run(main, __doc__)

@@ -12,6 +12,8 @@ Nothing has to be trusted here: `lls check` checks what is printed. Each clause 
 """
 import sys
 
+import ending
+
 
 class Propagation:
     """Clauses with ids from 1 on, and the literals that follow from them."""
@@ -129,7 +131,7 @@ def needed_steps(steps):
 
 
 def main():
-    formula, proof = sys.argv[1:]
+    formula, proof = ending.words(__doc__, "FORMULA", "PROOF")
     state, steps = Propagation(), []
     with open(formula, encoding="ascii") as file:
         for clause in clauses_in(word for line in file if line[0] not in "cp" for word in line.split()):
@@ -150,4 +152,4 @@ def main():
 
 
 if __name__ == "__main__":
-    main()
+    ending.run(main, __doc__)

@@ -6,7 +6,8 @@
 Two generations of SIZE rows of SIZE cells under B3/S23, whose second is fixed. It is there for tests, which compare what
 `lls_gen` makes with it; the solution stands behind the file and a line `--`.
 """
-import sys
+
+import ending
 
 
 def numbers(seed, count):
@@ -20,7 +21,7 @@ def text(rows):
 
 
 def main():
-    seed, size = int(sys.argv[1]), int(sys.argv[2])
+    seed, size = (ending.number(word, "each of the two") for word in ending.words(__doc__, "SEED", "SIZE"))
     drawn = list(numbers(seed, size * size))
     live = {divmod(k, size) for k, number in enumerate(drawn) if number >= 2**63}
     unknown = {divmod(k, size) for k, number in enumerate(drawn) if number // 2**60 % 8 == 0}
@@ -38,4 +39,4 @@ def main():
 
 
 if __name__ == "__main__":
-    main()
+    ending.run(main, __doc__)

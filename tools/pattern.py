@@ -11,6 +11,7 @@ Nothing has to be trusted here: `lls judge` judges what is printed.
 """
 import sys
 
+import ending
 from refute import read_search_file
 
 
@@ -61,22 +62,16 @@ def pattern_of(search, model):
 
 
 def main():
-    if len(sys.argv) != 2 or sys.argv[1] in ("-h", "--help"):
-        print(__doc__.strip(), file=sys.stdout if sys.argv[1:] in (["-h"], ["--help"]) else sys.stderr)
-        return 0 if sys.argv[1:] in (["-h"], ["--help"]) else 2
+    (name,) = ending.words(__doc__, "SEARCH")
+    with open(name, encoding="utf-8", errors="replace") as file:
+        search = file.read()
     try:
-        with open(sys.argv[1], encoding="utf-8", errors="replace") as file:
-            search = file.read()
         lines = pattern_of(search, sys.stdin.buffer.read().decode("utf-8", errors="replace"))
-    except OSError as fault:
-        print(f"pattern.py: {sys.argv[1]}: {fault.strerror}", file=sys.stderr)
-        return 1
     except BadInput as fault:
-        print(f"pattern.py: {fault}", file=sys.stderr)
-        return 1
+        return f"pattern.py: {fault}"
     print("\n".join(lines))
     return 0
 
 
 if __name__ == "__main__":
-    sys.exit(main())
+    ending.run(main, __doc__)

@@ -26,6 +26,7 @@ import argparse
 import math
 import sys
 
+import ending
 from rle import BadRle, read_rles
 
 MOST_GENERATIONS, MOST_ROWS, MOST_CELLS = 64, 64, 8192
@@ -187,4 +188,4 @@ def main():
 
 
 if __name__ == "__main__":
-    main()
+    ending.run(main, __doc__)

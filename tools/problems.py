@@ -8,7 +8,8 @@ words of formula.py behind the search file, one a line. Rules are in B/S notatio
 """
 import os
 import random
-import sys
+
+import ending
 
 SYMMETRIES = ["C1", "C2", "D2-", "D2|", "D4+"]
 SQUARE = SYMMETRIES + ["C4", "D2\\", "D2/", "D4x", "D8"]
@@ -58,9 +59,9 @@ def problem():
 
 
 def main():
-    seed, count, folder = sys.argv[1:]
-    random.seed(int(seed))
-    for k in range(int(count)):
+    seed, count, folder = ending.words(__doc__, "SEED", "COUNT", "FOLDER")
+    random.seed(ending.number(seed, "SEED"))
+    for k in range(ending.number(count, "COUNT")):
         text, words, script = problem()
         for name, content in (("lls", text), ("words", "\n".join(words) + "\n"), ("script", "\n".join(script) + "\n")):
             with open(os.path.join(folder, f"{k}.{name}"), "w") as file:
@@ -68,4 +69,4 @@ def main():
 
 
 if __name__ == "__main__":
-    main()
+    ending.run(main, __doc__)

@@ -14,6 +14,8 @@ import argparse
 import re
 import sys
 
+import ending
+
 
 def read_search_file(text):
     """Returns the generations, each a list of rows of words."""
@@ -298,4 +300,4 @@ def main():
 
 
 if __name__ == "__main__":
-    main()
+    ending.run(main, __doc__)

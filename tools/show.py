@@ -1,7 +1,7 @@
 #!/usr/bin/env python3
 """Draws generations of cells, in the terminal or as an SVG.
 
-    show.py [FILE ..] [--svg FILE [--animate]] [--width COLUMNS]
+    show.py [FILE ..] [--about] [--svg FILE [--animate]] [--width COLUMNS]
 
 A FILE is a history (rows of 0 and 1, an empty line between generations), a search file, or patterns in RLE, one behind the other.
 With no FILE the standard input is read, so `lls search .. | show.py` works; its answers `no pattern` and `undecided` are handed on.
@@ -11,6 +11,8 @@ is an unknown cell, a name stands for itself, and a mark as in search files says
 
 --svg draws a strip of the generations instead, one strip a file, into FILE or for `-` to the standard output; --animate draws one
 generation after the other in one place.
+--about says of known generations, in words in place of a drawing, how many cells live in each and in what box, and which is the first
+generation again, where one is, and where.
 --width is the terminal's width, where it isn't to be found out.
 """
 import argparse
@@ -18,6 +20,7 @@ import re
 import shutil
 import sys
 
+import ending
 from refute import read_search_file
 from rle import HEADER, BadRle, read_rles
 
@@ -93,6 +96,44 @@ def drawn(generations, columns):
     for start in range(0, len(pictures), beside):
         lines += [" ".join(parts).rstrip() for parts in zip(*pictures[start : start + beside])]
     return lines
+
+
+# In words.
+
+
+def live_cells(rows):
+    return {(y, x) for y, row in enumerate(rows) for x, word in enumerate(row) if word.rstrip("'") == "1"}
+
+
+def corner(cells):
+    """Returns the top row and the leftmost column of the box of some cells."""
+    return min(y for y, _ in cells), min(x for _, x in cells)
+
+
+def moved_to(first, later):
+    """Returns how far the later cells are from the first to the right and down, where they are the first ones moved, or None."""
+    if not first or not later:
+        return (0, 0) if first == later else None
+    down, right = (b - a for a, b in zip(corner(first), corner(later)))
+    return (right, down) if {(y + down, x + right) for y, x in first} == later else None
+
+
+def about(generations):
+    """Returns the lines that say what is seen of a history."""
+    all_cells = [live_cells(rows) for rows in generations]
+    lines = []
+    for number, cells in enumerate(all_cells):
+        box = ""
+        if cells:
+            (top, left), bottom, right = corner(cells), max(y for y, _ in cells), max(x for _, x in cells)
+            box = f" in a box of {right - left + 1} by {bottom - top + 1} at column {left}, row {top}"
+        lines.append(f"generation {number}: {len(cells)} live{box}")
+    for number, cells in enumerate(all_cells[1:], 1):
+        shift = moved_to(all_cells[0], cells)
+        if shift is not None:
+            where = "" if shift == (0, 0) else f", moved by {shift[0]},{shift[1]}"
+            return lines + [f"generation {number} is generation 0 again{where}"]
+    return lines + ["no later generation is generation 0 again"] * (len(generations) > 1)
 
 
 # Drawing as an SVG.
@@ -196,12 +237,15 @@ def write(name, text):
 def main():
     parser = argparse.ArgumentParser(description=__doc__, formatter_class=argparse.RawDescriptionHelpFormatter)
     parser.add_argument("files", metavar="FILE", nargs="*")
+    parser.add_argument("--about", action="store_true")
     parser.add_argument("--svg", metavar="FILE")
     parser.add_argument("--animate", action="store_true")
     parser.add_argument("--width", metavar="COLUMNS", type=int)
     words = parser.parse_args()
     if words.animate and not words.svg:
         parser.error("--animate goes with --svg FILE")
+    if words.about and words.svg:
+        parser.error("--about and --svg don't go together")
     sys.stdout.reconfigure(encoding="utf-8")
     try:
         texts = read_inputs(words.files)
@@ -209,6 +253,11 @@ def main():
             print(texts[0].strip())
             return
         files = [read_generations(text) for text in texts]
+        if words.about:
+            if not all(map(is_known, files)):
+                raise BadInput("--about is for generations that are known; this one has unknown or tied cells")
+            print("\n".join(line for generations in files for line in about(generations)))
+            return
         if words.svg:
             write(words.svg, animation(files) if words.animate else strips(files))
             return
@@ -222,4 +271,4 @@ def main():
 
 
 if __name__ == "__main__":
-    main()
+    ending.run(main, __doc__)

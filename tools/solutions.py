@@ -6,7 +6,8 @@
 Prints `yes` or `no`. It tries every first generation and every value of a marked cell; the other cells follow by the rule.
 """
 import itertools
-import sys
+
+import ending
 
 GENERATORS = {
     "C1": [],
@@ -105,10 +106,11 @@ class Problem:
 
 
 def main():
-    with open(sys.argv[1]) as file:
-        problem = Problem(file.read(), sys.argv[2:])
+    name, *options = ending.words(__doc__, "SEARCH", "OPTION..")
+    with open(name, encoding="utf-8") as file:
+        problem = Problem(file.read(), options)
     print("yes" if any(map(problem.is_solution, problem.histories([]))) else "no")
 
 
 if __name__ == "__main__":
-    main()
+    ending.run(main, __doc__)

@@ -26,7 +26,7 @@ def ran(*words, text="", folder=TOP):
     """Returns the status of a command and what it prints on its two streams."""
     if words[0].endswith(".py"):
         words = (sys.executable, *words)
-    done = subprocess.run(words, input=text, capture_output=True, text=True, encoding="utf-8", cwd=folder, check=False)
+    done = subprocess.run(words, input=text, capture_output=True, text=True, encoding="utf-8", cwd=folder, check=False, timeout=60)
     return done.returncode, done.stdout, done.stderr
 
 
@@ -414,6 +414,63 @@ class Pattern(unittest.TestCase):
     def test_usage(self):
         self.assertEqual(ran("tools/pattern.py")[:2], (2, ""))
         self.assertEqual(ran("tools/pattern.py", "--help")[::2], (0, ""))
+
+
+class Slips(unittest.TestCase):
+    """Whatever words and files a script gets, it says a sentence and ends with a status that isn't 0: no traceback."""
+
+    SCRIPTS = "costs decided formula hints made pattern pose problems refute show solutions"
+
+    def test_words_and_files(self):
+        binary = scratch(self, "binary", "")
+        with open(binary, "wb") as file:
+            file.write(b"\x00\xff\xfe\x80 binary\n")
+        missing = f"{binary}.no"
+        for script in self.SCRIPTS.split():
+            for words in ([], [missing], [binary], [binary, binary], [binary, "3", "23", "closed"], ["a", "b", "c", "d", "e", "f"]):
+                status, _, err = ran(f"tools/{script}.py", *words)
+                self.assertNotIn("Traceback", err, (script, words))
+                if status != 0:
+                    self.assertNotEqual(err.strip(), "", (script, words))
+                elif script not in ("show", "solutions"):
+                    self.fail(f"{script} {words} ends with 0")
+
+    def test_help(self):
+        for script in (self.SCRIPTS + " documents words").split():
+            status, out, err = ran(f"tools/{script}.py", "--help")
+            self.assertEqual((status, err), (0, ""), script)
+            self.assertIn(f"{script}.py", out)
+
+    def test_a_reader_that_goes_away(self):
+        for words in ("tools/pose.py still 64 64", "tools/made.py 1 64", "tools/show.py examples/pulsar.lls"):
+            _, _, err = ran("bash", "-c", f"{words} | :")
+            self.assertNotIn("Traceback", err, words)
+
+    def test_scripts_can_be_run(self):
+        for name in os.listdir(f"{TOP}/tools"):
+            path = f"{TOP}/tools/{name}"
+            with open(path, encoding="utf-8") as file:
+                is_script = name.endswith(".py") and file.readline().startswith("#!")
+            self.assertEqual(os.access(path, os.X_OK), is_script, name)
+
+
+class About(unittest.TestCase):
+    """show.py --about: what is seen of a history, in words."""
+
+    def test_glider(self):
+        wanted = [f"generation {t}: 5 live in a box of 3 by 3 at column {x}, row {y}" for t, (x, y) in enumerate([(0, 0), (0, 1), (0, 1), (1, 1), (1, 1)])]
+        self.assertEqual(ran("tools/show.py", "--about", "examples/glider.pattern"), (0, "\n".join(wanted) + "\ngeneration 4 is generation 0 again, moved by 1,1\n", ""))
+
+    def test_others(self):
+        for text, wanted in [
+            ("1 1\n1 1\n\n1 1\n1 1\n", ["4 live in a box of 2 by 2 at column 0, row 0"] * 2 + ["generation 1 is generation 0 again"]),
+            ("0 0\n\n0 0\n", ["0 live", "0 live", "generation 1 is generation 0 again"]),
+            ("0 1\n\n1 1\n", ["1 live in a box of 1 by 1 at column 1, row 0", "2 live in a box of 2 by 1 at column 0, row 0", "no later generation is generation 0 again"]),
+            ("0 1\n", ["1 live in a box of 1 by 1 at column 1, row 0"]),
+        ]:
+            counted = [line if line.startswith(("generation", "no later")) else f"generation {t}: {line}" for t, line in enumerate(wanted)]
+            self.assertEqual(ran("tools/show.py", "--about", text=text), (0, "\n".join(counted) + "\n", ""), text)
+        self.assertEqual(ran("tools/show.py", "--about", text="* 0\n")[:2], (1, ""))
 
 
 class Edits(unittest.TestCase):

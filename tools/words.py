@@ -15,6 +15,8 @@ import re
 import shlex
 import sys
 
+import ending
+
 PROBLEM = ["rule", "edge", "symmetry", "period", "live", "differ"]
 COMMANDS = {
     "check": (["search", "proof"], PROBLEM),
@@ -282,4 +284,4 @@ def main():
 
 
 if __name__ == "__main__":
-    main()
+    ending.run(main, __doc__)
