@@ -4,3 +4,4 @@ pub mod Satisfied
 pub mod Excluded
 pub mod Pushed
 pub mod Obeyed
+pub mod Distinct

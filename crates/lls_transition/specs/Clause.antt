@@ -1,8 +1,10 @@
 -- The clause of a cube of a transition's rows: that some input differs from its bit.
-use Rattle.std.specs.Prelude.{ℕ, ◌-◌, ◌==◌, Bool, true, false, not, List, [], ◌∷◌, ◌++◌, map, Option, None, Some, slice_index_or, if◌then◌else◌}
+use Rattle.std.specs.Prelude.{ℕ, ◌-◌, ◌==◌, Bool, true, false, not, List, [], ◌∷◌, ◌++◌, map, fold, Option, None, Some, slice_index_or, if◌then◌else◌}
 use Rattle.std.specs.Option.{option_map}
-use Rattle.std.specs.List.{filter_map, range_with_len}
+use Rattle.std.specs.List.{filter_map, list_any, range_with_len}
 use Rattle.std.specs.Int.{bit_at}
+use Rattle.std.specs.Ordering.{int_eq}
+use Rattle.std.specs.Cmp.Lexicographic.{pointwise}
 use Rattle.lls_lit.specs.Literal.{negation}
 use Rattle.lls_lit.specs.Formula.{Clause, Cnf}
 use Rattle.lls_rule.specs.Rule.{number_of}
@@ -51,3 +53,11 @@ row_of values inputs = number_of (map (value_of values) inputs)
 -- the formula with these clauses behind its own
 abbrev pub with_clauses : Cnf → List Clause → Cnf
 with_clauses formula clauses = record formula { clauses = formula.clauses ++ clauses }
+
+-- a clause behind others, unless it stands among them
+abbrev pub with_new : List Clause → Clause → List Clause
+with_new clauses clause = if list_any (pointwise int_eq clause) clauses then clauses else clauses ++ clause ∷ []
+
+-- the clauses without those that stood before, in their order
+abbrev pub distinct : List Clause → List Clause
+distinct clauses = fold with_new [] clauses

@@ -2,12 +2,14 @@
 #![tactic(auto)]
 
 mod clause;
+mod once;
 mod place;
 mod push;
 mod table;
 #[cfg(test)]
 mod tests;
 
+pub use once::push_cubes_once;
 pub use place::Place;
 pub use push::{MOST_CLAUSES_EACH, push_cubes, push_transition};
 pub use table::{INPUTS, WORDS, table_of};
