@@ -21,7 +21,6 @@ use Rattle.lls_lit.specs.Formula.{Clause}
 use Rattle.lls_prooflog.specs.UnitWalk.{Live, find_clause, is_among, remaining, at_clause, at_hint, unit_walk}
 use Rattle.lls_prooflog.specs.declared.step_fault.StepFault.{StepFault}
 use Rattle.lls_prooflog.specs.declared.step_fault.StepFault.TheVariants.{IdLive}
-use Rattle.lls_prooflog.specs.declared.step.Step.TheVariants.{Add}
 use Rattle.lls_store.specs.Trail.{Entry, TrailState, has, HasNegated, IsConsistent, place_of}
 use Rattle.lls_store.specs.Clauses.{LiveClause, Literals, IsIn, clause_numbered}
 use Rattle.lls_store.specs.Sound.{IsSound}
