@@ -29,7 +29,7 @@ use Rattle.lls_analyse.proofs.Learned.{member, visited_member, level_known, leve
 
 -- an addition is good where the hints are those of what was visited, and the literals those that are held
 pub good_step : (store : StoreState) (trail : TrailState) (number id : ℕ) (s : VisitedState) (lits hints : List ℤ) → IsTrail trail → AreLive store → IsSound store.live trail → IsConflict store.live trail number → IsNewId store.live id
-    → AreVisited s → (a : IsAnalysed store.live trail number s) → AreHints store.live trail.entries s number hints → ((l : ℤ) → Contains s.lits l → is_held (status s.seen l) ≡ true → Contains lits l) → IsGoodOver store.live (Add id lits hints)
+    → AreVisited s → (a : IsAnalysed store.live trail number s) → AreHints store.live trail.entries s number hints → ((l : ℤ) → Contains s.lits l → is_held (status s.seen l) ≡ true → Contains lits l) → IsGoodOver store.live id lits hints
 good_step store trail number id s lits hints kept live sound conflict new visited a hinted held =
     let c = a.conflict in
     let false_ : (l : ℤ) → IsIn c.lits l → HasNegated trail.entries l = λ l inside. conflict.all_false l (ap (λ (x : LiveClause). set.contains x.lits l) (same_found conflict.clause c conflict.is_live a.is_live) ∙ inside) in
@@ -37,7 +37,7 @@ good_step store trail number id s lits hints kept live sound conflict new visite
     let good = IsGoodOver-places store trail number id c lits hinted.places live sound (consistent_trail trail kept) new a.is_live linked (λ i j d lt within. hinted.ascending i j d (omega (arith, lt)) within) in
     let last : hint_of store.live number ≡ pos c.id = ap (λ (o : Option LiveClause). pos (unwrap_or (option_map (λ (x : LiveClause). x.id) o) 0)) a.is_live in
     let same : hints ≡ map (hint_at store.live trail.entries) hinted.places ++ pos c.id ∷ [] = hinted.gathered ∙ ap (λ h. map (hint_at store.live trail.entries) hinted.places ++ h ∷ []) last in
-    let P : List ℤ → Type 0 = λ hs. IsGoodOver store.live (Add id lits hs) in
+    let P : List ℤ → Type 0 = λ hs. IsGoodOver store.live id lits hs in
     subst P (sym same) good
 
 pub step_in_range : (live : List LiveClause) (trail : TrailState) (number id : ℕ) (s : VisitedState) (lits hints : List ℤ) → IsNewId live id → AreHints live trail.entries s number hints → IsInRange (Add id lits hints)

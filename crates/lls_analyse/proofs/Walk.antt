@@ -21,7 +21,6 @@ use Rattle.lls_lit.specs.Formula.{Clause}
 use Rattle.lls_prooflog.specs.UnitWalk.{Live, find_clause, is_among, remaining, at_clause, at_hint, unit_walk}
 use Rattle.lls_prooflog.specs.declared.step_fault.StepFault.{StepFault}
 use Rattle.lls_prooflog.specs.declared.step_fault.StepFault.TheVariants.{IdLive}
-use Rattle.lls_prooflog.specs.declared.step.Step.TheVariants.{Add}
 use Rattle.lls_store.specs.Trail.{Entry, TrailState, has, HasNegated, IsConsistent, place_of}
 use Rattle.lls_store.specs.Clauses.{LiveClause, Literals, IsIn, clause_numbered}
 use Rattle.lls_store.specs.Sound.{IsSound}
@@ -253,7 +252,7 @@ new_id (c ∷ cs) (p ∷ ps) id spells new =
 pub IsGoodOver-places : (store : StoreState) (trail : TrailState) (number id : ℕ) (conflict : LiveClause) (lits : List ℤ) (places : List ℕ)
     → AreLive store → IsSound store.live trail → IsConsistent trail.entries → IsNewId store.live id → clause_numbered store.live number ≡ Some conflict
     → IsChain store.live trail conflict lits places → AllPairs (λ a b. a ≤ b) places
-    → IsGoodOver store.live (Add id lits (map (hint_at store.live trail.entries) places ++ pos conflict.id ∷ []))
+    → IsGoodOver store.live id lits (map (hint_at store.live trail.entries) places ++ pos conflict.id ∷ [])
 IsGoodOver-places store trail number id conflict lits places are_live sound consistent new found chain sorted = λ pairs spells.
     let hints = map (hint_at store.live trail.entries) places ++ pos conflict.id ∷ [] in
     ap (λ (o : Option Clause). cond (is_some o) (Some (IdLive id)) (unit_walk pairs lits hints)) (new_id store.live pairs id spells new.new)

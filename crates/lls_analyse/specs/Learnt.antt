@@ -52,7 +52,7 @@ IsFreshOver live lits = (pairs : Live) → Spells live pairs → IsFresh (clause
 -- an addition that is good, with hints that are ids
 pub record IsLogged (live : List LiveClause) (id : ℕ) (lits hints : List ℤ) (before after : List Step) : Type 0 where
   pub logged : after ≡ before ++ Add id lits hints ∷ []
-  pub good : IsGoodOver live (Add id lits hints)
+  pub good : IsGoodOver live id lits hints
   pub positive : list_all is_positive hints ≡ true
 
 -- a clause was learnt from a conflict: it stands in the store under the next number, and its step in the log

@@ -1,9 +1,8 @@
 -- The clauses of a store as a proof has them.
-use Rattle.std.specs.Prelude.{◌≡◌, List, [], ◌∷◌}
+use Rattle.std.specs.Prelude.{◌≡◌, ℕ, ℤ, List, [], ◌∷◌}
 use Rattle.std.specs.FinSet as set
 use Rattle.lls_prooflog.specs.UnitWalk.{Live}
-use Rattle.lls_prooflog.specs.Steps.{fault_of}
-use Rattle.lls_prooflog.specs.declared.step.Step.{Step}
+use Rattle.lls_prooflog.specs.Steps.{rup_fault}
 use Rattle.lls_store.specs.Clauses.{LiveClause}
 use Rattle.std.specs.Prelude.{None}
 
@@ -14,6 +13,6 @@ Spells [] (pair ∷ pairs) = ⊥
 Spells (clause ∷ live) [] = ⊥
 Spells (clause ∷ live) (pair ∷ pairs) = (pair.0 ≡ clause.id) × ((set.from_list pair.1 ≡ clause.lits) × Spells live pairs)
 
--- a step that is good, however the store's clauses are spelled
-abbrev pub IsGoodOver : List LiveClause → Step → Type 0
-IsGoodOver live step = (pairs : Live) → Spells live pairs → fault_of pairs step ≡ None
+-- an addition that is good by unit propagation alone, however the store's clauses are spelled
+abbrev pub IsGoodOver : List LiveClause → ℕ → List ℤ → List ℤ → Type 0
+IsGoodOver live id lits hints = (pairs : Live) → Spells live pairs → rup_fault pairs id lits hints ≡ None

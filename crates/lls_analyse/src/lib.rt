@@ -7,6 +7,8 @@ mod clause;
 mod hints;
 mod minimise;
 mod resolve;
+#[cfg(test)]
+mod tests;
 mod visited;
 
 pub use analyser::{Analyser, Learnt};

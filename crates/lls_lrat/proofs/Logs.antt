@@ -1,5 +1,5 @@
 -- What a log amounts to: as its text does, and accepted exactly where its steps are.
-use Rattle.std.proofs.Common.{◌≡◌, ℕ, ◌+◌, true, false, cond, List, [], ◌∷◌, map, Option, Some, None, is_none, refl, ap, ◌∙◌}
+use Rattle.std.proofs.Common.{◌≡◌, ℕ, ◌+◌, true, false, cond, List, [], ◌∷◌, map, Option, Some, None, is_none, refl, sym, ap, ◌∙◌}
 use Rattle.std.specs.Prelude.{Ok, Result, fold, ◌||◌}
 use Rattle.lls_text.specs.Lines.{lines_of}
 use Rattle.lls_lit.specs.Formula.{Cnf}
@@ -8,7 +8,7 @@ use Rattle.lls_prooflog.specs.declared.line_fault.LineFault.{LineFault}
 use Rattle.lls_prooflog.specs.Line.{step_of_line}
 use Rattle.lls_prooflog.specs.Log.{ReadsAs}
 use Rattle.lls_prooflog.specs.Steps.{Live, numbered, fault_of, after, is_empty_addition, are_accepted}
-use Rattle.lls_lrat.specs.Verdict.{Verdict, Accepted, State, start, after_step, after_reading, line_taken, take_line, step_taken, take_step, closing, verdict, log_verdict}
+use Rattle.lls_lrat.specs.Verdict.{Verdict, Accepted, BadLine, BadStep, NoEmpty, State, start, after_step, after_reading, line_taken, take_line, step_taken, take_step, closing, verdict, log_verdict, answer_of}
 use Rattle.lls_lrat.proofs.Verdicts.{step_taken-ended, fold-ended}
 
 -- a line takes the state where the step does that it writes
@@ -55,3 +55,33 @@ accepted-from (step ∷ steps) live lines e =
 
 pub accepted_log : (formula : Cnf) (steps : List Step) → are_accepted (numbered formula.clauses) steps ≡ true → log_verdict formula steps ≡ Accepted
 accepted_log formula steps e = ap closing (accepted-from steps (numbered formula.clauses) 0 e)
+
+-- no other steps end so
+pub accepted-only : (steps : List Step) (live : Live) (lines : ℕ) → (fold step_taken (going live lines) steps).end ≡ Some Accepted → are_accepted live steps ≡ true
+accepted-only [] live lines e = absurd cc
+accepted-only (step ∷ steps) live lines e =
+    elim (fault_of live step) as (λ f. fault_of live step ≡ f → (fold step_taken (after_step (going live lines) step f) steps).end ≡ Some Accepted → cond (is_none f) (is_empty_addition step || are_accepted (after live step) steps) false ≡ true) [
+      | Some fault ↦ λ is good.
+          let bad = after_step (going live lines) step (Some fault) in
+          let stays = ap (λ (s : State). s.end) (fold-ended step_taken step_taken-ended bad (BadStep (lines + 1) fault) steps refl) in
+          let apart : Some (BadStep (lines + 1) fault) ≡ Some Accepted = sym stays ∙ good in
+          absurd cc
+      | None ↦ λ is good.
+          elim (is_empty_addition step) as (λ b. (fold step_taken (record { live = after live step; lines = lines + 1; end = cond b (Some Accepted) None }) steps).end ≡ Some Accepted → (b || are_accepted (after live step) steps) ≡ true) [
+            | true ↦ λ _. refl
+            | false ↦ λ more. accepted-only steps (after live step) (lines + 1) more
+          ] good
+    ] refl e
+
+closes : (end : Option Verdict) → closing end ≡ Accepted → end ≡ Some Accepted
+closes None e = absurd cc
+closes (Some verdict) e = ap Some e
+
+pub accepted_answer : (verdict : Verdict) → answer_of verdict ≡ Ok tt → verdict ≡ Accepted
+accepted_answer Accepted e = refl
+accepted_answer (BadLine number fault) e = absurd cc
+accepted_answer (BadStep number fault) e = absurd cc
+accepted_answer NoEmpty e = absurd cc
+
+pub log_accepted : (formula : Cnf) (steps : List Step) → log_verdict formula steps ≡ Accepted → are_accepted (numbered formula.clauses) steps ≡ true
+log_accepted formula steps e = accepted-only steps (numbered formula.clauses) 0 (closes (fold step_taken (start formula) steps).end e)

@@ -18,14 +18,16 @@ use std::alloc::Global;
 
 /// Checks that a log is an accepted proof, as `check_bytes` does with its text, which isn't made. The line of a fault is the
 /// number of its step, from 1.
-#[tactic(auto, using(crate::proofs::Logs::accepted_log, crate::proofs::Logs::verdict_of_lines))]
+#[tactic(auto, using(crate::proofs::Logs::accepted_log, crate::proofs::Logs::log_accepted, crate::proofs::Logs::verdict_of_lines))]
 pub fn check<'f>(alloc: Global, formula: &'f Formula, log: &Log) -> Result<Checked<'f>, CheckError>
     ensures exact { Gives CheckError.Memory (λ _. tt) result (answer_of (log_verdict formula.now log.now.steps)) }
     ensures formula { IfOk result (λ checked. checked ≡ formula.now) }
     ensures sound { OnOk result (IsUnsatisfiable formula.now) }
 
-    // An accepted log is accepted, and so is its text, or any text whose lines are read as its steps.
+    // It is Ok where the steps are accepted, and nowhere else. So is the check of the log's text, or of any text whose lines are
+    // read as its steps.
     ensures accepts { are_accepted (numbered formula.now.clauses) log.now.steps ≡ true → log_verdict formula.now log.now.steps ≡ Accepted }
+    ensures accepted { OnOk result (are_accepted (numbered formula.now.clauses) log.now.steps ≡ true) }
     ensures text { (text : List ℕ) → ReadsAs text log.now.steps → verdict formula.now text ≡ log_verdict formula.now log.now.steps }
 {
     let mut checker = Checker::new(alloc, formula)?;

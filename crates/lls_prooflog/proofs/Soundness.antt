@@ -14,7 +14,7 @@ use Rattle.lls_prooflog.specs.declared.step_fault.StepFault.{StepFault}
 use Rattle.lls_prooflog.specs.declared.step_fault.StepFault.TheVariants.{IdLive, NotUnit}
 use Rattle.lls_prooflog.specs.UnitWalk.{Live, find_clause, is_among, remaining, at_clause, at_hint, unit_walk}
 use Rattle.lls_prooflog.proofs.LiteralLists.{passes_among, any_kept, true_alone}
-use Rattle.lls_prooflog.specs.Steps.{numbered, fault_of, after, is_empty_addition, are_accepted, clauses_of, AreSatisfiable, KeepsSatisfiable}
+use Rattle.lls_prooflog.specs.Steps.{numbered, rup_fault, fault_of, after, is_empty_addition, are_accepted, clauses_of, AreSatisfiable, KeepsSatisfiable}
 
 -- every one of these literals is false
 abbrev pub are_false : List Bool → List ℤ → Bool
@@ -88,8 +88,12 @@ kept_satisfied values keep (pair ∷ rest) all =
       | false ↦ others
     ]
 
--- a good addition's hints lead to a conflict
-pub walk_is_good : (live : Live) (id : ℕ) (lits hints : List ℤ) → fault_of live (Add id lits hints) ≡ None → unit_walk live lits hints ≡ None
+-- an addition that is good by unit propagation alone is good
+pub good_by_propagation : (live : Live) (id : ℕ) (lits hints : List ℤ) → rup_fault live id lits hints ≡ None → fault_of live (Add id lits hints) ≡ None
+good_by_propagation live id lits hints good = good
+
+-- and its hints lead to a conflict
+pub walk_is_good : (live : Live) (id : ℕ) (lits hints : List ℤ) → rup_fault live id lits hints ≡ None → unit_walk live lits hints ≡ None
 walk_is_good live id lits hints e =
     elim (is_some (find_clause live id)) as (λ b. cond b (Some (IdLive id)) (unit_walk live lits hints) ≡ None → unit_walk live lits hints ≡ None) [
       | true ↦ λ h. absurd cc

@@ -1,5 +1,5 @@
 -- Good steps, the clauses that are live after a step, and accepted proofs.
-use Rattle.std.specs.Prelude.{◌≡◌, Bool, true, false, not, ◌||◌, List, [], ◌∷◌, ◌++◌, map, length, Option, Some, None, is_some, is_none, filter, if◌then◌else◌, ◌==◌}
+use Rattle.std.specs.Prelude.{◌≡◌, ℕ, ℤ, Bool, true, false, not, ◌||◌, List, [], ◌∷◌, ◌++◌, map, length, Option, Some, None, is_some, is_none, filter, if◌then◌else◌, ◌==◌}
 use Rattle.std.specs.List.{list_any}
 use Rattle.lls_prooflog.specs.declared.step.Step.{Step}
 use Rattle.lls_prooflog.specs.declared.step.Step.TheVariants.{Add, Del}
@@ -8,9 +8,13 @@ use Rattle.lls_prooflog.specs.declared.step_fault.StepFault.TheVariants.{IdLive}
 use Rattle.lls_lit.specs.Formula.{Clause, Cnf, satisfies}
 pub use Rattle.lls_prooflog.specs.UnitWalk.{Live, numbered, find_clause, unit_walk}
 
+-- what is wrong with an addition by unit propagation alone: None where its id is new and its hints lead to a conflict
+abbrev pub rup_fault : Live → ℕ → List ℤ → List ℤ → Option StepFault
+rup_fault live id lits hints = if is_some (find_clause live id) then Some (IdLive id) else unit_walk live lits hints
+
 -- what is wrong with a step: None where it is good. Every deletion is
 abbrev pub fault_of : Live → Step → Option StepFault
-fault_of live (Add id lits hints) = if is_some (find_clause live id) then Some (IdLive id) else unit_walk live lits hints
+fault_of live (Add id lits hints) = rup_fault live id lits hints
 fault_of live (Del ids) = None
 
 -- the live clauses after a good step

@@ -2,6 +2,7 @@ use Rattle.std.proofs.Common.{◌≡◌, ◌+◌, ◌++◌, ◌∷◌, [], ℕ, 
 use Rattle.std.specs.Prelude.{count_by, IsSome}
 use Rattle.lls_lit.specs.Formula.{is_within}
 use Rattle.lls_prooflog.specs.UnitWalk.{Live}
+use Rattle.lls_prooflog.proofs.Soundness.{good_by_propagation}
 use Rattle.lls_prooflog.specs.Spent.{live_after, is_addition}
 use Rattle.lls_prooflog.specs.declared.step.Step.{Step}
 use Rattle.lls_prooflog.specs.declared.step.Step.TheVariants.{Add}
@@ -90,7 +91,7 @@ returns-clause-searching g c =
     let more : HoldsClauses (sealed (record middle { tail = learns.lits }) id) formula.vars (live_after formula (steps ++ step ∷ [])) =
     subst (λ (ps : Live). HoldsClauses (sealed (record middle { tail = learns.lits }) id) formula.vars ps) (sym (live_after-push formula steps step)) (holds_sealed middle formula.vars (live_after formula steps) id learns.lits holds next)
     in
-    let good = learns.step.good (live_after formula steps) holds.spelled in
+    let good = good_by_propagation (live_after formula steps) id learns.lits learns.hints (learns.step.good (live_after formula steps) holds.spelled) in
     let t = c.args.course.now.trail in
     let back = c.learn-learnt.result.back in
     let closed = closed_below_kept old middle t (sym c.in_ok-reserve_conflict.ensures.state) h.closed_below in

@@ -1,6 +1,7 @@
 use Rattle.std.proofs.Common.{◌≡◌, ◌+◌, ◌++◌, ◌∷◌, [], List, length, sym, ap, ◌∙◌, subst, arith}
 use Rattle.std.specs.Prelude.{count_by}
 use Rattle.lls_prooflog.specs.Spent.{live_after, is_addition}
+use Rattle.lls_prooflog.proofs.Soundness.{good_by_propagation}
 use Rattle.lls_prooflog.specs.declared.step.Step.{Step}
 use Rattle.lls_prooflog.specs.declared.step.Step.TheVariants.{Add}
 use Rattle.lls_store.specs.Store.{StoreState, IsNewId}
@@ -34,7 +35,7 @@ returns-clause-refutation g c =
     let refutes = c.refute.ensures.refutes in
     let id = c.len.result + c.additions.result + 1 in
     let spelled = subst (λ (s : StoreState). Spells s.live (live_after formula steps)) (sym c.in_ok-reserve_conflict.ensures.state) h.holds.spelled in
-    let good = refutes.step.good (live_after formula steps) spelled in
+    let good = good_by_propagation (live_after formula steps) id [] refutes.hints (refutes.step.good (live_after formula steps) spelled) in
     let count : c.additions.result ≡ count_by is_addition steps = c.additions.ensures ∙ ap (count_by is_addition) same in
     let next : length formula.clauses + 1 + length steps ≡ id = omega (arith, c.len.ensures.len, count, count-additions steps h.log.additions) in
     λ budget within. subst (IsRefutation formula budget) (sym (refutes.step.logged ∙ ap (λ (ss : List Step). ss ++ Add id [] refutes.hints ∷ []) same))
