@@ -15,7 +15,7 @@ use Rattle.lls_cli.specs.Moment.{ShelfMoment, files_at}
 use Rattle.lls_cli.specs.Ends.{WroteFile, LeavesPart, with_file}
 use Rattle.lls_cli.specs.Claims.{ChangesOnly}
 
-option_map-none : (files : Option Files) → option_map (with_file None) files ≡ files
+pub option_map-none : (files : Option Files) → option_map (with_file None) files ≡ files
 option_map-none None = refl
 option_map-none (Some files) = refl
 

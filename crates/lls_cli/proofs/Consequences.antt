@@ -31,16 +31,7 @@ use Rattle.lls_cli.specs.Question.{Question, question_of, Asks}
 use Rattle.lls_cli.specs.Moment.{ShelfMoment, SinkMoment, Moment, with_shelf, files_at}
 use Rattle.lls_cli.specs.Ends.{LacksMemory, FileFailed, WroteFile, IsDecided, with_file, End, refused, lacked, input_failed, ahead_failed, answered, file_failed, output_failed, IsEndOf, IsEndBehind, Ends, ahead_of, IsEnd}
 use Rattle.lls_cli.proofs.Behind.{answer_of, WroteAhead, ahead_faults, lacking}
-use Rattle.lls_cli.specs.Claims.{OfQuestion, IsSilent, IsAnswered, MissesFile, HasCause, NothingFailed, CountsNeverFall}
-
--- the statuses of faults
-abbrev IsFaultStatus : Status → Type 0
-IsFaultStatus statuses.Words = Unit {0}
-IsFaultStatus statuses.Content = Unit {0}
-IsFaultStatus statuses.Outside = Unit {0}
-IsFaultStatus statuses.Memory = Unit {0}
-IsFaultStatus statuses.Limit = Unit {0}
-IsFaultStatus status = ⊥
+use Rattle.lls_cli.specs.Claims.{OfQuestion, IsSilent, IsAnswered, IsFaultStatus, MissesFile, HasCause, NothingFailed, CountsNeverFall}
 
 words_status-is : (error : WordsError) → IsFaultStatus (words_status error)
 words_status-is words.Memory = tt
@@ -138,7 +129,7 @@ status_of-is (faults.TooLong limit) = tt
 status_of-is faults.Memory = tt
 
 -- an answer's status is no fault's
-no_fault_status : (status : Status) → IsFaultStatus status → IsAnswered status → ⊥
+pub no_fault_status : (status : Status) → IsFaultStatus status → IsAnswered status → ⊥
 no_fault_status statuses.Done is given = is
 no_fault_status statuses.Refused is given = is
 no_fault_status statuses.Pattern is given = is
@@ -192,7 +183,7 @@ holds_status question statuses.Outside holds = absurd holds
 holds_status question statuses.Memory holds = absurd holds
 holds_status question statuses.Limit holds = absurd holds
 
-is_answered : (question : Question) (answer : GivenAnswer) (status : Status) → IsAnswer question answer → status ≡ answer.status → IsAnswered status
+pub is_answered : (question : Question) (answer : GivenAnswer) (status : Status) → IsAnswer question answer → status ≡ answer.status → IsAnswered status
 is_answered question answer status right is = subst IsAnswered (sym is) (holds_status question answer.status right.holds)
 
 silent_answered : (status : Status) → IsAnswered status → IsSilent status → ⊥
@@ -301,12 +292,12 @@ words_all (Err error) before after status (answered answer, ended) is = absurd e
 words_all (Err error) before after status (file_failed answer fault, ended) is = absurd ended
 words_all (Err error) before after status (output_failed answer, ended) is = absurd ended
 
-of_question : (Fact : Question → Type 0) (job : Job) (files : Option Files) (question : Question) → Asks job files (Ok question) → Fact question → OfQuestion Fact (Ok job) files
-of_question Fact job None question asked fact = tt
+pub of_question : (Fact : Question → Type 0) (job : Job) (files : Option Files) (question : Question) → Asks job files (Ok question) → Fact question → OfQuestion Fact (Ok job) files
+of_question Fact job None question asked fact = (question, asked, fact)
 of_question Fact job (Some files) question asked fact = (question, asks-question_of job files (Ok question) asked, fact)
 
 pub of_this : (Fact : Question → Type 0) (question : Question) (job : Result Job WordsError) (files : Option Files) → OfQuestion (λ q. question ≡ q) job files → Fact question → OfQuestion Fact job files
-of_this Fact question (Ok job) None asked fact = tt
+of_this Fact question (Ok job) None asked fact = (asked.0, asked.1, subst Fact asked.2 fact)
 of_this Fact question (Ok job) (Some files) asked fact = (asked.0, asked.1, subst Fact asked.2 fact)
 of_this Fact question (Err error) files asked fact = absurd asked
 

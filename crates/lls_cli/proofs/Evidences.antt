@@ -69,7 +69,7 @@ judge_evidence (judgements.Population t n) = record { none = refl; unlogged = λ
 judge_evidence judgements.Same = record { none = refl; unlogged = λ logged. logged }
 
 finding_evidence : (problem : PosedProblem) (effort : Effort) (rle : Bool) (answer : GivenAnswer) → IsFinding problem effort rle answer → Evidence (Some (formula_of problem, effort)) answer
-finding_evidence problem effort rle _ (found history is) = inl (record { none = refl; unlogged = λ logged. logged })
+finding_evidence problem effort rle _ (found history is law) = inl (record { none = refl; unlogged = λ logged. logged })
 finding_evidence problem effort rle _ (absent file proof) = inr (record { file = file; file_is = refl; named = named_by effort proof.steps file proof.log; logged = tt; has = proof })
 finding_evidence problem effort rle _ (undecided file log) = inr (record { file = file; file_is = refl; named = named_by effort log.steps file log.log; logged = tt; has = log })
 

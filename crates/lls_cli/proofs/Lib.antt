@@ -15,3 +15,6 @@ pub mod Searches
 pub mod Makings
 pub mod Apart
 pub mod Published
+pub mod Limits
+pub mod Why
+pub mod Begun

@@ -16,8 +16,7 @@ use Rattle.lls_cli.specs.declared.status.Status.{Status}
 use Rattle.lls_cli.specs.declared.status.Status.TheVariants as statuses
 use Rattle.lls_cli.specs.declared.fault.Fault.{Fault}
 use Rattle.lls_cli.specs.declared.fault.Fault.TheVariants as faults
-use Rattle.lls_cli.specs.declared.input.TheConstants.{SEARCH_LIMIT, PROOF_LIMIT}
-use Rattle.lls_cli.specs.Question.{Question, Effort, checks, searches, check_question, effort_of, input_from, input_of, problem_in}
+use Rattle.lls_cli.specs.Question.{Question, Effort, checks, searches, check_question, effort_of, input_from, input_of, problem_in, proof_limit, search_limit}
 use Rattle.lls_cli.specs.Evidence.{HasProof}
 use Rattle.lls_cli.specs.Answer.{IsNowhere}
 use Rattle.lls_cli.specs.Claims.{OfQuestion, Leaves, ChangesOnly, Publishes, log_at, outputs_of_words}
@@ -32,11 +31,11 @@ input_within files name bytes limit found fits =
 -- the problem that a search asked of, and that it has the words' log
 pub record Asked (search_file proof : List ℕ) (rule : List Bool) (demands : Demands) (files : Files) (question : Question) (effort : Effort) (rle : Bool) : Type 0 where
   pub problem : PosedProblem
-  pub made : and_then (input_of files search_file SEARCH_LIMIT) (problem_in rule demands) ≡ Ok problem
+  pub made : and_then (input_of files search_file search_limit) (problem_in rule demands) ≡ Ok problem
   pub question_is : question ≡ searches problem effort rle
 
 asked_of : (search_file proof : List ℕ) (rule : List Bool) (demands : Demands) (files : Files) (question : Question) (effort : Effort) (rle : Bool) (part : Result PosedProblem Fault)
-    → part ≡ and_then (input_of files search_file SEARCH_LIMIT) (problem_in rule demands) → and_then part (λ problem. Ok (searches problem effort rle)) ≡ Ok question
+    → part ≡ and_then (input_of files search_file search_limit) (problem_in rule demands) → and_then part (λ problem. Ok (searches problem effort rle)) ≡ Ok question
     → Asked search_file proof rule demands files question effort rle
 asked_of search_file proof rule demands files question effort rle (Ok problem) is asks = record { problem = problem; made = sym is; question_is = cc }
 asked_of search_file proof rule demands files question effort rle (Err fault) is asks = absurd cc
@@ -48,7 +47,7 @@ search_publishes : (search_file proof : List ℕ) (rule : List Bool) (demands : 
     → Publishes (Ok (jobs.Search search_file proof rule demands budget keep_all rle)) (Some before) (Some after)
 search_publishes search_file proof rule demands budget keep_all rle before after apart nowhere leaves only =
     let effort = effort_of budget keep_all proof in
-    let asked = asked_of search_file proof rule demands before leaves.0 effort rle (and_then (input_of before search_file SEARCH_LIMIT) (problem_in rule demands)) refl leaves.1 in
+    let asked = asked_of search_file proof rule demands before leaves.0 effort rle (and_then (input_of before search_file search_limit) (problem_in rule demands)) refl leaves.1 in
     let problem = asked.problem in
     let file = subst (Leaves HasProof (Some after)) asked.question_is leaves.2 in
     let bytes = file.0 in
@@ -62,9 +61,9 @@ search_publishes search_file proof rule demands budget keep_all rle before after
       file.1,
       (
           λ fits.
-          ap (λ first. check_question rule demands first (input_of after proof PROOF_LIMIT)) (ap (input_from SEARCH_LIMIT) same)
-          ∙ ap (λ part. and_then part (λ p. and_then (input_of after proof PROOF_LIMIT) (λ text. Ok (checks p text)))) asked.made
-          ∙ ap (λ second. and_then second (λ text. Ok (checks problem text))) (input_within after proof bytes PROOF_LIMIT file.1 fits)
+          ap (λ first. check_question rule demands first (input_of after proof proof_limit)) (ap (input_from search_limit) same)
+          ∙ ap (λ part. and_then part (λ p. and_then (input_of after proof proof_limit) (λ text. Ok (checks p text)))) asked.made
+          ∙ ap (λ second. and_then second (λ text. Ok (checks problem text))) (input_within after proof bytes proof_limit file.1 fits)
           ),
       (file.2.accepted, none),
     )

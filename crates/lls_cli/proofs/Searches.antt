@@ -73,7 +73,8 @@ unknown_answer formula effort steps file answer named exhausted is =
 pub found_answer : (problem : PosedProblem) (effort : Effort) (rle : Bool) (history : History) (answer : GivenAnswer) → IsSolution problem history
     → answer ≡ shown statuses.Pattern (pattern_text rle problem.rule history) → IsAnswer (searches problem effort rle) answer
 found_answer problem effort rle history answer solution is =
-    subst (IsAnswer (searches problem effort rle)) (sym is) (record { answers = found history solution; holds = (history, solution, plane_law problem history solution) })
+    let law = plane_law problem history solution in
+    subst (IsAnswer (searches problem effort rle)) (sym is) (record { answers = found history solution law; holds = (history, solution, law) })
 
 pub absent_answer : (problem : PosedProblem) (effort : Effort) (rle : Bool) (steps : List Step) (file : NamedFile) → file ≡ record { name = effort.proof; bytes = log_text steps }
     → IsRefutation (formula_of problem) effort.budget steps → verdict (formula_of problem) file.bytes ≡ Accepted → IsAbsent problem → IsAnswer (searches problem effort rle) (none_behind file)

@@ -70,9 +70,9 @@ no_pattern = codes "no pattern\n"
 abbrev pub none_behind : NamedFile → GivenAnswer
 none_behind file = record { status = statuses.NoPattern; text = no_pattern; file = Some file }
 
--- how the search of a problem ends: with a solution, or with a proof or a spent log of its formula in the file
+-- how the search of a problem ends: with a solution, which keeps the rule on the whole plane where it has to, or with a proof or a spent log of its formula in the file
 pub data IsFinding (problem : PosedProblem) (effort : Effort) (rle : Bool) : GivenAnswer → Type 0 where
-  found : (history : History) → IsSolution problem history
+  found : (history : History) → IsSolution problem history → PlaneLaw problem history
       → IsFinding problem effort rle (shown statuses.Pattern (pattern_text rle problem.rule history))
   absent : (file : NamedFile) → HasProof (formula_of problem) effort file
       → IsFinding problem effort rle (none_behind file)

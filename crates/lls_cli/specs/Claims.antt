@@ -1,5 +1,5 @@
 -- What a run's end says in plain sentences. Each follows from how the run ends.
-use Rattle.std.specs.Prelude.{◌≡◌, ◌≢◌, ◌≤◌, ◌⊎◌, ℕ, List, [], ◌∷◌, ◌++◌, length, All, Option, None, Some, Result, Ok, Err}
+use Rattle.std.specs.Prelude.{◌≡◌, ◌≢◌, ◌≤◌, ◌⊎◌, ℕ, List, [], ◌∷◌, ◌++◌, length, take, All, Option, None, Some, Result, Ok, Err}
 use Rattle.std.specs.FinMap as map
 use Rattle.std.specs.Option.{option_map}
 use Rattle.lls_base.specs.Faults.{Rose}
@@ -10,21 +10,24 @@ use Rattle.lls_encode.specs.Formula.{formula_of}
 use Rattle.lls_gen.specs.Made.{made_problem}
 use Rattle.lls_words.specs.declared.job.Job.{Job}
 use Rattle.lls_words.specs.declared.job.Job.TheVariants as jobs
+use Rattle.lls_cli.specs.declared.fault.Fault.{Fault}
 use Rattle.lls_cli.specs.declared.fault.Fault.TheVariants as faults
 use Rattle.lls_cli.specs.declared.fault.OutsideFault.TheVariants as outside
 use Rattle.lls_cli.specs.declared.status.Status.{Status}
 use Rattle.lls_cli.specs.declared.status.Status.TheVariants as statuses
-use Rattle.lls_cli.specs.Question.{Question, Effort, checks, searches, decides, makes, question_of}
+use Rattle.lls_cli.specs.Question.{Question, Effort, checks, searches, decides, makes, proof_limit, question_of, Asks}
 use Rattle.lls_cli.specs.Evidence.{NamedFile}
-use Rattle.lls_cli.specs.Answer.{Holds, YesHolds}
-use Rattle.lls_cli.specs.declared.input.TheConstants.{PROOF_LIMIT}
+use Rattle.lls_cli.specs.Fault.{fault_line, status_of}
+use Rattle.lls_cli.specs.Ends.{GrewBy, ahead_of, with_file}
+use Rattle.lls_cli.specs.Answer.{GivenAnswer, Holds, IsAnswer, YesHolds}
 use Rattle.lls_problem.specs.Problem.{PosedProblem}
-use Rattle.lls_cli.specs.Moment.{Moment, files_at}
+use Rattle.lls_cli.specs.Moment.{SinkMoment, Moment, files_at}
 
--- a fact of the question that words and files ask, where the shelf tells its files
+-- a fact of the question that words and files ask. Where the shelf doesn't tell its files, it is a question that the words ask of
+-- some bytes for each input, which the system gave
 abbrev pub OfQuestion : (Question → Type 0) → Result Job WordsError → Option Files → Type 0
 OfQuestion Fact (Ok job) (Some files) = (question : Question) × (question_of job files ≡ Ok question) × Fact question
-OfQuestion Fact (Ok job) None = Unit {0}
+OfQuestion Fact (Ok job) None = (question : Question) × Asks job None (Ok question) × Fact question
 OfQuestion Fact (Err error) files = ⊥
 
 -- the statuses at which the standard output has nothing new
@@ -43,6 +46,19 @@ IsAnswered statuses.Pattern = Unit {0}
 IsAnswered statuses.NoPattern = Unit {0}
 IsAnswered statuses.Undecided = Unit {0}
 IsAnswered status = ⊥
+
+-- the statuses of faults
+abbrev pub IsFaultStatus : Status → Type 0
+IsFaultStatus statuses.Words = Unit {0}
+IsFaultStatus statuses.Content = Unit {0}
+IsFaultStatus statuses.Outside = Unit {0}
+IsFaultStatus statuses.Memory = Unit {0}
+IsFaultStatus statuses.Limit = Unit {0}
+IsFaultStatus status = ⊥
+
+-- the standard error says why: it grew by the line of a fault of this status, or by first bytes of it where it failed itself
+abbrev pub SaysWhy : Status → SinkMoment → SinkMoment → Type 0
+SaysWhy status before after = (fault : Fault) × (status ≡ status_of fault) × GrewBy (fault_line fault) before after
 
 -- the file of a proof or a log, at the statuses at which it may have changed
 abbrev pub log_at : Status → List ℕ → List (List ℕ)
@@ -76,6 +92,22 @@ ChangesOnly [] before after = after ≡ before
 ChangesOnly (name ∷ names) before after =
     (other : List ℕ) → All (λ changed. other ≢ changed) (name ∷ names) → option_map (λ files. map.get files other) after ≡ option_map (λ files. map.get files other) before
 
+-- a file that wasn't written, or not whole: no file changed, or its name stands for first bytes of its text, perhaps none
+abbrev pub IsBegun : Option NamedFile → Option Files → Option Files → Type 0
+IsBegun None before after = after ≡ before
+IsBegun (Some file) before after =
+    (after ≡ before) ⊎ ((n : ℕ) × (after ≡ option_map (λ files. map.insert files file.name (take n file.bytes)) before))
+
+-- the file that a question writes ahead was begun, or it stands whole and the file of a right answer was begun
+abbrev pub IsBegunFor : Option Files → Option Files → Question → Type 0
+IsBegunFor before after question =
+    IsBegun (ahead_of question) before after
+    ⊎ ((answer : GivenAnswer) × IsAnswer question answer × IsBegun answer.file (option_map (with_file (ahead_of question)) before) after)
+
+-- what a failure of the outside leaves: the files as they were, or those of a question that is asked, begun
+abbrev pub LeavesBegun : Result Job WordsError → Option Files → Option Files → Type 0
+LeavesBegun job before after = (after ≡ before) ⊎ OfQuestion (IsBegunFor before after) job before
+
 -- a fact of the file that a name stands for
 abbrev pub OfFile : (NamedFile → Type 0) → List ℕ → Option Files → Type 0
 OfFile Fact name None = Unit {0}
@@ -98,7 +130,7 @@ StandsIn files file = Unit {0}
 abbrev pub Publishes : Result Job WordsError → Option Files → Option Files → Type 0
 Publishes (Ok (jobs.Search search_file proof rule demands budget keep_all rle)) (Some before) (Some after) =
     (problem : PosedProblem) × (bytes : List ℕ) × (map.get after proof ≡ Some bytes)
-    × (length bytes ≤ PROOF_LIMIT → question_of (jobs.Check search_file proof rule demands) after ≡ Ok (checks problem bytes))
+    × (length bytes ≤ proof_limit → question_of (jobs.Check search_file proof rule demands) after ≡ Ok (checks problem bytes))
     × YesHolds (checks problem bytes)
 Publishes job before after = Unit {0}
 

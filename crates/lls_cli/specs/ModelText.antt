@@ -3,15 +3,18 @@
 use Rattle.std.specs.Prelude.{ℕ, ◌+◌, ◌%◌, ◌==◌, ◌&&◌, ℤ, pos, nat_lt, Bool, List, [], ◌∷◌, ◌++◌, codes, if◌then◌else◌}
 use Rattle.std.specs.Fmt.{signed_decimal}
 use Rattle.lls_lit.specs.Literal.{negation}
-use Rattle.lls_cli.specs.declared.model.TheConstants.{NUMBERS_A_LINE}
 
 -- the literal of the variable n + 1 that is true where the variable has this value
 abbrev pub true_literal : ℕ → Bool → ℤ
 true_literal n value = if value then pos (n + 1) else negation (pos (n + 1))
 
+-- how many numbers a line holds
+abbrev pub numbers_a_line : ℕ
+numbers_a_line = 10
+
 -- a full line ends before the next number
 abbrev pub line_break : ℕ → List ℕ
-line_break n = if nat_lt 0 n && n % NUMBERS_A_LINE == 0 then codes "\nv" else []
+line_break n = if nat_lt 0 n && n % numbers_a_line == 0 then codes "\nv" else []
 
 -- the number behind n others
 abbrev pub number_text : ℕ → ℤ → List ℕ

@@ -6,7 +6,6 @@ use Rattle.lls_base.specs.Results.{and_then}
 use Rattle.lls_base.specs.Shelf.{Files}
 use Rattle.lls_lit.specs.Formula.{Cnf}
 use Rattle.lls_cnf.specs.declared.dimacs_error.DimacsError.{DimacsError}
-use Rattle.lls_cnf.specs.declared.read.TheConstants.{MOST_DIMACS_BYTES}
 use Rattle.lls_cnf.specs.Dimacs.{dimacs}
 use Rattle.lls_grid.specs.History.{History}
 use Rattle.lls_grid.specs.Evolution.{evolution}
@@ -21,13 +20,12 @@ use Rattle.lls_search_file.specs.Plain.{plain_of}
 use Rattle.lls_problem.specs.declared.demands.Demands.{Demands}
 use Rattle.lls_problem.specs.declared.demands.DemandError.{DemandError}
 use Rattle.lls_problem.specs.Problem.{PosedProblem, problem_made}
-use Rattle.lls_words.specs.declared.values.TheConstants.{DEFAULT_BUDGET}
+use Rattle.lls_words.specs.Values.{default_budget}
 use Rattle.lls_words.specs.declared.job.Job.{Job}
 use Rattle.lls_words.specs.declared.job.Job.TheVariants as jobs
 use Rattle.lls_cli.specs.declared.fault.Fault.{Fault}
 use Rattle.lls_cli.specs.declared.fault.Fault.TheVariants as faults
 use Rattle.lls_cli.specs.declared.fault.OutsideFault.TheVariants as outside
-use Rattle.lls_cli.specs.declared.input.TheConstants.{SEARCH_LIMIT, PROOF_LIMIT}
 
 -- how a search is made: how many clauses it may learn, whether it keeps all of them, and the name of the file of its log
 pub record Effort : Type 0 where
@@ -48,6 +46,16 @@ pub data Question : Type 0 where
   encodes : PosedProblem → Question
   prints : List Bool → Question
   makes : ℕ → ℕ → List ℕ → Effort → Question
+
+-- how many bytes an input has at most: a search file or a pattern; a proof; a formula
+abbrev pub search_limit : ℕ
+search_limit = 1048576
+
+abbrev pub proof_limit : ℕ
+proof_limit = 1073741824
+
+abbrev pub formula_limit : ℕ
+formula_limit = 536870912
 
 -- the bytes of an input of at most `limit` bytes
 abbrev pub input_from : ℕ → Option (List ℕ) → Result (List ℕ) Fault
@@ -128,7 +136,7 @@ effort_of budget keep_all proof = record { budget = budget; keep_all = keep_all;
 
 -- how a search is made whose words say nothing of it
 abbrev pub default_effort : List ℕ → Effort
-default_effort proof = effort_of DEFAULT_BUDGET false proof
+default_effort proof = effort_of default_budget false proof
 
 abbrev pub encode_question : List Bool → Demands → Result (List ℕ) Fault → Result Question Fault
 encode_question rule demands input = and_then (and_then input (problem_in rule demands)) (λ problem. Ok (encodes problem))
@@ -136,15 +144,15 @@ encode_question rule demands input = and_then (and_then input (problem_in rule d
 -- what a job asks of these files, or the first refusal
 abbrev pub question_of : Job → Files → Result Question Fault
 question_of (jobs.Check search_file proof rule demands) files =
-    check_question rule demands (input_of files search_file SEARCH_LIMIT) (input_of files proof PROOF_LIMIT)
+    check_question rule demands (input_of files search_file search_limit) (input_of files proof proof_limit)
 question_of (jobs.Judge search_file pattern rule demands rle) files =
-    judge_question rule demands rle (input_of files search_file SEARCH_LIMIT) (input_of files pattern SEARCH_LIMIT)
+    judge_question rule demands rle (input_of files search_file search_limit) (input_of files pattern search_limit)
 question_of (jobs.Search search_file proof rule demands budget keep_all rle) files =
-    search_question rule demands (effort_of budget keep_all proof) rle (input_of files search_file SEARCH_LIMIT)
-question_of (jobs.Sat formula proof budget keep_all) files = decide_question (effort_of budget keep_all proof) (input_of files formula MOST_DIMACS_BYTES)
-question_of (jobs.Cnf search_file rule demands) files = encode_question rule demands (input_of files search_file SEARCH_LIMIT)
+    search_question rule demands (effort_of budget keep_all proof) rle (input_of files search_file search_limit)
+question_of (jobs.Sat formula proof budget keep_all) files = decide_question (effort_of budget keep_all proof) (input_of files formula formula_limit)
+question_of (jobs.Cnf search_file rule demands) files = encode_question rule demands (input_of files search_file search_limit)
 question_of (jobs.Lrat formula proof) files =
-    refute_question (input_of files formula MOST_DIMACS_BYTES) (input_of files proof PROOF_LIMIT)
+    refute_question (input_of files formula formula_limit) (input_of files proof proof_limit)
 question_of (jobs.Rule rule) files = Ok (prints rule)
 question_of (jobs.Make seed size search_file proof) files = Ok (makes seed size search_file (default_effort proof))
 
@@ -177,14 +185,14 @@ pub record MadeOf (files : Option Files) (one : List ℕ) (one_limit : ℕ) (two
 -- what a job asks, by inputs that are those of the files, where the shelf tells them
 abbrev pub Asks : Job → Option Files → Result Question Fault → Type 0
 Asks (jobs.Check search_file proof rule demands) files question =
-    MadeOf files search_file SEARCH_LIMIT proof PROOF_LIMIT (check_question rule demands) question
+    MadeOf files search_file search_limit proof proof_limit (check_question rule demands) question
 Asks (jobs.Judge search_file pattern rule demands rle) files question =
-    MadeOf files search_file SEARCH_LIMIT pattern SEARCH_LIMIT (judge_question rule demands rle) question
+    MadeOf files search_file search_limit pattern search_limit (judge_question rule demands rle) question
 Asks (jobs.Search search_file proof rule demands budget keep_all rle) files question =
-    MadeOfOne files search_file SEARCH_LIMIT (search_question rule demands (effort_of budget keep_all proof) rle) question
+    MadeOfOne files search_file search_limit (search_question rule demands (effort_of budget keep_all proof) rle) question
 Asks (jobs.Sat formula proof budget keep_all) files question =
-    MadeOfOne files formula MOST_DIMACS_BYTES (decide_question (effort_of budget keep_all proof)) question
-Asks (jobs.Cnf search_file rule demands) files question = MadeOfOne files search_file SEARCH_LIMIT (encode_question rule demands) question
-Asks (jobs.Lrat formula proof) files question = MadeOf files formula MOST_DIMACS_BYTES proof PROOF_LIMIT refute_question question
+    MadeOfOne files formula formula_limit (decide_question (effort_of budget keep_all proof)) question
+Asks (jobs.Cnf search_file rule demands) files question = MadeOfOne files search_file search_limit (encode_question rule demands) question
+Asks (jobs.Lrat formula proof) files question = MadeOf files formula formula_limit proof proof_limit refute_question question
 Asks (jobs.Rule rule) files question = question ≡ Ok (prints rule)
 Asks (jobs.Make seed size search_file proof) files question = question ≡ Ok (makes seed size search_file (default_effort proof))

@@ -3,7 +3,7 @@ use Rattle.std.specs.Prelude.{◌≡◌, ◌≤◌, ℕ}
 use Rattle.std.specs.Option.{option_map}
 use Rattle.lls_hensel.specs.Isotropy.{IsIsotropic}
 use Rattle.lls_problem.specs.Problem.{PosedProblem}
-use Rattle.lls_gen.specs.declared.making.TheConstants.{MOST_SIZE}
+use Rattle.lls_gen.specs.Made.{most_size}
 use Rattle.lls_encode.specs.Formula.{formula_of}
 use Rattle.lls_solver.specs.declared.solving.TheConstants.{MOST_BUDGET}
 use Rattle.lls_cli.specs.declared.question.Question as code
@@ -32,7 +32,7 @@ seen_question (asked.Make seed size search effort) = makes seed size search (see
 
 -- a size that a problem can be made of
 abbrev pub IsSize : ℕ → Type 0
-IsSize size = (1 ≤ size) × (size ≤ MOST_SIZE)
+IsSize size = (1 ≤ size) × (size ≤ most_size)
 
 -- a rule that is to be printed is isotropic, perhaps in the pictures of a search; and a budget and a size are within their limits
 abbrev pub CanAnswer : code.Question → Type 0

@@ -3,7 +3,7 @@ ghost use Rattle.std.specs.Prelude.{◌≡◌, ◌≤◌, ◌⊎◌, map, string
 ghost use Rattle.lls_base.specs.Shelf.{known_files};
 ghost use Rattle.lls_words.specs.Job.{job_of};
 ghost use Rattle.lls_cli.specs.Answer.{IsAnswer, IsNowhere, IsThere, NoHolds, YesHolds};
-ghost use Rattle.lls_cli.specs.Claims.{ChangesOnly, CountsNeverFall, HasCause, IsAnswered, IsComplete, IsSilent, Leaves, NothingFailed, OfQuestion, Publishes, StandsIn, outputs_of_words};
+ghost use Rattle.lls_cli.specs.Claims.{ChangesOnly, CountsNeverFall, HasCause, IsAnswered, IsComplete, IsFaultStatus, IsSilent, Leaves, LeavesBegun, NothingFailed, OfQuestion, Publishes, SaysWhy, StandsIn, outputs_of_words};
 ghost use Rattle.lls_cli.specs.Evidence.{HasProof, HasSpentLog};
 ghost use Rattle.lls_cli.specs.Ends.{End, Ends, IsEnd, IsEndOf, ahead_of};
 ghost use Rattle.lls_cli.specs.Moment.{moment, shelf_moment, sink_moment};
@@ -254,6 +254,12 @@ pub fn run<S: Shelf, O: Sink, E: Sink>(
     ensures nothing_failed { IsAnswered result → NothingFailed
         (moment (shelf_moment (S.told shelf.old) (S.has_input shelf.old) (S.has_output shelf.old) (S.faults shelf.old)) (sink_moment (O.written out.old) (O.faults out.old)) (sink_moment (E.written err.old) (E.faults err.old)))
         (moment (shelf_moment (S.told shelf.new) (S.has_input shelf.new) (S.has_output shelf.new) (S.faults shelf.new)) (sink_moment (O.written out.new) (O.faults out.new)) (sink_moment (E.written err.new) (E.faults err.new))) }
+
+    // At the status of a fault the standard error says which: by its line, or by first bytes of it where that failed too.
+    ensures error { IsFaultStatus result → SaysWhy result (sink_moment (E.written err.old) (E.faults err.old)) (sink_moment (E.written err.new) (E.faults err.new)) }
+
+    // After a failure of the outside a file that was to be written is unchanged or has first bytes of its text.
+    ensures begun { result ≡ Status.Outside → LeavesBegun (job_of (map string_bytes words.now)) (known_files (S.told shelf.old)) (known_files (S.told shelf.new)) }
 
     // What stands after it.
     ensures silent { IsSilent result → O.written out.new ≡ O.written out.old }

@@ -99,18 +99,18 @@ parts_of p values satisfied =
     let cells = and_parts _ _ (sym (satisfies-append values (fixed_part p) (name_part p)) ∙ still.0) in
     record { fixed = cells.0; names = cells.1; symmetry = still.1; period = front.1; transitions = body.1; bounds = most.1; difference = all.1 }
 
--- a value for each cell at least
+-- a value for each variable is one for each cell at least
 enough_values : (p : PosedProblem) (values : List Bool) → length values ≡ (formula_of p).vars → length p.posed.cells ≤ length values
 unfolding formula_of
 enough_values p values len = omega (arith, len)
 
 -- the theorem
-pub IsSolution-history_of : (p : PosedProblem) → IsPosed p.posed → AreFitting p.posed p.demands → (values : List Bool) → length values ≡ (formula_of p).vars
+pub IsSolution-history_of : (p : PosedProblem) → IsPosed p.posed → AreFitting p.posed p.demands → (values : List Bool) → length p.posed.cells ≤ length values
     → satisfies values (formula_of p).clauses ≡ true → IsSolution p (history_of p values)
-IsSolution-history_of p kept fitting values len satisfied =
+IsSolution-history_of p kept fitting values enough satisfied =
     let parts = parts_of p values satisfied in
     let h : History = history_of p values in
-    let has : HasCells p values h = HasCells-history_of p values kept (enough_values p values len) in
+    let has : HasCells p values h = HasCells-history_of p values kept enough in
     record {
       sizes = has.sizes;
       cells = MeetsCells-same p.posed.cells values (cells_of h) has.cells (MeetsCells-by_clauses values p.posed.cells parts.fixed parts.names);
@@ -124,4 +124,4 @@ IsSolution-history_of p kept fitting values len satisfied =
 -- so where there is no solution nothing satisfies the formula
 pub unsatisfiable_from : (p : PosedProblem) → IsPosed p.posed → AreFitting p.posed p.demands → IsAbsent p → IsUnsatisfiable (formula_of p)
 unsatisfiable_from p kept fitting absent values len =
-    false_from_ne_true (satisfies values (formula_of p).clauses) (λ satisfied. absent (history_of p values) (IsSolution-history_of p kept fitting values len satisfied))
+    false_from_ne_true (satisfies values (formula_of p).clauses) (λ satisfied. absent (history_of p values) (IsSolution-history_of p kept fitting values (enough_values p values len) satisfied))

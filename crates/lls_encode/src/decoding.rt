@@ -13,12 +13,12 @@ use std::alloc::{AllocError, Global};
 
 /// The history of the problem's sizes whose cells have the first values of an assignment, in the order generation, row,
 /// column. Values of variables behind those of the cells aren't looked at. Where the assignment satisfies the problem's
-/// formula, the history is a solution.
+/// formula, the history is a solution; a variable that it has no value for is false.
 pub fn decode(alloc: Global, problem: &Problem, assignment: &Assignment) -> Result<History, Memory>
     requires { length problem.now.posed.cells ≤ length assignment.now }
     ensures history { IfOk result (λ history. history ≡ history_of problem.now assignment.now) }
-    ensures solution { IfOk result (λ history. length assignment.now ≡ (formula_of problem.now).vars
-        → satisfies assignment.now (formula_of problem.now).clauses ≡ true → IsSolution problem.now history) }
+    ensures solution { IfOk result (λ history. satisfies assignment.now (formula_of problem.now).clauses ≡ true
+        → IsSolution problem.now history) }
 {
     // That the demands fit the file is known from here on.
     let _demands = problem.demands();

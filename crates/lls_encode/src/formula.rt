@@ -1,5 +1,5 @@
 // The formula of a problem.
-ghost use Rattle.std.specs.Prelude.{◌≡◌, ◌<◌, Bool, true, List, length, IfOk, OnOk};
+ghost use Rattle.std.specs.Prelude.{◌≡◌, ◌<◌, ◌≤◌, Bool, true, List, length, IfOk, OnOk};
 ghost use Rattle.lls_grid.specs.History.{History};
 ghost use Rattle.lls_lit.specs.Formula.{satisfies, IsUnsatisfiable};
 ghost use Rattle.lls_transition.specs.Clause.{with_clauses};
@@ -54,8 +54,9 @@ pub fn encode(alloc: Global, problem: &Problem) -> Result<Formula, Memory>
     ensures complete { IfOk result (λ formula. (history : History) → IsSolution problem.now history
         → HasAssignment formula history) }
 
-    // Every assignment that satisfies it begins with the cells of a solution.
-    ensures sound { IfOk result (λ formula. (values : List Bool) → length values ≡ formula.vars
+    // Every assignment that satisfies it and has a value for each cell begins with the cells of a solution. A value past its
+    // end is false.
+    ensures sound { IfOk result (λ formula. (values : List Bool) → length problem.now.posed.cells ≤ length values
         → satisfies values formula.clauses ≡ true → IsSolution problem.now (history_of problem.now values)) }
 
     // So a formula that no assignment satisfies says that there is no solution.

@@ -11,6 +11,10 @@ use Rattle.lls_gen.specs.declared.making.Made.{Made}
 use Rattle.lls_gen.specs.Numbers.{numbers}
 use Rattle.lls_gen.specs.Drawing.{is_live, cells_of_both}
 
+-- the greatest size that can be made
+abbrev pub most_size : ℕ
+most_size = 64
+
 -- Life: born of three live neighbours, alive with two or three
 abbrev pub life : List Bool
 life = table_of (by_counts (2 ^ 3) (2 ^ 2 + 2 ^ 3))

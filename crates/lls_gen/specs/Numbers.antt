@@ -1,11 +1,17 @@
 -- Numbers from a seed, by a linear congruential generator.
 use Rattle.std.specs.Prelude.{ℕ, zero, suc, ◌+◌, ◌*◌, ◌%◌, ◌^◌, List, map}
 use Rattle.std.specs.List.{range_with_len}
-use Rattle.lls_gen.specs.declared.numbers.TheConstants.{MULTIPLIER, INCREMENT}
+
+-- the constants of D. E. Knuth's computer MMIX: what a number is multiplied by, and what is added then
+abbrev pub multiplier : ℕ
+multiplier = 6364136223846793005
+
+abbrev pub increment : ℕ
+increment = 1442695040888963407
 
 -- what comes after a number
 abbrev pub after : ℕ → ℕ
-after number = (MULTIPLIER * number + INCREMENT) % 2 ^ 64
+after number = (multiplier * number + increment) % 2 ^ 64
 
 -- what comes k times after the seed
 unfoldable pub nth : ℕ → ℕ → ℕ

@@ -10,8 +10,7 @@ use Rattle.lls_search_file.specs.Posed.{PosedFile}
 use Rattle.lls_problem.specs.declared.bounds.Bound.{Bound}
 use Rattle.lls_problem.specs.declared.demands.Demands.{Demands}
 use Rattle.lls_problem.specs.declared.demands.Period.{Period}
-use Rattle.lls_problem.specs.declared.bounds.TheConstants.Bounds.{MOST_COUNTERS}
-use Rattle.lls_problem.specs.Bounds.{grid_size, top_end, crosses, all_counter_vars}
+use Rattle.lls_problem.specs.Bounds.{most_counters, grid_size, top_end, crosses, all_counter_vars}
 use Rattle.lls_problem.specs.Problem.{missing_generation, crossing, too_long, too_many}
 use Rattle.lls_problem.proofs.Found.{none_found, nothing_mapped}
 
@@ -88,5 +87,5 @@ few most count none =
       | false ↦ λ more here. ltb-false most count more
     ] refl none
 
-pub counters-by_none : (posed : PosedFile) (demands : Demands) → None ≡ too_many posed demands → all_counter_vars (grid_size posed) demands.bounds ≤ MOST_COUNTERS
-counters-by_none posed demands none = few MOST_COUNTERS (all_counter_vars (grid_size posed) demands.bounds) (sym none)
+pub counters-by_none : (posed : PosedFile) (demands : Demands) → None ≡ too_many posed demands → all_counter_vars (grid_size posed) demands.bounds ≤ most_counters
+counters-by_none posed demands none = few most_counters (all_counter_vars (grid_size posed) demands.bounds) (sym none)

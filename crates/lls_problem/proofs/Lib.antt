@@ -13,3 +13,4 @@ pub mod Symmetric
 pub mod Returned
 pub mod Plane
 pub mod WorkedPlane
+pub mod Limits

@@ -3,12 +3,19 @@ use Rattle.std.specs.Prelude.{◌≤◌, ℕ, ◌+◌, ◌*◌, min, nat_lt, ◌
 use Rattle.std.specs.Option.{ForSome, option_map_or}
 use Rattle.lls_search_file.specs.Posed.{PosedFile}
 use Rattle.lls_problem.specs.declared.bounds.Bound.{Bound}
-use Rattle.lls_problem.specs.declared.bounds.TheConstants.Bound.{MOST}
+
+-- the greatest number that a bound may have for an end
+abbrev pub most_end : ℕ
+most_end = 8192
+
+-- the greatest number of variables that the counters of all bounds may have
+abbrev pub most_counters : ℕ
+most_counters = 1000000
 
 -- the ends are within the limit
 pub record HasEnds (bound : Bound) : Type 0 where
-  pub low : bound.low ≤ MOST
-  pub high : ForSome bound.high (λ high. high ≤ MOST)
+  pub low : bound.low ≤ most_end
+  pub high : ForSome bound.high (λ high. high ≤ most_end)
 
 -- so many live cells are within the ends
 pub record Allows (bound : Bound) (live : ℕ) : Type 0 where

@@ -11,8 +11,7 @@ use Rattle.lls_problem.specs.declared.demands.Period.{Period}
 use Rattle.lls_problem.specs.declared.demands.Demands.{Demands}
 use Rattle.lls_problem.specs.declared.demands.DemandError.{DemandError}
 use Rattle.lls_problem.specs.declared.demands.DemandError.TheVariants.{NotSquare, NoGeneration, BoundsCross, PeriodTooLong, Counters}
-use Rattle.lls_problem.specs.declared.bounds.TheConstants.Bounds.{MOST_COUNTERS}
-use Rattle.lls_problem.specs.Bounds.{HasEnds, grid_size, top_end, crosses, all_counter_vars}
+use Rattle.lls_problem.specs.Bounds.{HasEnds, most_counters, grid_size, top_end, crosses, all_counter_vars}
 
 -- the rule is its table of 512 answers
 pub record PosedProblem : Type 0 where
@@ -46,7 +45,7 @@ crossing posed demands = option_map (λ bound. bound.generation) (find (crosses 
 -- how many variables the counters of all bounds have, where that is too many
 abbrev pub too_many : PosedFile → Demands → Option ℕ
 too_many posed demands =
-    let count = all_counter_vars (grid_size posed) demands.bounds in if nat_lt MOST_COUNTERS count then Some count else None
+    let count = all_counter_vars (grid_size posed) demands.bounds in if nat_lt most_counters count then Some count else None
 
 -- the length of the period, where it isn't less than the number of generations
 abbrev pub too_long : PosedFile → Demands → Option ℕ
@@ -86,6 +85,6 @@ pub record AreFitting (posed : PosedFile) (demands : Demands) : Type 0 where
   pub bounds : All HasEnds demands.bounds
   pub bounded : All (λ bound. bound.generation < posed.generations) demands.bounds
   pub ordered : All (λ bound. bound.low ≤ top_end (grid_size posed) bound) demands.bounds
-  pub counters : all_counter_vars (grid_size posed) demands.bounds ≤ MOST_COUNTERS
+  pub counters : all_counter_vars (grid_size posed) demands.bounds ≤ most_counters
   pub shorter : ForSome demands.period (λ period. period.length < posed.generations)
   pub named : ForSome demands.differ (λ pair. (pair.0 < posed.generations) × (pair.1 < posed.generations))

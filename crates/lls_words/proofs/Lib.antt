@@ -14,3 +14,4 @@ pub mod Rules
 pub mod Dashes
 pub mod Pairs
 pub mod Jobs
+pub mod Limits

@@ -12,7 +12,7 @@ use Rattle.lls_problem.specs.declared.demands.Edge.TheVariants.{Framed}
 use Rattle.lls_problem.specs.declared.demands.Demands.{Demands}
 use Rattle.lls_problem.specs.Bounds.{HasEnds}
 use Rattle.lls_problem.specs.Problem.{edge_alone, IsPeriod}
-use Rattle.lls_gen.specs.declared.making.TheConstants.{MOST_SIZE}
+use Rattle.lls_gen.specs.Made.{most_size}
 use Rattle.lls_words.specs.declared.command.Command.{Command}
 use Rattle.lls_words.specs.declared.command.Command.TheVariants as commands
 use Rattle.lls_words.specs.declared.command.Setting.{Setting}
@@ -25,8 +25,7 @@ use Rattle.lls_words.specs.declared.error.WordsError.TheVariants.{NoCommand, Unk
 use Rattle.lls_words.specs.Command.{command_of, operand_count}
 use Rattle.lls_base.specs.Results.{and_then}
 use Rattle.lls_words.specs.Scan.{Operand, Given, scan}
-use Rattle.lls_words.specs.declared.values.TheConstants.{DEFAULT_BUDGET, MOST_BUDGET}
-use Rattle.lls_words.specs.Values.{edge_in, period_in, bounds_in, generations_in, budget_in, keep_all_in, rle_in, seed_in, size_in}
+use Rattle.lls_words.specs.Values.{edge_in, period_in, bounds_in, generations_in, budget_in, keep_all_in, rle_in, seed_in, size_in, most_budget, default_budget}
 
 -- a rule text at a place
 abbrev pub rule_or : ℕ → Result (List Bool) RuleError → Result (List Bool) WordsError
@@ -75,7 +74,7 @@ settled s (given ∷ givens) = and_then (with_value s given) (λ more. settled m
 
 -- Life, `B3/S23`, under a closed edge, and nothing else demanded; half of the learnt clauses are kept, and patterns are rows
 abbrev pub defaults : Settings
-defaults = record { rule = table_of (by_counts 8 12); demands = edge_alone Framed; budget = DEFAULT_BUDGET; keep_all = false; rle = false }
+defaults = record { rule = table_of (by_counts 8 12); demands = edge_alone Framed; budget = default_budget; keep_all = false; rle = false }
 
 -- the names of a file and of one that is written later, which have to differ
 abbrev pub names_apart : Operand → Operand → Result (List ℕ × List ℕ) WordsError
@@ -122,7 +121,7 @@ pub record AreWithinLimits (demands : Demands) : Type 0 where
 pub record AreAllowed (rule : List Bool) (demands : Demands) (budget : ℕ) : Type 0 where
   pub demanded : AreWithinLimits demands
   pub isotropic : IsIsotropic rule
-  pub budgeted : budget ≤ MOST_BUDGET
+  pub budgeted : budget ≤ most_budget
 
 -- what the words keep: demands, budgets and sizes are within the limits, and a rule that is to be printed is isotropic
 abbrev pub KeepsLimits : Job → Type 0
@@ -130,7 +129,7 @@ KeepsLimits (jobs.Check search_file proof rule demands) = AreWithinLimits demand
 KeepsLimits (jobs.Search search_file proof rule demands budget keep_all rle) = AreAllowed rule demands budget
 KeepsLimits (jobs.Judge search_file pattern rule demands rle) = AreWithinLimits demands
 KeepsLimits (jobs.Cnf search_file rule demands) = AreWithinLimits demands
-KeepsLimits (jobs.Sat formula proof budget keep_all) = budget ≤ MOST_BUDGET
+KeepsLimits (jobs.Sat formula proof budget keep_all) = budget ≤ most_budget
 KeepsLimits (jobs.Lrat formula proof) = Unit {0}
 KeepsLimits (jobs.Rule rule) = IsIsotropic rule
-KeepsLimits (jobs.Make seed size search_file proof) = (1 ≤ size) × (size ≤ MOST_SIZE)
+KeepsLimits (jobs.Make seed size search_file proof) = (1 ≤ size) × (size ≤ most_size)

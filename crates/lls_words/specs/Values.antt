@@ -8,18 +8,33 @@ use Rattle.lls_text.specs.Digits.{is_digits}
 use Rattle.lls_grid.specs.declared.history.TheConstants.History.{MOST_GENERATIONS}
 use Rattle.lls_symmetry.specs.declared.moved.TheConstants.{MOST_SHIFT, MOST_PERIOD}
 use Rattle.lls_problem.specs.declared.bounds.Bound.{Bound}
-use Rattle.lls_problem.specs.declared.bounds.TheConstants.Bound.{MOST}
 use Rattle.lls_problem.specs.declared.demands.Edge.{Edge}
 use Rattle.lls_problem.specs.declared.demands.Edge.TheVariants.{Framed, Bare}
 use Rattle.lls_problem.specs.declared.demands.Period.{Period}
-use Rattle.lls_gen.specs.declared.making.TheConstants.{MOST_SIZE}
-use Rattle.lls_words.specs.declared.values.TheConstants.{MOST_DIGITS, MOST_BUDGET, MOST_SEED}
+use Rattle.lls_problem.specs.Bounds.{most_end}
+use Rattle.lls_gen.specs.Made.{most_size}
 use Rattle.lls_words.specs.Items.{is_dash}
 
 abbrev pub edge_in : List ℕ → Option Edge
 edge_in text =
     if bytes_eq text (codes "closed") then Some Framed else
     if bytes_eq text (codes "open") then Some Bare else None
+
+-- how many digits a number has at most
+abbrev pub most_digits : ℕ
+most_digits = 20
+
+-- the greatest budget of a search
+abbrev pub most_budget : ℕ
+most_budget = 10000000
+
+-- the budget of a search for which none is said
+abbrev pub default_budget : ℕ
+default_budget = 100000
+
+-- the greatest number that a problem is made from: that of 64 bits
+abbrev pub most_seed : ℕ
+most_seed = 18446744073709551615
 
 -- what separates the parts of a value
 abbrev pub comma : ℕ
@@ -37,7 +52,7 @@ cut_at byte text = option_map (λ at. (take at text, drop (at + 1) text)) (posit
 
 -- digits alone, at least one and not too many
 abbrev pub natural_in : List ℕ → Option ℕ
-natural_in text = if nat_le (length text) MOST_DIGITS && is_digits text then Some (digits_value 10 text) else None
+natural_in text = if nat_le (length text) most_digits && is_digits text then Some (digits_value 10 text) else None
 
 -- a number from `low` to `high`
 abbrev pub from_to : ℕ → ℕ → ℕ → Option ℕ
@@ -47,14 +62,14 @@ abbrev pub number_in : ℕ → ℕ → List ℕ → Option ℕ
 number_in low high text = option_and_then (from_to low high) (natural_in text)
 
 abbrev pub budget_in : List ℕ → Option ℕ
-budget_in text = number_in 0 MOST_BUDGET text
+budget_in text = number_in 0 most_budget text
 
 -- what a problem is made from: a number, and how many rows it has of as many cells
 abbrev pub seed_in : List ℕ → Option ℕ
-seed_in text = number_in 0 MOST_SEED text
+seed_in text = number_in 0 most_seed text
 
 abbrev pub size_in : List ℕ → Option ℕ
-size_in text = number_in 1 MOST_SIZE text
+size_in text = number_in 1 most_size text
 
 -- whether all learnt clauses are kept
 abbrev pub keep_all_in : List ℕ → Option Bool
@@ -103,11 +118,11 @@ generations_in text = option_and_then both_generations (cut_at comma text)
 -- the ends of a bound: no low end is 0, and no high end is none
 abbrev pub low_in : List ℕ → Option ℕ
 low_in [] = Some 0
-low_in (b ∷ bs) = number_in 0 MOST (b ∷ bs)
+low_in (b ∷ bs) = number_in 0 most_end (b ∷ bs)
 
 abbrev pub high_in : List ℕ → Option (Option ℕ)
 high_in [] = Some None
-high_in (b ∷ bs) = option_map (λ high. Some high) (number_in 0 MOST (b ∷ bs))
+high_in (b ∷ bs) = option_map (λ high. Some high) (number_in 0 most_end (b ∷ bs))
 
 abbrev pub bound_of : ℕ → ℕ → Option ℕ → Bound
 bound_of t low high = record { generation = t; low = low; high = high }

@@ -4,6 +4,8 @@ use Rattle.lls_cli.specs.Moment.{SinkMoment}
 use Rattle.lls_cli.proofs.Consequences.{yes_means, no_means, found_means, none_means, words_alone, words_all, caused, meant, stays_silent, counts_stay}
 use Rattle.lls_cli.proofs.Files.{changes_only, leaves_proof, leaves_log}
 use Rattle.lls_cli.proofs.Stands.{stands}
+use Rattle.lls_cli.proofs.Begun.{leaves_begun}
+use Rattle.lls_cli.proofs.Why.{says_why}
 use Rattle.lls_cli.proofs.Complete.{completes}
 use Rattle.lls_cli.proofs.Apart.{apart}
 use Rattle.lls_cli.proofs.Published.{publishes}
@@ -26,6 +28,12 @@ returns-clause-outside g c = caused _ _ _ _ c.run_words.ensures
 
 pub returns-clause-nothing_failed : goal.returns-clause-nothing_failed
 returns-clause-nothing_failed g c = λ is. (meant _ _ _ _ c.run_words.ensures is).nothing_failed
+
+pub returns-clause-error : goal.returns-clause-error
+returns-clause-error g c = says_why _ _ _ _ c.run_words.ensures
+
+pub returns-clause-begun : goal.returns-clause-begun
+returns-clause-begun g c = leaves_begun _ _ _ _ c.run_words.ensures
 
 pub returns-clause-silent : goal.returns-clause-silent
 returns-clause-silent g c = λ silent. ap (λ (s : SinkMoment). s.written) (stays_silent _ _ _ _ c.run_words.ensures silent)

@@ -20,7 +20,7 @@ pub returns-in-Sat-clause-right : goal.returns-in-Sat-clause-right
 returns-in-Sat-clause-right c =
     let model = c.in_ok-assignment.ensures.sat c.in-Sat.assignment (ap Ok c.in-Sat.is) in
     let of_problem : IsModel (formula_of c.args.problem.now) c.in-Sat.assignment = subst (λ (f : Cnf). IsModel f c.in-Sat.assignment) c.requires.formula model in
-    let solution = c.in_ok-history-in-Sat.ensures.solution of_problem.many of_problem.satisfied in
+    let solution = c.in_ok-history-in-Sat.ensures.solution of_problem.satisfied in
     found_answer c.args.problem.now (seen_effort c.args.effort) c.args.rle c.in_ok-history-in-Sat.history _ solution
     (ap (shown statuses.Pattern) (c.in_ok-print_pattern-in-Sat.ensures ∙ ap (λ (rule : List Bool). pattern_text c.args.rle rule c.in_ok-history-in-Sat.history) c.rule.ensures))
 

@@ -60,9 +60,9 @@ returns-clause-absent c = λ unsatisfiable.
     absent_from c.args.problem.now c.posed.ensures.kept c.demands-demands.ensures.kept (subst IsUnsatisfiable (returns-clause-formula c) unsatisfiable)
 
 pub returns-clause-sound : goal.returns-clause-sound
-returns-clause-sound c = λ values count satisfied.
+returns-clause-sound c = λ values enough satisfied.
     let is = returns-clause-formula c in
-    IsSolution-history_of c.args.problem.now c.posed.ensures.kept c.demands-demands.ensures.kept values (count ∙ ap (λ f. f.vars) is)
+    IsSolution-history_of c.args.problem.now c.posed.ensures.kept c.demands-demands.ensures.kept values enough
     (sym (ap (λ f. satisfies values f.clauses) is) ∙ satisfied)
 
 pub returns-clause-unsatisfiable : goal.returns-clause-unsatisfiable

@@ -7,15 +7,14 @@ use Rattle.std.proofs.lemmas.Bool.{and_parts}
 use Rattle.std.proofs.lemmas.Bool.Decides.{nat_tests}
 use Rattle.std.proofs.lemmas.Str.Parse.{IsNumeralModel, numerals_by_value, parse_digits}
 use Rattle.lls_text.specs.Digits.{is_digits}
-use Rattle.lls_words.specs.declared.values.TheConstants.{MOST_DIGITS}
-use Rattle.lls_words.specs.Values.{seed_in}
+use Rattle.lls_words.specs.Values.{most_digits, seed_in}
 use Rattle.lls_words.proofs.values.seed_in.Goals as goal
 
 digits : IsNumeralModel (λ ds. list_all is_ascii_digit ds ≡ true) (digits_value 10)
 digits = numerals_by_value _ (search rules)
 
 -- a number of 64 bits in digits alone
-parsed : {E : Type 0} (text : List ℕ) (read : Result ℕ E) → length text ≤ MOST_DIGITS → is_digits text ≡ true → ParsesUnsigned 64 10 text read → result_ok read ≡ seed_in text
+parsed : {E : Type 0} (text : List ℕ) (read : Result ℕ E) → length text ≤ most_digits → is_digits text ≡ true → ParsesUnsigned 64 10 text read → result_ok read ≡ seed_in text
 parsed {E = E} text read short all told =
     let parts = and_parts (not (length text == 0)) (list_all is_ascii_digit text) all in
     let one = parse_digits digits {E = E} 64 text read told parts.1 in

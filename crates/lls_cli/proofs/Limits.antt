@@ -1,0 +1,25 @@
+-- The constants of the code are the limits of the definitions.
+use Rattle.std.proofs.Common.{◌≡◌, refl}
+use Rattle.lls_cnf.specs.declared.read.TheConstants.{MOST_DIMACS_BYTES}
+use Rattle.lls_solver.specs.declared.solving.TheConstants as solving
+use Rattle.lls_words.specs.Values.{most_budget}
+use Rattle.lls_cli.specs.declared.input.TheConstants.{SEARCH_LIMIT, PROOF_LIMIT}
+use Rattle.lls_cli.specs.declared.model.TheConstants.{NUMBERS_A_LINE}
+use Rattle.lls_cli.specs.ModelText.{numbers_a_line}
+use Rattle.lls_cli.specs.Question.{search_limit, proof_limit, formula_limit}
+
+pub search_limit-is : SEARCH_LIMIT ≡ search_limit
+search_limit-is = refl
+
+pub proof_limit-is : PROOF_LIMIT ≡ proof_limit
+proof_limit-is = refl
+
+pub formula_limit-is : MOST_DIMACS_BYTES ≡ formula_limit
+formula_limit-is = refl
+
+pub numbers_a_line-is : NUMBERS_A_LINE ≡ numbers_a_line
+numbers_a_line-is = refl
+
+-- the greatest budget of the words is the one that the solver takes
+pub most_budget-is : solving.MOST_BUDGET ≡ most_budget
+most_budget-is = refl
