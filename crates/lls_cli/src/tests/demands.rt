@@ -1,6 +1,5 @@
 // The judging of demands: symmetry, a period with a shift, bounds on live cells, differing generations.
-use super::faults::faults;
-use super::{NOTHING, Row, answers, is_fault, run_over, words_of};
+use super::{Row, answers};
 use crate::status::Status;
 use std::test::Fail;
 
@@ -321,87 +320,4 @@ fn demands_are_judged(rt: HostRuntime) -> Result<(), Fail> {
         answers(&rt, rt.alloc(), row)?;
     }
     Ok(())
-}
-
-// What doesn't fit the search file is refused before the pattern is looked for.
-#[test]
-fn demands_that_do_not_fit(rt: HostRuntime) -> Result<(), Fail> {
-    let rows: [Row; 8] = [
-        (
-            "judge f q --differ 0,2",
-            "*\n\n*\n",
-            "",
-            Status::Content,
-            "content: NoGeneration 2",
-        ),
-        (
-            "check f q --symmetry C4",
-            "* * *\n",
-            "",
-            Status::Content,
-            "content: NotSquare 1 3",
-        ),
-        (
-            "cnf f --period 2",
-            "*\n\n*\n",
-            "",
-            Status::Content,
-            "content: PeriodTooLong 2",
-        ),
-        (
-            "judge f q --period 2 --differ 3,0 --symmetry D8",
-            "* * *\n\n* * *\n",
-            "",
-            Status::Content,
-            "content: NotSquare 1 3",
-        ),
-        (
-            "judge f q --period 2 --differ 0,2",
-            "* *\n* *\n\n* *\n* *\n",
-            "",
-            Status::Content,
-            "content: NoGeneration 2",
-        ),
-        (
-            "judge f q --live 0:3-1",
-            "*\n",
-            "",
-            Status::Content,
-            "content: BoundsCross 0",
-        ),
-        (
-            "judge f q --live 0:0-1,2:0-,0:2-1 --differ 3,0 --period 2",
-            "* *\n\n* *\n",
-            "",
-            Status::Content,
-            "content: NoGeneration 2",
-        ),
-        (
-            "judge f q --live 0:-,1:3- --period 2",
-            "* *\n\n* *\n",
-            "",
-            Status::Content,
-            "content: BoundsCross 1",
-        ),
-    ];
-    for row in rows {
-        faults(&rt, rt.alloc(), row)?;
-    }
-    Ok(())
-}
-
-// A counter of 64 by 64 cells that counts up to 301 is too large.
-#[test]
-fn too_many_counters(rt: HostRuntime) -> Result<(), Fail> {
-    let alloc = rt.alloc();
-    let mut file = String::new(alloc);
-    for _row in 0..64 {
-        for _column in 0..64 {
-            file.push_str("* ")?;
-        }
-        file.push_str("\n")?;
-    }
-    let words = words_of(alloc, "judge f q --live 0:-300")?;
-    let ended = run_over(alloc, &words, file.as_bytes(), b"", NOTHING)?;
-    is_fault(&rt, alloc, &ended, Status::Limit, "limit: Counters 1232896")
 }

@@ -6,7 +6,7 @@ use std::process::Abort;
 use std::test::Fail;
 
 /// Runs a row whose fault goes to the standard error, behind `lls: ` and before an LF.
-pub fn faults(rt: &impl Abort, alloc: Global, row: Row) -> Result<(), Fail> {
+fn faults(rt: &impl Abort, alloc: Global, row: Row) -> Result<(), Fail> {
     let (words, f, p, status, text) = row;
     let words = words_of(alloc, words)?;
     let ended = run_over(alloc, &words, f.as_bytes(), p.as_bytes(), NOTHING)?;
@@ -17,7 +17,7 @@ pub fn faults(rt: &impl Abort, alloc: Global, row: Row) -> Result<(), Fail> {
 
 #[test]
 fn faults_are_named(rt: HostRuntime) -> Result<(), Fail> {
-    let rows: [Row; 19] = [
+    let rows: [Row; 35] = [
         ("rule B1k/S", "", "", Status::Words, "words: BadLetter 2 3"),
         (
             "check f p --rule B9/S",
@@ -115,6 +115,114 @@ fn faults_are_named(rt: HostRuntime) -> Result<(), Fail> {
             Status::Content,
             "content: BadCell 1 3",
         ),
+        // What doesn't fit the search file is refused before the pattern is looked for.
+        (
+            "judge f q --differ 0,2",
+            "*\n\n*\n",
+            "",
+            Status::Content,
+            "content: NoGeneration 2",
+        ),
+        (
+            "check f q --symmetry C4",
+            "* * *\n",
+            "",
+            Status::Content,
+            "content: NotSquare 1 3",
+        ),
+        (
+            "cnf f --period 2",
+            "*\n\n*\n",
+            "",
+            Status::Content,
+            "content: PeriodTooLong 2",
+        ),
+        (
+            "judge f q --period 2 --differ 3,0 --symmetry D8",
+            "* * *\n\n* * *\n",
+            "",
+            Status::Content,
+            "content: NotSquare 1 3",
+        ),
+        (
+            "judge f q --period 2 --differ 0,2",
+            "* *\n* *\n\n* *\n* *\n",
+            "",
+            Status::Content,
+            "content: NoGeneration 2",
+        ),
+        (
+            "judge f q --live 0:3-1",
+            "*\n",
+            "",
+            Status::Content,
+            "content: BoundsCross 0",
+        ),
+        (
+            "judge f q --live 0:0-1,2:0-,0:2-1 --differ 3,0 --period 2",
+            "* *\n\n* *\n",
+            "",
+            Status::Content,
+            "content: NoGeneration 2",
+        ),
+        (
+            "judge f q --live 0:-,1:3- --period 2",
+            "* *\n\n* *\n",
+            "",
+            Status::Content,
+            "content: BoundsCross 1",
+        ),
+        // A formula comes before its proof, and its first fault before its end.
+        (
+            "lrat f p",
+            "p cnf 2 3\n1 2 0\n-1 0\n",
+            "",
+            Status::Content,
+            "content: ClauseCount 3 2",
+        ),
+        (
+            "lrat f p",
+            "p cnf 2 3\n1 2 0\n-1\n",
+            "",
+            Status::Content,
+            "content: Unended",
+        ),
+        (
+            "lrat f p",
+            "p cnf 16777217 0\n",
+            "",
+            Status::Limit,
+            "limit: TooManyVariables 16777217",
+        ),
+        (
+            "lrat f q",
+            "p cnf 1 1\n1 0\n%\n0\n",
+            "",
+            Status::Content,
+            "content: Percent 3",
+        ),
+        (
+            "lrat f q",
+            "p cnf 1 1\n-2 0\n",
+            "",
+            Status::Content,
+            "content: LiteralRange 2 -2",
+        ),
+        (
+            "lrat f q",
+            "p cnf 1 1\n1 0\n",
+            "",
+            Status::Outside,
+            "outside: NoFile",
+        ),
+        ("cnf q", "*\n", "", Status::Outside, "outside: NoFile"),
+        (
+            "cnf f",
+            "1 0\n1\n",
+            "",
+            Status::Content,
+            "content: Ragged 2 2 1",
+        ),
     ];
     for row in rows {
         faults(&rt, rt.alloc(), row)?;
@@ -162,5 +270,16 @@ fn limits_are_named(rt: HostRuntime) -> Result<(), Fail> {
         &ended,
         Status::Limit,
         "limit: TooManyCells 8256",
-    )
+    )?;
+    // A counter of 64 by 64 cells that counts up to 301 is too large.
+    let mut full = String::new(alloc);
+    for _row in 0..64 {
+        for _column in 0..64 {
+            full.push_str("* ")?;
+        }
+        full.push_str("\n")?;
+    }
+    let words = words_of(alloc, "judge f q --live 0:-300")?;
+    let ended = run_over(alloc, &words, full.as_bytes(), b"", NOTHING)?;
+    is_fault(&rt, alloc, &ended, Status::Limit, "limit: Counters 1232896")
 }

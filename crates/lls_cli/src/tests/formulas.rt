@@ -1,5 +1,4 @@
 // The commands that print a formula and that check a proof against one.
-use super::faults::faults;
 use super::{Row, answers};
 use crate::status::Status;
 use std::test::Fail;
@@ -240,67 +239,6 @@ fn proofs_against_formulas(rt: HostRuntime) -> Result<(), Fail> {
     ];
     for (formula, proof, status, text) in rows {
         answers(&rt, rt.alloc(), ("lrat f p", formula, proof, status, text))?;
-    }
-    Ok(())
-}
-
-// The formula comes before the proof, and its first fault before its end.
-#[test]
-fn files_that_are_no_formulas(rt: HostRuntime) -> Result<(), Fail> {
-    let rows: [Row; 8] = [
-        (
-            "lrat f p",
-            "p cnf 2 3\n1 2 0\n-1 0\n",
-            "",
-            Status::Content,
-            "content: ClauseCount 3 2",
-        ),
-        (
-            "lrat f p",
-            "p cnf 2 3\n1 2 0\n-1\n",
-            "",
-            Status::Content,
-            "content: Unended",
-        ),
-        (
-            "lrat f p",
-            "p cnf 16777217 0\n",
-            "",
-            Status::Limit,
-            "limit: TooManyVariables 16777217",
-        ),
-        (
-            "lrat f q",
-            "p cnf 1 1\n1 0\n%\n0\n",
-            "",
-            Status::Content,
-            "content: Percent 3",
-        ),
-        (
-            "lrat f q",
-            "p cnf 1 1\n-2 0\n",
-            "",
-            Status::Content,
-            "content: LiteralRange 2 -2",
-        ),
-        (
-            "lrat f q",
-            "p cnf 1 1\n1 0\n",
-            "",
-            Status::Outside,
-            "outside: NoFile",
-        ),
-        ("cnf q", "*\n", "", Status::Outside, "outside: NoFile"),
-        (
-            "cnf f",
-            "1 0\n1\n",
-            "",
-            Status::Content,
-            "content: Ragged 2 2 1",
-        ),
-    ];
-    for row in rows {
-        faults(&rt, rt.alloc(), row)?;
     }
     Ok(())
 }

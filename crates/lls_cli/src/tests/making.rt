@@ -1,7 +1,7 @@
 // The command that makes a problem. What it makes is as tools/made.py makes it.
 use super::{Ended, Failing, NOTHING, is_fault, run_over, shelf_of, words_of};
 use crate::question::{Effort, Question};
-use crate::run::give_answer;
+use crate::run::{give_answer, run};
 use crate::status::Status;
 use lls_base::{MemSink, Name};
 use std::alloc::Global;
@@ -36,9 +36,15 @@ fn problems_that_are_found(rt: HostRuntime) -> Result<(), Fail> {
     ];
     for (line, name, file, summary) in rows {
         let words = words_of(alloc, line)?;
-        let ended = run_over(alloc, &words, b"something else", b"", NOTHING)?;
+        let mut ended = run_over(alloc, &words, b"something else", b"", NOTHING)?;
         assert_eq!(rt; ended.status, Status::Pattern, "{line}");
         assert_eq!(rt; ended.out.bytes(), summary.as_bytes(), "{line}");
+        assert_eq!(rt; ended.shelf.file(name), Some(file.as_bytes()), "{line}");
+        // The same words once more say the same.
+        let mut again = MemSink::new(alloc, Vec::new(alloc), 3);
+        let status = run(alloc, &words, &mut ended.shelf, &mut again, &mut ended.err);
+        assert_eq!(rt; status, Status::Pattern, "{line}");
+        assert_eq!(rt; again.bytes(), summary.as_bytes(), "{line}");
         assert_eq!(rt; ended.shelf.file(name), Some(file.as_bytes()), "{line}");
         assert!(rt; ended.shelf.file("q").is_none());
         assert!(rt; ended.err.bytes().is_empty());

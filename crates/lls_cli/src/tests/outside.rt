@@ -69,8 +69,8 @@ fn the_first_refusal_is_answered(rt: HostRuntime) -> Result<(), Fail> {
     let open = Failing { open: 2, ..NOTHING };
     let read = Failing { read: 1, ..NOTHING };
     let out = Failing { out: 1, ..NOTHING };
-    let rows: [Row; 5] = [
-        // The search file is refused before the second input is opened.
+    let rows: [Row; 8] = [
+        // The first file is refused before another is opened.
         (
             "check f p",
             "1 2\n",
@@ -86,6 +86,30 @@ fn the_first_refusal_is_answered(rt: HostRuntime) -> Result<(), Fail> {
             open,
             Status::Content,
             "content: Empty",
+        ),
+        (
+            "search f q",
+            "1 2\n",
+            "",
+            open,
+            Status::Content,
+            "content: BadCell 1 3",
+        ),
+        (
+            "cnf f",
+            "1 2\n",
+            "",
+            open,
+            Status::Content,
+            "content: BadCell 1 3",
+        ),
+        (
+            "sat f q",
+            "p cnf 1\n",
+            "",
+            open,
+            Status::Content,
+            "content: BadHeader 1",
         ),
         // An input that can't be read has no fault of its content.
         (
@@ -120,14 +144,15 @@ fn the_first_refusal_is_answered(rt: HostRuntime) -> Result<(), Fail> {
         is_fault(&rt, alloc, &ended, status, text)?;
         assert!(rt; ended.out.bytes().is_empty());
     }
-    Ok(())
-}
-
-#[test]
-fn a_long_search_file_is_refused_before_the_proof_is_opened(rt: HostRuntime) -> Result<(), Fail> {
-    let alloc = rt.alloc();
+    // A comment as long as a search file may be, and one that is longer by a byte.
     let words = words_of(alloc, "check f p")?;
-    let file = vec![in alloc; b'#'; 1_048_577]?;
-    let ended = run_over(alloc, &words, &file, b"", Failing { open: 2, ..NOTHING })?;
-    is_fault(&rt, alloc, &ended, Status::Limit, "limit: TooLong 1048576")
+    for (length, status, text) in [
+        (1_048_576, Status::Content, "content: Empty"),
+        (1_048_577, Status::Limit, "limit: TooLong 1048576"),
+    ] {
+        let file = vec![in alloc; b'#'; length]?;
+        let ended = run_over(alloc, &words, &file, b"", open)?;
+        is_fault(&rt, alloc, &ended, status, text)?;
+    }
+    Ok(())
 }
