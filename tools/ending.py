@@ -33,13 +33,15 @@ def number(word, what):
         sys.exit(f"{name()}: {what} is a number, and not '{word}'")
 
 
+def shown(module_doc):
+    print(module_doc.strip())
+    return 0
+
+
 def run(main, module_doc):
     """Runs a script and ends with its status."""
-    if sys.argv[1:2] in (["-h"], ["--help"]):
-        print(module_doc.strip())
-        sys.exit(0)
     try:
-        status = main()
+        status = shown(module_doc) if sys.argv[1:2] in (["-h"], ["--help"]) else main()
         sys.stdout.flush()
     except BrokenPipeError:
         # Whoever read the output has gone; nothing more is written at the end.

@@ -1,0 +1,386 @@
+#!/usr/bin/env python3
+"""Spreads the search for an absence over processors or machines, and joins the pieces' proofs into one proof of the whole.
+
+    spread.py start SEARCH FOLDER [problem options] [--budget N] [--cells N] [--lls PROGRAM]
+    spread.py run FOLDER [-- options of GNU parallel]
+    spread.py join FOLDER PROOF
+    spread.py look FOLDER
+
+`start` takes the search file and the options of its question (--rule, --edge, --symmetry, --period, --live, --differ), and lays out
+the first pieces in FOLDER: each is the search file with the N unknown cells of generation 0 that are nearest to the middle (1 where
+--cells isn't given) fixed one way. `run` searches all open pieces in rounds, each within its budget (10,000 for the first ones), by GNU
+parallel (Debian's package `parallel`): over this machine's processors, or with `-- --sshloginfile HOSTS` over many machines that have the
+program under the same name. A piece whose budget is spent is split by one more cell, and its parts get twice the budget. `run` can be
+killed at any time and begun again; a piece counts only where its answer stands whole. It ends with 20 where every piece is closed,
+and with 10 where one has a pattern, which fits the whole file too and is judged against it.
+
+`join` writes the proof that no generations fit SEARCH and the options, and has `lls check` look at it. It reads the pieces' proofs
+line by line, so its memory goes with the clauses that are in use at a time. `look` says how a search stands.
+
+Nothing here has to be trusted: `lls check SEARCH PROOF [options]` shows the absence, and `lls judge` a pattern.
+"""
+import argparse
+import json
+import os
+import shlex
+import shutil
+import subprocess
+import sys
+import time
+
+import ending
+from refute import read_search_file
+
+OPTIONS = ("rule", "edge", "symmetry", "period", "live", "differ")
+FIRST_BUDGET, MOST_BUDGET = 10_000, 10_000_000
+PATTERN, ABSENT, UNDECIDED = 10, 20, 30
+
+
+class Stop(Exception):
+    """What keeps a search from going on, with why."""
+
+
+class Piece:
+    """A piece: the cells of the order that are fixed, each one way. Its name is `r` and a digit for each."""
+
+    def __init__(self, spread, name):
+        self.spread, self.name = spread, name
+
+    def depth(self):
+        return len(self.name) - 1
+
+    def path(self, ending_):
+        return f"{self.spread.folder}/pieces/{self.name}.{ending_}"
+
+    def has(self, ending_):
+        return os.path.exists(self.path(ending_))
+
+    def parts(self):
+        return [Piece(self.spread, self.name + digit) for digit in "01"]
+
+    def fixed(self):
+        """Returns the fixed cells with their values, by place."""
+        return dict(zip(self.spread.order, self.name[1:]))
+
+    def generations(self):
+        fixed, generations = self.fixed(), [[list(row) for row in rows] for rows in self.spread.generations]
+        for (y, x), digit in fixed.items():
+            generations[0][y][x] = generations[0][y][x].replace("*", digit)
+        return generations
+
+    def tries(self):
+        """Returns how often the budget was doubled since no cell is left to fix."""
+        if not self.has("tries"):
+            return 0
+        with open(self.path("tries"), encoding="ascii") as file:
+            return int(file.read())
+
+    def budget(self):
+        return min(MOST_BUDGET, self.spread.budget * 2 ** (self.depth() - self.spread.cells + self.tries()))
+
+
+class Spread:
+    """A search that is laid out in a folder."""
+
+    def __init__(self, folder):
+        self.folder = folder
+        try:
+            with open(f"{folder}/asked.json", encoding="utf-8") as file:
+                asked = json.load(file)
+        except OSError:
+            raise Stop(f"{folder}: no search is laid out here; `start` does that") from None
+        self.options, self.budget, self.cells = asked["options"], asked["budget"], asked["cells"]
+        self.clauses, self.program = asked["clauses"], asked["lls"]
+        with open(f"{folder}/search.lls", encoding="utf-8") as file:
+            self.generations = read_search_file(file.read())
+        self.order = splitting_order(self.generations[0])
+
+    def lls(self, *words):
+        return subprocess.run([self.program, *words], capture_output=True, text=True, encoding="utf-8", check=False)
+
+    def leaves(self):
+        """Yields the pieces that aren't split, from the left."""
+        waiting = [Piece(self, "r")]
+        while waiting:
+            piece = waiting.pop()
+            if piece.depth() < self.cells or piece.has("split"):
+                waiting += reversed(piece.parts())
+            else:
+                yield piece
+
+
+def splitting_order(rows):
+    """Returns the unknown cells of a generation, as row and column, the nearest to the middle first."""
+    height, width = len(rows), len(rows[0])
+    unknown = [(y, x) for y in range(height) for x in range(width) if rows[y][x].rstrip("'") == "*"]
+    return sorted(unknown, key=lambda cell: ((2 * cell[0] - height + 1) ** 2 + (2 * cell[1] - width + 1) ** 2, cell))
+
+
+def write_whole(path, text):
+    """Writes a file that is there whole or not at all."""
+    with open(f"{path}.new", "w", encoding="utf-8") as file:
+        file.write(text)
+    os.replace(f"{path}.new", path)
+
+
+# Laying out.
+
+
+def clause_count(program, search, options):
+    """Returns how many clauses the formula of a search file has."""
+    with subprocess.Popen([program, "cnf", search, *options], stdout=subprocess.PIPE, stderr=subprocess.PIPE, text=True) as made:
+        head = made.stdout.readline().split()
+        if head[:2] != ["p", "cnf"]:
+            raise Stop(f"lls cnf says: {made.stderr.read().strip()}")
+        made.kill()
+    return int(head[3])
+
+
+def start(words):
+    if os.path.exists(words.folder):
+        raise Stop(f"{words.folder} is there already")
+    options = [f"--{name}={value}" for name in OPTIONS if (value := getattr(words, name)) is not None]
+    with open(words.search, encoding="utf-8") as file:
+        text = file.read()
+    clauses = clause_count(words.lls, words.search, options)
+    free = len(splitting_order(read_search_file(text)[0]))
+    if words.cells > free:
+        raise Stop(f"generation 0 has {free} unknown cells to fix, and not {words.cells}")
+    os.makedirs(f"{words.folder}/pieces")
+    write_whole(f"{words.folder}/search.lls", text)
+    asked = {"options": options, "budget": words.budget, "cells": words.cells, "clauses": clauses, "lls": os.path.abspath(words.lls)}
+    write_whole(f"{words.folder}/asked.json", json.dumps(asked, indent=1) + "\n")
+    print(f"{2 ** words.cells} pieces, each with a budget of {words.budget:,}")
+    return 0
+
+
+# Rounds.
+
+# One job: the search, and a file that holds its status and behind it what it found, under its final name only where it is whole.
+JOB = (
+    "{lls} search pieces/{{1}}.lls pieces/{{1}}.part {options} --budget={{2}} >pieces/{{1}}.out 2>pieces/{{1}}.err; s=$?; "
+    "case $s in 10) f=pieces/{{1}}.out;; 20) f=pieces/{{1}}.part;; 30) f=/dev/null;; *) cat pieces/{{1}}.err >&2; exit $s;; esac; "
+    "( echo $s; cat $f ) >pieces/{{1}}.new && mv pieces/{{1}}.new pieces/{{1}}.ended; rm -f pieces/{{1}}.part pieces/{{1}}.out pieces/{{1}}.err"
+)
+
+
+def search_round(spread, pieces, more):
+    """Searches pieces by GNU parallel, and returns whether it could."""
+    for piece in pieces:
+        write_whole(piece.path("lls"), "\n\n".join("\n".join(map(" ".join, rows)) for rows in piece.generations()) + "\n")
+    write_whole(f"{spread.folder}/round", "".join(f"{piece.name}\t{piece.budget()}\n" for piece in pieces))
+    job = JOB.format(lls=shlex.quote(spread.program), options=" ".join(map(shlex.quote, spread.options)))
+    words = ["parallel", "--will-cite", "--joblog", "joblog", "--colsep", "\t", "-a", "round"]
+    if sys.stderr.isatty():
+        words.append("--eta")
+    if any(word.startswith(("--sshlogin", "-S")) for word in more):
+        words += ["--transferfile", "pieces/{1}.lls", "--return", "pieces/{1}.ended", "--cleanup"]
+    subprocess.run([*words, *more, job], cwd=spread.folder, check=False)
+
+
+def take_ended(spread, piece):
+    """Takes what a job left of a piece, if it ended, and returns its status."""
+    if not piece.has("ended"):
+        return None
+    with open(piece.path("ended"), encoding="ascii") as file:
+        status = int(file.readline())
+        if status in (PATTERN, ABSENT):
+            kept = piece.path("pattern" if status == PATTERN else "proof")
+            with open(f"{kept}.new", "w", encoding="ascii") as to:
+                shutil.copyfileobj(file, to)
+            os.replace(f"{kept}.new", kept)
+    if status == UNDECIDED and piece.depth() < len(spread.order):
+        write_whole(piece.path("split"), "")
+    elif status == UNDECIDED:
+        if piece.budget() == MOST_BUDGET:
+            raise Stop(f"{piece.name} has no cell left to fix, and is undecided with the greatest budget")
+        write_whole(piece.path("tries"), str(piece.tries() + 1))
+    os.remove(piece.path("ended"))
+    return status
+
+
+def stands(leaves):
+    """Returns how many of the pieces are open and closed, and the share of the space that is closed."""
+    closed = [piece for piece in leaves if piece.has("proof")]
+    return len(leaves) - len(closed), len(closed), sum(2.0 ** -piece.depth() for piece in closed)
+
+
+def judged(spread, piece):
+    """Says what the whole file's judge says of a piece's pattern."""
+    said = spread.lls("judge", f"{spread.folder}/search.lls", piece.path("pattern"), *spread.options)
+    if said.stdout != "meets\n":
+        raise Stop(f"the pattern of {piece.name} doesn't fit the whole file: {said.stdout.strip() or said.stderr.strip()}")
+    print(f"pattern: {piece.path('pattern')}, judged by `lls judge` against the whole file")
+    return PATTERN
+
+
+def run(words):
+    spread, began = Spread(words.folder), time.time()
+    if shutil.which("parallel") is None:
+        raise Stop("GNU parallel isn't there; it is Debian's package `parallel`")
+    while True:
+        for piece in list(spread.leaves()):
+            take_ended(spread, piece)
+        leaves = list(spread.leaves())
+        found = next((piece for piece in leaves if piece.has("pattern")), None)
+        if found:
+            return judged(spread, found)
+        count, closed, share = stands(leaves)
+        print(f"{count} open, {closed} closed, {100 * share:.4g} % of the space closed, {time.time() - began:.0f} s", flush=True)
+        if count == 0:
+            return ABSENT
+        pieces = [piece for piece in leaves if not piece.has("proof")]
+        search_round(spread, pieces, words.more)
+        if not any(piece.has("ended") for piece in pieces):
+            raise Stop(f"no piece ended in this round; {words.folder}/joblog says how the jobs did")
+
+
+# One proof.
+
+
+class Joined:
+    """The proof that is written: its clauses have ids of their own, one after the other."""
+
+    def __init__(self, spread, file):
+        self.spread, self.file, self.last = spread, file, spread.clauses
+
+    def add(self, lits, hints):
+        self.last += 1
+        print(self.last, *lits, 0, *hints, 0, file=self.file)
+        return self.last
+
+    def delete(self, ids):
+        if ids:
+            print(self.last, "d", *ids, 0, file=self.file)
+
+    def piece(self, piece):
+        """Writes what closes a piece, and returns the id of the clause that says so: not all of its cells are fixed that way."""
+        if not piece.has("split") and piece.depth() >= self.spread.cells:
+            return self.leaf(piece)
+        closing = [self.piece(part) for part in piece.parts()]
+        last = self.add(negations(piece), closing)
+        self.delete(closing)
+        return last
+
+    def leaf(self, piece):
+        outside = negations(piece)
+        units = unit_places(piece)
+        known = {}
+
+        def joined(hint):
+            """The id here of a clause of the piece. The units that fix its cells have none."""
+            if hint in known:
+                return known[hint]
+            if hint > self.spread.clauses + len(units):
+                raise Stop(f"{piece.path('proof')}: clause {hint} isn't there")
+            return None if hint in units else hint - sum(unit < hint for unit in units)
+
+        with open(piece.path("proof"), encoding="ascii") as file:
+            for line in file:
+                words = line.split()
+                if words[1] == "d":
+                    self.delete([known.pop(number) for number in map(int, words[2:-1]) if number in known])
+                    continue
+                end = words.index("0", 1)
+                lits = list(map(int, words[1:end]))
+                hints = [number for number in (joined(int(word)) for word in words[end + 1 : -1]) if number is not None]
+                added = self.add(lits + [lit for lit in outside if lit not in lits], hints)
+                if not lits:
+                    self.delete(list(known.values()))
+                    return added
+                known[int(words[0])] = added
+        raise Stop(f"{piece.path('proof')} adds no empty clause")
+
+
+def negations(piece):
+    """Returns the literals that say that not all of a piece's cells are fixed as they are."""
+    width = len(piece.spread.generations[0][0])
+    return [(1 + x + width * y) * (1 if digit == "0" else -1) for (y, x), digit in piece.fixed().items()]
+
+
+def unit_places(piece):
+    """Returns the ids of the clauses that fix a piece's cells: known cells come first in a formula, by row and column."""
+    fixed, places, count = piece.fixed(), set(), 0
+    for y, row in enumerate(piece.generations()[0]):
+        for x, word in enumerate(row):
+            count += word.rstrip("'") in ("0", "1")
+            if (y, x) in fixed:
+                places.add(count)
+    return places
+
+
+def join(words):
+    spread = Spread(words.folder)
+    count = stands(list(spread.leaves()))[0]
+    if count:
+        raise Stop(f"{count} pieces are open; `run` goes on with them")
+    with open(f"{words.proof}.new", "w", encoding="ascii") as file:
+        Joined(spread, file).piece(Piece(spread, "r"))
+    os.replace(f"{words.proof}.new", words.proof)
+    said = spread.lls("check", f"{spread.folder}/search.lls", words.proof, *spread.options)
+    print(f"lls check says: {said.stdout.strip() or said.stderr.strip()}")
+    return 0 if said.stdout == "accepted\n" else 1
+
+
+# How it stands.
+
+
+def look(words):
+    spread = Spread(words.folder)
+    leaves = list(spread.leaves())
+    count, closed, share = stands(leaves)
+    print(f"{count} open, {closed} closed, {100 * share:.4g} % of the space closed")
+    for piece in leaves:
+        state = "closed" if piece.has("proof") else "pattern" if piece.has("pattern") else "open"
+        print(f"{'  ' * piece.depth()}{piece.name}: {state}, budget {piece.budget():,}")
+    hardest = max((piece for piece in leaves if not piece.has("proof")), key=Piece.depth, default=None)
+    if hardest:
+        print(f"generation 0 of {hardest.name}:")
+        print("\n".join(" ".join(row) for row in hardest.generations()[0]))
+    return 0
+
+
+def number(least):
+    def read(word):
+        value = int(word)
+        if value < least:
+            raise ValueError
+        return value
+
+    return read
+
+
+def words_given():
+    parser = argparse.ArgumentParser(prog="spread.py", usage=ending.usage_of(__doc__))
+    kinds = parser.add_subparsers(dest="kind", required=True)
+    for kind in (start, run, join, look):
+        words = kinds.add_parser(kind.__name__)
+        if kind is start:
+            words.add_argument("search")
+        words.add_argument("folder")
+        if kind is join:
+            words.add_argument("proof")
+        if kind is start:
+            for name in OPTIONS:
+                words.add_argument(f"--{name}")
+            words.add_argument("--budget", type=number(1), default=FIRST_BUDGET)
+            words.add_argument("--cells", type=number(0), default=1)
+            words.add_argument("--lls", default=f"{os.path.dirname(os.path.abspath(__file__))}/../lls")
+        words.set_defaults(do=kind)
+    given = sys.argv[1:]
+    end = given.index("--") if "--" in given else len(given)
+    parsed = parser.parse_args(given[:end])
+    parsed.more = given[end + 1 :]
+    return parsed
+
+
+def main():
+    words = words_given()
+    try:
+        return words.do(words)
+    except Stop as why:
+        return f"spread.py: {why}"
+
+
+if __name__ == "__main__":
+    ending.run(main, __doc__)

@@ -1,0 +1,99 @@
+#!/usr/bin/env python3
+"""Tests of spread.py that need no program: pieces, budgets, the joined proof's text, slips. `.ci/spread` tries it with the program.
+
+    test_spread.py
+"""
+import json
+import os
+import tempfile
+import unittest
+
+import spread
+from test_tools import ran
+
+SEARCH = "a * *'\n1 -a 0\n* * *\n\n* * *\n* 1' *\n* * *\n"
+
+
+class Pieces(unittest.TestCase):
+    def setUp(self):
+        folder = tempfile.TemporaryDirectory()
+        self.addCleanup(folder.cleanup)
+        self.folder = folder.name
+        os.mkdir(f"{self.folder}/pieces")
+        self.write("search.lls", SEARCH)
+        self.write("asked.json", json.dumps({"options": ["--period=1"], "budget": 100, "cells": 1, "clauses": 50, "lls": "lls"}))
+
+    def write(self, name, text):
+        with open(f"{self.folder}/{name}", "w", encoding="utf-8") as file:
+            file.write(text)
+
+    def piece(self, name):
+        return spread.Piece(spread.Spread(self.folder), name)
+
+    def test_cells_nearest_to_the_middle_come_first(self):
+        self.assertEqual(spread.Spread(self.folder).order, [(0, 1), (2, 1), (0, 2), (2, 0), (2, 2)])
+
+    def test_named_and_marked_cells_stay(self):
+        rows = [" ".join(row) for row in self.piece("r101").generations()[0]]
+        self.assertEqual(rows, ["a 1 1'", "1 -a 0", "* 0 *"])
+        self.assertEqual(self.piece("r101").generations()[1], [["*", "*", "*"], ["*", "1'", "*"], ["*", "*", "*"]])
+
+    def test_budgets_double(self):
+        self.assertEqual([self.piece(name).budget() for name in ("r0", "r01", "r0110")], [100, 200, 800])
+        self.write("pieces/r01.tries", "3")
+        self.assertEqual(self.piece("r01").budget(), 1600)
+
+    def test_units_stand_by_row_and_column(self):
+        # Of generation 0 the known cells are, in their order: (0,1) fixed, (0,2) fixed, (1,0), (1,2), (2,1) fixed.
+        self.assertEqual(spread.unit_places(self.piece("r101")), {1, 2, 5})
+        self.assertEqual(spread.negations(self.piece("r101")), [-2, 8, -3])
+
+    def test_parts_are_joined(self):
+        # Clause 1 of each piece is the unit of its cell. The left one derives 52, which it deletes, and 53; the right one nothing.
+        self.write("pieces/r0.proof", "52 4 0 2 1 7 0\n53 5 0 52 3 0\n53 d 52 9 0\n54 0 53 51 0\n")
+        self.write("pieces/r1.proof", "52 0 1 2 51 0\n")
+        joined = f"{self.folder}/joined"
+        with open(joined, "w", encoding="ascii") as file:
+            spread.Joined(spread.Spread(self.folder), file).piece(self.piece("r"))
+        with open(joined, encoding="ascii") as file:
+            lines = file.read().split("\n")
+        self.assertEqual(lines, [
+            "51 4 2 0 1 6 0",
+            "52 5 2 0 51 2 0",
+            "52 d 51 0",
+            "53 2 0 52 50 0",
+            "53 d 52 0",
+            "54 -2 0 1 50 0",
+            "55 0 53 54 0",
+            "55 d 53 54 0",
+            "",
+        ])
+
+    def test_how_it_stands(self):
+        self.write("pieces/r0.split", "")
+        self.write("pieces/r00.proof", "1 0 1 0\n")
+        leaves = list(spread.Spread(self.folder).leaves())
+        self.assertEqual([leaf.name for leaf in leaves], ["r00", "r01", "r1"])
+        self.assertEqual(spread.stands(leaves), (2, 1, 0.25))
+
+    def test_what_ended_is_taken(self):
+        self.write("pieces/r0.ended", "20\n9 0 1 0\n")
+        self.write("pieces/r1.ended", "30\n")
+        self.assertEqual([spread.take_ended(self.piece(name).spread, self.piece(name)) for name in ("r0", "r1", "r00")], [20, 30, None])
+        self.assertEqual(sorted(os.listdir(f"{self.folder}/pieces")), ["r0.proof", "r1.split"])
+
+    def test_slips(self):
+        for words, why in [
+            (["run", "/nowhere"], "/nowhere: no search is laid out here; `start` does that"),
+            (["join", self.folder, "proof"], "2 pieces are open; `run` goes on with them"),
+            (["start", "examples/one-cell.lls", self.folder], f"{self.folder} is there already"),
+        ]:
+            self.assertEqual(ran("tools/spread.py", *words), (1, "", f"spread.py: {why}\n"), words)
+        for words in ([], ["fly"], ["start", "a"], ["start", "a", "b", "--budget", "0"]):
+            status, _, err = ran("tools/spread.py", *words)
+            self.assertEqual(status, 2, words)
+            self.assertNotIn("Traceback", err)
+
+
+if __name__ == "__main__":
+    unittest.main()
