@@ -447,10 +447,10 @@ class Slips(unittest.TestCase):
             self.assertNotIn("Traceback", err, words)
 
     def test_scripts_can_be_run(self):
-        for name in os.listdir(f"{TOP}/tools"):
+        for name in (name for name in os.listdir(f"{TOP}/tools") if name.endswith(".py")):
             path = f"{TOP}/tools/{name}"
             with open(path, encoding="utf-8") as file:
-                is_script = name.endswith(".py") and file.readline().startswith("#!")
+                is_script = file.readline().startswith("#!")
             self.assertEqual(os.access(path, os.X_OK), is_script, name)
 
 
