@@ -316,7 +316,7 @@ def needed_lines(state, done, progress):
             ids = state.hints(literals)
             if ids is None:
                 raise BadProof(f"{where}: doesn't follow by unit propagation: {' '.join(map(str, literals))}")
-            lines.append((index, state.clauses[index], ids))
+            lines.append((index, literals, ids))
         progress.reach("checking", place, len(done))
     return lines
 
