@@ -42,14 +42,14 @@ class Progress:
     def begin(self):
         self.start = self.last = time.monotonic()
 
-    def reach(self, what, done, whole):
-        """Says what is done, at most once a second."""
+    def reach(self, done, whole):
+        """Says how much is checked and how long the rest takes, at most once a second."""
         now = time.monotonic()
         if now < self.last + 1:
             return
         self.last = now
-        left = int((now - self.start) * (whole - done) / max(done, 1))
-        self.say(f"{what}: {100 * done // whole} %, about {left} s left")
+        left = int((now - self.start) * (whole - done) / done)
+        self.say(f"hints.py: {100 * done // whole} % checked, about {left} s left")
         if not self.is_shown and not self.is_long and left > 60 and now > self.start + 3:
             self.is_long = True
             print(f"hints.py: this takes about {left // 60 + 1} minutes", file=sys.stderr, flush=True)
@@ -273,12 +273,12 @@ def is_binary(proof):
     return any(byte not in TEXT_BYTES for byte in proof[:10])
 
 
-def replay(state, formula, steps, progress):
+def replay(state, formula, steps):
     """Adds the formula and the steps, up to a contradiction. Returns what was done: the step, the clause's id, the trail before it."""
     ids, done = {}, []
     for clause in formula:
         ids.setdefault(tuple(sorted(clause)), []).append(state.add(clause))
-    for place, step in enumerate(steps):
+    for step in steps:
         if state.refuted:
             break
         where, is_deletion, literals = step
@@ -295,7 +295,6 @@ def replay(state, formula, steps, progress):
             index = ids[key].pop()
             state.unwatch(index)
             done.append((step, index, 0))
-        progress.reach("reading", place, len(steps))
     if not state.refuted:
         raise BadProof("the proof is unfinished: its clauses come to no contradiction")
     return done
@@ -304,8 +303,10 @@ def replay(state, formula, steps, progress):
 def needed_lines(state, done, progress):
     """Returns the lines of LRAT, the last one first: of the empty clause, and of the clauses that it rests on."""
     lines = [(len(state.clauses), [], state.chain(state.refuted))]
+    # Deletions take no time, and come many at once.
+    checked, additions = 0, sum(not step[1] for step, _, _ in done)
     progress.begin()
-    for place, (step, index, length) in enumerate(reversed(done)):
+    for step, index, length in reversed(done):
         where, is_deletion, literals = step
         if is_deletion:
             state.watch(index)
@@ -317,19 +318,21 @@ def needed_lines(state, done, progress):
             if ids is None:
                 raise BadProof(f"{where}: doesn't follow by unit propagation: {' '.join(map(str, literals))}")
             lines.append((index, literals, ids))
-        progress.reach("checking", place, len(done))
+        checked += 1
+        progress.reach(checked, additions)
     return lines
 
 
-def hinted(formula, proof, has_bits=None, progress=None):
+def hinted(formula, proof, has_bits=None):
     """Returns the lines of LRAT that a formula and a proof make, both given as bytes. Whether the proof is binary may be said."""
-    progress = progress or Progress()
-    clauses = read_formula(formula)
-    steps = binary_steps(proof) if (is_binary(proof) if has_bits is None else has_bits) else text_steps(proof)
+    progress = Progress()
     try:
+        progress.say("hints.py: reading")
+        clauses = read_formula(formula)
+        steps = binary_steps(proof) if (is_binary(proof) if has_bits is None else has_bits) else text_steps(proof)
         largest = max(max(map(abs, clause), default=0) for clause in clauses + [step[2] for step in steps] + [[]])
         state = Propagation(largest)
-        done = replay(state, clauses, steps, progress)
+        done = replay(state, clauses, steps)
         lines = needed_lines(state, done, progress)
     finally:
         progress.end()
