@@ -129,9 +129,9 @@ class Hints(Scratch):
             self.refused(unfinished, proof)
 
     def test_reasons_stay(self):
-        # 1 follows from the clause that is deleted, as solvers do once its value is known for good.
+        # Solvers delete clauses that hold for good, as those do that the values of 1 and 2 follow from.
         formula = "p cnf 4 6\n1 0\n-1 2 0\n-2 3 4 0\n-2 3 -4 0\n-2 -3 4 0\n-2 -3 -4 0\n"
-        status, out, err = self.hinted("d 1 0\n3 0\n", formula=formula)
+        status, out, err = self.hinted("d 1 0\nd -1 2 0\n3 0\n", formula=formula)
         self.assertEqual((status, err), (0, ""))
         self.assertEqual([set(parts_of(line)[2]) for line in out.splitlines()], [{1, 2, 3, 4}, {1, 2, 7, 5, 6}])
         self.assertIsNone(first_fault(hints.read_formula(formula.encode()), out.splitlines()))
