@@ -1,154 +1,360 @@
 #!/usr/bin/env python3
 """Gives a solver's proof its hints: reads clauses that follow by unit propagation, prints LRAT additions.
 
-    hints.py FORMULA PROOF
+    hints.py [--text | --binary] FORMULA PROOF
 
-FORMULA is DIMACS CNF, PROOF a DRUP proof in text, as `cadical --plain --no-binary FORMULA PROOF` writes it. Deletions are
-passed over: more clauses only help. Of the rest, the clauses are printed that the empty clause rests on. A clause that doesn't
-follow by unit propagation ends the run with exit status 1.
+FORMULA is DIMACS CNF, PROOF a DRUP proof in text or binary, with or without deletions, as `cadical --plain FORMULA PROOF` writes it.
+Which of the two it is, the first ten bytes tell, as in drat-trim, unless a word says so. Printed are the clauses that the empty
+clause rests on. One of them that doesn't follow by unit propagation ends the run with exit status 1 and its line, as does a proof
+that comes to no contradiction. On a terminal, and for a proof that takes over a minute, the standard error says how long it takes.
 
-Nothing has to be trusted here: `lls check` checks what is printed. Each clause watches two of its literals, as in MiniSat
-(Een, Sorensson, An Extensible SAT-solver, 2003).
+Nothing has to be trusted here: `lls check` checks what is printed. The clauses are all read first and then looked at from the last
+one to the first, so that only those are checked that are needed (Goldberg, Novikov, Verification of proofs of unsatisfiability for
+CNF formulas, 2003); clauses that are needed anyway propagate before the others (Heule, Hunt, Wetzler, Trimming while checking
+clausal proofs, 2013). Each clause watches its first two literals (Een, Sorensson, An Extensible SAT-solver, 2003).
 """
 import sys
+import time
 
 import ending
 
+# What a text proof's first bytes can be: line ends, blanks, `-`, digits, and the bytes from `A` to `z`.
+TEXT_BYTES = frozenset(b"\n\r -0123456789" + bytes(range(ord("A"), ord("z") + 1)))
 
-class Propagation:
-    """Clauses with ids from 1 on, and the literals that follow from them."""
+
+class BadProof(Exception):
+    """A formula or a proof that can't be read or doesn't hold, with why."""
+
+
+class Progress:
+    """Says on the standard error how far a run is; once only where that is no terminal and the run takes long."""
 
     def __init__(self):
-        self.clauses = [()]
-        self.watches = {}
-        self.reasons = {}
-        self.trail = []
-        self.next = 0
-        # The clause that was found false with nothing assumed.
-        self.refuted = None
+        self.is_shown, self.width = sys.stderr.isatty(), 0
+        self.start = self.last = time.monotonic()
+        self.is_long = False
 
-    def add(self, clause):
-        """Adds a clause and propagates what follows from it alone."""
-        clause = list(dict.fromkeys(clause))
+    def say(self, text):
+        if self.is_shown:
+            print(f"\r{text:<{self.width}}", end="", file=sys.stderr, flush=True)
+            self.width = len(text)
+
+    def begin(self):
+        self.start = self.last = time.monotonic()
+
+    def reach(self, done, whole):
+        """Says how much is checked and how long the rest takes, at most once a second."""
+        now = time.monotonic()
+        if now < self.last + 1:
+            return
+        self.last = now
+        left = int((now - self.start) * (whole - done) / done)
+        self.say(f"hints.py: {100 * done // whole} % checked, about {left} s left")
+        if not self.is_shown and not self.is_long and left > 60 and now > self.start + 3:
+            self.is_long = True
+            print(f"hints.py: this takes about {left // 60 + 1} minutes", file=sys.stderr, flush=True)
+
+    def end(self):
+        if self.width:
+            print(f"\r{'':<{self.width}}\r", end="", file=sys.stderr, flush=True)
+
+
+class Propagation:
+    """Clauses with ids from 1 on, and the literals that follow from them. Lists by literal have the negative ones at their end."""
+
+    def __init__(self, variables):
+        size = 2 * variables + 1
+        self.clauses = [()]
+        self.is_core = [False]
+        # Which clauses watch a literal: those that are needed, and the others.
+        self.core = [[] for _ in range(size)]
+        self.rest = [[] for _ in range(size)]
+        self.is_false = [False] * size
+        self.reasons = [0] * size
+        self.trail = []
+        self.core_next = self.rest_next = 0
+        # The clause that was found false with nothing assumed.
+        self.refuted = 0
+
+    def add(self, literals):
+        """Adds a clause and propagates what follows from it alone. Returns its id."""
+        clause = list(dict.fromkeys(literals))
+        index = len(self.clauses)
         self.clauses.append(clause)
-        index = len(self.clauses) - 1
+        self.is_core.append(False)
         # Literals that aren't false come first, so that they are watched.
-        clause.sort(key=lambda literal: -literal in self.reasons)
-        for literal in clause[:2]:
-            self.watches.setdefault(literal, []).append(index)
-        free = [literal for literal in clause if -literal not in self.reasons]
-        if not free:
+        clause.sort(key=self.is_false.__getitem__)
+        if len({abs(literal) for literal in clause}) < len(clause):
+            # With a literal both ways it holds always, and nothing follows from it.
+            clause.clear()
+            return index
+        self.watch(index)
+        if not clause or self.is_false[clause[0]]:
             self.refuted = self.refuted or index
-        elif len(free) == 1 and free[0] not in self.reasons:
-            self.put(free[0], index)
+        elif (len(clause) == 1 or self.is_false[clause[1]]) and not self.is_false[-clause[0]]:
+            self.put(clause[0], index)
             self.refuted = self.refuted or self.propagate()
+        return index
+
+    def watch(self, index):
+        clause = self.clauses[index]
+        if len(clause) > 1:
+            watches = self.core if self.is_core[index] else self.rest
+            watches[clause[0]].append(index)
+            watches[clause[1]].append(index)
+
+    def unwatch(self, index):
+        clause = self.clauses[index]
+        if len(clause) > 1:
+            watches = self.core if self.is_core[index] else self.rest
+            watches[clause[0]].remove(index)
+            watches[clause[1]].remove(index)
+
+    def is_reason(self, index):
+        clause = self.clauses[index]
+        return bool(clause) and self.is_false[-clause[0]] and self.reasons[clause[0]] == index
 
     def put(self, literal, reason):
+        self.is_false[-literal] = True
         self.reasons[literal] = reason
         self.trail.append(literal)
 
-    def propagate(self):
-        """Returns a clause that is false, or None."""
-        while self.next < len(self.trail):
-            false = -self.trail[self.next]
-            self.next += 1
-            kept, watched = [], self.watches.pop(false, [])
-            self.watches[false] = kept
-            for place, index in enumerate(watched):
-                if not self.rewatch(index, false, kept):
-                    kept.extend(watched[place + 1 :])
-                    return index
-        return None
+    def undo(self, length):
+        """Takes back what was put last, down to a length of the trail at which nothing was left to propagate."""
+        trail, is_false = self.trail, self.is_false
+        for literal in trail[length:]:
+            is_false[-literal] = False
+        del trail[length:]
+        self.core_next = self.rest_next = length
 
-    def rewatch(self, index, false, kept):
-        """Finds another literal to watch, or puts the one that is left. False where the clause is false."""
-        clause = self.clauses[index]
-        if clause[0] == false and len(clause) > 1:
-            clause[0], clause[1] = clause[1], clause[0]
-        if clause[0] not in self.reasons:
-            for place in range(2, len(clause)):
-                if -clause[place] not in self.reasons:
-                    clause[1], clause[place] = clause[place], clause[1]
-                    self.watches.setdefault(clause[1], []).append(index)
-                    return True
-        kept.append(index)
-        if clause[0] in self.reasons:
-            return True
-        if clause[0] == false or -clause[0] in self.reasons:
-            return False
-        self.put(clause[0], index)
-        return True
+    def propagate(self):
+        """Returns a clause that is false, or 0. What is needed already goes first, so that less becomes needed."""
+        trail = self.trail
+        while True:
+            while self.core_next < len(trail):
+                self.core_next += 1
+                conflict = self.visit(self.core, -trail[self.core_next - 1])
+                if conflict:
+                    return conflict
+            if self.rest_next == len(trail):
+                return 0
+            self.rest_next += 1
+            conflict = self.visit(self.rest, -trail[self.rest_next - 1])
+            if conflict:
+                return conflict
+
+    def visit(self, watches, false):
+        """Goes over the clauses that watch a literal that is false now. Returns one that is false, or 0."""
+        clauses, is_false, reasons, trail = self.clauses, self.is_false, self.reasons, self.trail
+        watched, kept = iter(watches[false]), []
+        keep = kept.append
+        for index in watched:
+            clause = clauses[index]
+            first = clause[0]
+            if first == false:
+                first = clause[0] = clause[1]
+                clause[1] = false
+            if is_false[-first]:
+                keep(index)
+                continue
+            for other in clause:
+                if not is_false[other] and other != first:
+                    clause[clause.index(other)] = false
+                    clause[1] = other
+                    watches[other].append(index)
+                    break
+            else:
+                keep(index)
+                if is_false[first]:
+                    kept.extend(watched)
+                    watches[false] = kept
+                    return index
+                is_false[-first] = True
+                reasons[first] = index
+                trail.append(first)
+        watches[false] = kept
+        return 0
 
     def hints(self, clause):
         """Returns the ids that lead from the negation of a clause to a conflict, or None."""
         start = len(self.trail)
-        conflict = self.refuted
+        conflict = 0
         for literal in clause:
-            if literal in self.reasons and conflict is None:
+            if self.is_false[-literal]:
+                # It holds already, so that its reason is false once it is assumed not to; 0 where a clause has it both ways.
                 conflict = self.reasons[literal]
-            if literal not in self.reasons and -literal not in self.reasons:
+                break
+            if not self.is_false[literal]:
                 self.put(-literal, 0)
-        if conflict is None:
-            conflict = self.propagate()
-        ids = None if conflict is None else self.chain(conflict)
-        for literal in self.trail[start:]:
-            del self.reasons[literal]
-        del self.trail[start:]
-        self.next = start
+        conflict = conflict or self.propagate()
+        ids = self.chain(conflict) if conflict else None
+        self.undo(start)
         return ids
 
     def chain(self, conflict):
-        """Returns the reasons behind a clause that is false, in the order of the trail, and the clause."""
-        needed, ids = {abs(literal) for literal in self.clauses[conflict]}, [conflict]
+        """Returns the reasons behind a clause that is false, in the order of the trail, and the clause. They are needed from now on."""
+        clauses, reasons = self.clauses, self.reasons
+        needed, ids = set(clauses[conflict]), [conflict]
         for literal in reversed(self.trail):
-            reason = self.reasons[literal]
-            if abs(literal) in needed and reason and reason != conflict:
-                ids.append(reason)
-                needed.update(abs(other) for other in self.clauses[reason])
+            if -literal in needed:
+                reason = reasons[literal]
+                if reason:
+                    ids.append(reason)
+                    needed.update(clauses[reason])
+        for index in ids:
+            if not self.is_core[index]:
+                self.unwatch(index)
+                self.is_core[index] = True
+                self.watch(index)
         return ids[::-1]
 
 
-def clauses_in(words):
-    """Yields the clauses that words say, each up to its 0."""
-    clause = []
-    for word in words:
-        if word == "0":
-            yield clause
-            clause = []
+def literals_of(words, where):
+    try:
+        return [int(word) for word in words]
+    except ValueError:
+        raise BadProof(f"{where}: a word is no number") from None
+
+
+def read_formula(text):
+    """Returns the clauses of a formula in DIMACS CNF."""
+    words = [word for line in text.splitlines() if line[:1] not in (b"c", b"p") for word in line.split()]
+    clauses, clause = [], []
+    for literal in literals_of(words, "the formula"):
+        if literal:
+            clause.append(literal)
         else:
-            clause.append(int(word))
+            clauses.append(clause)
+            clause = []
+    return clauses
 
 
-def needed_steps(steps):
-    """Returns the steps that the last one rests on, and it."""
-    needed, kept = {steps[-1][0]}, []
-    for step in reversed(steps):
-        number, _, ids = step
-        if number in needed:
-            needed.update(ids)
-            kept.append(step)
-    return kept[::-1]
+def text_steps(proof):
+    """Returns the steps of a proof in text: where it stands, whether it deletes, and the literals."""
+    steps = []
+    for number, line in enumerate(proof.splitlines(), 1):
+        words = line.split()
+        if not words or words[0].startswith(b"c"):
+            continue
+        is_deletion = words[0] == b"d"
+        literals = literals_of(words[is_deletion:], f"line {number}")
+        if 0 in literals[:-1] or literals[-1:] != [0]:
+            raise BadProof(f"line {number}: a step ends with its first 0, and has a line to itself")
+        steps.append((f"line {number}", is_deletion, literals[:-1]))
+    return steps
+
+
+def binary_steps(proof):
+    """Returns the steps of a binary proof. A literal is twice its variable, and one more where it is negative, in groups of seven bits,
+    of which the lowest comes first and all but the last have 128 added."""
+    steps, place = [], 0
+    while place < len(proof):
+        kind, place, literals = proof[place], place + 1, []
+        where = f"step {len(steps) + 1} of the binary proof"
+        if kind not in b"ad":
+            raise BadProof(f"{where} begins with neither `a` nor `d`")
+        while True:
+            code = shift = 0
+            while place < len(proof) and proof[place] > 127:
+                code |= (proof[place] & 127) << shift
+                shift, place = shift + 7, place + 1
+            if place == len(proof):
+                raise BadProof(f"{where} has no end")
+            code |= proof[place] << shift
+            place += 1
+            if not code:
+                break
+            literals.append(-(code >> 1) if code & 1 else code >> 1)
+        steps.append((where, kind == ord("d"), literals))
+    return steps
+
+
+def is_binary(proof):
+    return any(byte not in TEXT_BYTES for byte in proof[:10])
+
+
+def replay(state, formula, steps):
+    """Adds the formula and the steps, up to a contradiction. Returns what was done: the step, the clause's id, the trail before it."""
+    ids, done = {}, []
+    for clause in formula:
+        ids.setdefault(tuple(sorted(clause)), []).append(state.add(clause))
+    for step in steps:
+        if state.refuted:
+            break
+        where, is_deletion, literals = step
+        key = tuple(sorted(literals))
+        if not is_deletion:
+            if not literals:
+                raise BadProof(f"{where}: the empty clause doesn't follow by unit propagation")
+            length = len(state.trail)
+            index = state.add(literals)
+            ids.setdefault(key, []).append(index)
+            done.append((step, index, length))
+        elif ids.get(key) and not state.is_reason(ids[key][-1]):
+            # What something follows from stays, and so does what isn't there: more clauses only help.
+            index = ids[key].pop()
+            state.unwatch(index)
+            done.append((step, index, 0))
+    if not state.refuted:
+        raise BadProof("the proof is unfinished: its clauses come to no contradiction")
+    return done
+
+
+def needed_lines(state, done, progress):
+    """Returns the lines of LRAT, the last one first: of the empty clause, and of the clauses that it rests on."""
+    lines = [(len(state.clauses), [], state.chain(state.refuted))]
+    # Deletions take no time, and come many at once.
+    checked, additions = 0, sum(not step[1] for step, _, _ in done)
+    progress.begin()
+    for step, index, length in reversed(done):
+        where, is_deletion, literals = step
+        if is_deletion:
+            state.watch(index)
+            continue
+        state.undo(length)
+        state.unwatch(index)
+        if state.is_core[index]:
+            ids = state.hints(literals)
+            if ids is None:
+                raise BadProof(f"{where}: doesn't follow by unit propagation: {' '.join(map(str, literals))}")
+            lines.append((index, literals, ids))
+        checked += 1
+        progress.reach(checked, additions)
+    return lines
+
+
+def hinted(formula, proof, has_bits=None):
+    """Returns the lines of LRAT that a formula and a proof make, both given as bytes. Whether the proof is binary may be said."""
+    progress = Progress()
+    try:
+        progress.say("hints.py: reading")
+        clauses = read_formula(formula)
+        steps = binary_steps(proof) if (is_binary(proof) if has_bits is None else has_bits) else text_steps(proof)
+        largest = max(max(map(abs, clause), default=0) for clause in clauses + [step[2] for step in steps] + [[]])
+        state = Propagation(largest)
+        done = replay(state, clauses, steps)
+        lines = needed_lines(state, done, progress)
+    finally:
+        progress.end()
+    return [" ".join(map(str, [index, *clause, 0, *ids, 0])) for index, clause, ids in reversed(lines)]
+
+
+def content(path):
+    with open(path, "rb") as file:
+        return file.read()
 
 
 def main():
+    has_bits = None
+    if sys.argv[1:2] in (["--text"], ["--binary"]):
+        has_bits = sys.argv.pop(1) == "--binary"
     formula, proof = ending.words(__doc__, "FORMULA", "PROOF")
-    state, steps = Propagation(), []
-    with open(formula, encoding="ascii") as file:
-        for clause in clauses_in(word for line in file if line[0] not in "cp" for word in line.split()):
-            state.add(clause)
-    with open(proof, encoding="ascii") as file:
-        for clause in clauses_in(word for line in file if line[0] != "d" for word in line.split()):
-            ids = state.hints(clause)
-            if ids is None:
-                sys.exit(f"doesn't follow by unit propagation: {clause}")
-            steps.append((len(state.clauses), clause, ids))
-            if not clause:
-                break
-            state.add(clause)
-        else:
-            sys.exit("the proof adds no empty clause")
-    for number, clause, ids in needed_steps(steps):
-        print(number, *clause, 0, *ids, 0)
+    try:
+        lines = hinted(content(formula), content(proof), has_bits)
+    except BadProof as fault:
+        return f"hints.py: {fault}"
+    print("\n".join(lines))
+    return 0
 
 
 if __name__ == "__main__":

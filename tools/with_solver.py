@@ -1,0 +1,195 @@
+#!/usr/bin/env python3
+"""Answers a search file with another solver, and has the answer shown by the program.
+
+    with_solver.py [--lls PROGRAM] SOLVER SEARCH PROOF [WORD ..]
+
+`lls cnf` makes the formula of SEARCH and of the WORDs, which are its options (`--period 3`), and SOLVER solves it. A model is made a
+pattern, which `lls judge` judges; a proof is given its hints, and `lls check` checks it. As with `lls search`, what is printed is the
+pattern (status 10), `no pattern` (20), where the checked proof stands in PROOF, or `undecided` (30). Else the status is 1 with a
+sentence. The standard error says what each step took, and what is shown by what.
+
+SOLVER is a name or a path that ends in one: cadical, or minisat or picosat, which write no proof, so that only their patterns are shown.
+LRAT of newer versions of CaDiCaL is taken as it is, and drat-trim's where that program is there; else tools/hints.py makes it.
+PROGRAM is by default `lls` in the folder above this file's.
+
+Neither the solver nor this script has to be trusted, only what the program says of the pattern or the proof.
+"""
+import os
+import shutil
+import subprocess
+import sys
+import tempfile
+import time
+
+import ending
+import hints
+from pattern import BadInput, pattern_of
+
+LLS = os.path.join(os.path.dirname(os.path.dirname(os.path.abspath(__file__))), "lls")
+
+
+class NoAnswer(Exception):
+    """What keeps a question from an answer."""
+
+
+def say(text):
+    print(f"with_solver.py: {text}", file=sys.stderr, flush=True)
+
+
+class Step:
+    """Says how long what is done in it takes."""
+
+    def __init__(self, name):
+        self.name = name
+
+    def __enter__(self):
+        self.start = time.monotonic()
+
+    def __exit__(self, kind, *_):
+        say(f"{self.name}{', which failed' if kind else ''}: {time.monotonic() - self.start:.1f} s")
+
+
+def run(*words):
+    """Returns the status of a command and what it prints; its standard error goes where this script's does."""
+    try:
+        done = subprocess.run(words, stdin=subprocess.DEVNULL, stdout=subprocess.PIPE, check=False)
+    except OSError as fault:
+        raise NoAnswer(f"{words[0]}: {fault.strerror}") from None
+    return done.returncode, done.stdout.decode("utf-8", errors="replace")
+
+
+class Question:
+    """A search file and the words for it, which the program is asked about."""
+
+    def __init__(self, program, search, words):
+        self.program, self.search = program, search
+        self.posed = ["--posed"] * ("--posed" in words)
+        self.words = [word for word in words if word != "--posed"]
+
+    def ask(self, command, *files):
+        """Runs a command of the program. Returns its status and what it prints."""
+        with Step(f"`lls {command}`"):
+            return run(self.program, *self.posed, command, self.search, *files, *self.words)
+
+
+def cadical(program, formula, proof):
+    has_lrat = "--lrat" in run(program, "--help")[1]
+    options = ["-q", "--plain", "--no-binary", *["--lrat"] * has_lrat]
+    return (*run(program, *options, formula, proof), "lrat" if has_lrat else "drat")
+
+
+def picosat(program, formula, _):
+    # Its versions in packages are made without traces.
+    return (*run(program, formula), None)
+
+
+def minisat(program, formula, proof):
+    result = f"{proof}.result"
+    status, out = run(program, "-verb=0", formula, result)
+    if status == 10:
+        # Its file has a line `SAT` and the values on the next one.
+        with open(result, encoding="ascii") as file:
+            out = "s SATISFIABLE\nv " + " ".join(file.read().split()[1:]) + "\n"
+    return status, out, None
+
+
+# Each returns the solver's status, what it prints, and the form of its proof: LRAT, DRAT in text, or none.
+SOLVERS = {"cadical": cadical, "minisat": minisat, "picosat": picosat}
+
+
+def lrat_of(formula, proof, folder):
+    """Returns the name of a file that has a DRAT proof in LRAT."""
+    lrat = f"{folder}/lrat"
+    trim = shutil.which("drat-trim")
+    if trim:
+        with Step("hints by drat-trim"):
+            run(trim, formula, proof, "-L", lrat)
+        if os.path.exists(lrat) and os.path.getsize(lrat):
+            return lrat
+        say("drat-trim made no LRAT")
+    try:
+        with Step("hints by hints.py"):
+            lines = hints.hinted(hints.content(formula), hints.content(proof), False)
+    except hints.BadProof as fault:
+        raise NoAnswer(f"the solver's proof: {fault}") from None
+    with open(lrat, "w", encoding="ascii") as file:
+        file.write("\n".join(lines) + "\n")
+    return lrat
+
+
+def show_pattern(question, model, folder):
+    """Prints the pattern of a model, once it is judged."""
+    with open(question.search, encoding="utf-8", errors="replace") as file:
+        search = file.read()
+    try:
+        text = "\n".join(pattern_of(search, model)) + "\n"
+    except BadInput as fault:
+        raise NoAnswer(f"the solver's model: {fault}") from None
+    with open(f"{folder}/pattern", "w", encoding="ascii") as file:
+        file.write(text)
+    status, out = question.ask("judge", f"{folder}/pattern")
+    if status != 0:
+        raise NoAnswer(f"`lls judge` doesn't take the solver's pattern: {out.strip() or f'status {status}'}")
+    print(text, end="")
+    say("pattern: judged by `lls judge`")
+    return 10
+
+
+def show_absence(question, lrat, proof):
+    """Says that there is no pattern, once the proof is checked, and keeps the proof."""
+    status, out = question.ask("check", lrat)
+    if status != 0:
+        raise NoAnswer(f"`lls check` doesn't take the proof: {out.strip() or f'status {status}'}")
+    shutil.copyfile(lrat, proof)
+    print("no pattern")
+    say(f"no pattern: shown by `lls check` of {proof}")
+    return 20
+
+
+def answer(question, solver, proof, folder):
+    """Returns the status of the answer that a solver gives and the program shows."""
+    name = os.path.basename(solver)
+    if name not in SOLVERS:
+        raise NoAnswer(f"of the solver '{name}' the options aren't known here, only those of {', '.join(SOLVERS)}")
+    program = shutil.which(solver)
+    if program is None:
+        raise NoAnswer(f"no solver '{solver}' is there")
+    if not os.access(os.path.dirname(os.path.abspath(proof)), os.W_OK):
+        raise NoAnswer(f"{proof}: nothing can be written there")
+    status, text = question.ask("cnf")
+    if status != 0:
+        raise NoAnswer(f"`lls cnf` made no formula: status {status}")
+    formula, made = f"{folder}/cnf", f"{folder}/proof"
+    with open(formula, "w", encoding="ascii") as file:
+        file.write(text)
+    with Step(name):
+        status, out, form = SOLVERS[name](program, formula, made)
+    if status == 10:
+        return show_pattern(question, out, folder)
+    if status == 20 and form is None:
+        raise NoAnswer(f"{name} says that there is no pattern, and writes no proof: nothing is shown")
+    if status == 20:
+        return show_absence(question, made if form == "lrat" else lrat_of(formula, made, folder), proof)
+    if status in (0, 30):
+        print("undecided")
+        say(f"undecided: {name} ended without an answer")
+        return 30
+    how = f"was ended by signal {-status}" if status < 0 else f"ended with status {status}"
+    raise NoAnswer(f"{name} {how} and gave no answer")
+
+
+def main():
+    program = LLS
+    if sys.argv[1:2] == ["--lls"] and len(sys.argv) > 2:
+        program = sys.argv[2]
+        del sys.argv[1:3]
+    solver, search, proof, *words = ending.words(__doc__, "SOLVER", "SEARCH", "PROOF", "WORD ..")
+    try:
+        with tempfile.TemporaryDirectory() as folder:
+            return answer(Question(program, search, words), solver, proof, folder)
+    except NoAnswer as fault:
+        return f"with_solver.py: {fault}"
+
+
+if __name__ == "__main__":
+    ending.run(main, __doc__)
