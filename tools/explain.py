@@ -254,7 +254,8 @@ def looks(data):
     lines = [line.strip() for line in data.split(b"\n")]
     body = [line for line in lines if line and not line.startswith(b"#")]
     first = body[0] if body else b""
-    if re.match(rb"x *= *[0-9]", first) or re.fullmatch(rb"[0-9bo$\s]*[bo$][0-9bo$\s]*!.*", b"\n".join(body), re.DOTALL):
+    items = re.match(rb"[0-9bo$\s]*!", b"\n".join(body))
+    if re.match(rb"x *= *[0-9]", first) or items and re.search(rb"[bo$]", items.group()):
         return "RLE"
     if any(re.match(rb"p[ \t]+cnf[ \t]+[0-9]", line) for line in lines[:1000]):
         return "formula"
@@ -291,8 +292,8 @@ def other_kind(line, kind, name):
         then = "; are the two files exchanged?"
     elif kind == "search":
         then = ", and a search file has rows of cells; tools/pose.py poses questions of pictures"
-    elif kind == "pattern" and found == "RLE":
-        then = ", which is read with --as rle"
+    elif kind == "pattern":
+        then = ", which is read with --as rle" if found == "RLE" else ", and a pattern has rows of cells, or RLE with --as rle"
     return f"{name} looks like {KINDS[found]}{then}"
 
 
@@ -419,7 +420,8 @@ def formula_fault(name, fault, numbers):
         elif fault == "Percent":
             why, column = "a %, as files of SATLIB end: take this line out, and those behind it", text.find(b"%") + 1
         elif fault == "LiteralRange":
-            why, column = f"the literal {numbers[1]} is beyond the variables of the header", text.find(b"%d" % numbers[1]) + 1
+            why = f"the literal {numbers[1]} is beyond the variables of the header"
+            column = re.search(rb"(?<!\S)-?0*%d(?!\S)" % abs(numbers[1]), text).start() + 1
         else:
             odd = next((match for match in re.finditer(rb"\S+", text) if not re.fullmatch(rb"0{1,18}|-?[0-9]{1,18}", match.group())), None)
             column = odd.start() + 1 if odd else 1
@@ -484,7 +486,7 @@ def missing(name):
     folder, last = os.path.split(name)
     if not os.path.isdir(folder or "."):
         return f"there is no folder {shown(folder)}"
-    near = nearest(last, os.listdir(folder or "."))
+    near = nearest(last, sorted(os.listdir(folder or "."))[:1000])
     return f"there is no file {shown(name)}{f'; is it {shown(os.path.join(folder, near))}?' if near else ''}"
 
 
@@ -532,10 +534,12 @@ def explanation(status, said, words):
     if not explain or not found:
         return None
     try:
-        return explain(Line(words), found.group(1), [int(number) for number in found.group(2).split()])
-    except (KeyError, IndexError, TypeError, ValueError, OSError):
+        why = explain(Line(words), found.group(1), [int(number) for number in found.group(2).split()])
+    except (AttributeError, IndexError, KeyError, OSError, TypeError, ValueError):
         # The file or the words aren't those that the program spoke of: there is nothing to add.
         return None
+    # Names of files may have anything in them.
+    return why and "".join(char if char.isprintable() or char == "\n" else "?" for char in why)
 
 
 def main():

@@ -95,17 +95,23 @@ FILES = {
     "glider.rle": "#C a glider\nx = 3, y = 3, rule = B3/S23\nbob$2bo$3o!\n",
     "bare.rle": "bob$2bo$3o!\n",
     "bad.rle": "x = 3, y = 3\nbob$2bA$3o!\n",
-    "open.rle": "x = 3, y = 3\nbob$2bo$3o\n",
+    "open.rle": "x = 3, y = 3\nbo$2o\n",
+    "tall.rle": "x = 1, y = 3\no$o$o!\n",
     "picture.cells": "!Name: Glider\n.O.\n..O\nOOO\n",
     "p": "1 1\n1 *\n\n1 1\n1 1\n",
     "bad.pattern": "1 1\n1 ?\n",
-    "f.cnf": "c two\np cnf 2 2\n1 -2 0\n3 0\n",
+    "f.cnf": "c two\np cnf 2 2\n1 -2 0\n2 -3 0\n",
     "word.cnf": "p cnf 2 1\n1 x 0\n",
     "satlib.cnf": "p cnf 1 1\n1 0\n%\n0\n",
     "header.cnf": "c\np cnf 2\n1 0\n",
+    "count.cnf": "p cnf 1 3\n1 0\n-1 0\n",
+    "many.cnf": "p cnf 16777217 0\n",
     "unended.cnf": "p cnf 2 1\n1 -2\n",
     "f.lrat": "3 0 1 2 0\n",
     "accent.lls": "0 \u00e9\n",
+    "row.lls": "0 1 *\n",
+    "large.lls": ("* " * 64 + "\n") * 64,
+    "larger.lls": (("* " * 64 + "\n") * 64 + "\n") * 3,
     "high.lls": "0\n" * 65,
     "many.lls": "0\n\n" * 65,
     "zero.rle": "x = 3, y = 3\n0b!\n",
@@ -129,7 +135,7 @@ CONTENT = [
         "content: BadCell 1 1",
         "picture.cells looks like plaintext (.cells), and a search file has rows of cells; tools/pose.py poses questions of pictures",
     ),
-    ("cnf f.cnf", "content: BadCell 3 3", "f.cnf looks like a formula in DIMACS CNF, which sat and lrat read"),
+    ("cnf f.cnf", "content: BadCell 2 7", "f.cnf looks like a formula in DIMACS CNF, which sat and lrat read"),
     ("check f.lrat q.lls", "content: BadCell 1 1", "f.lrat looks like an LRAT proof; are the two files exchanged?"),
     ("judge q.lls glider.rle", "content: BadCell 2 3", "glider.rle looks like RLE, which is read with --as rle"),
     ("judge q.lls p --as rle", "content: NoHeader", "p looks like rows of cells, which are read without --as rle"),
@@ -146,41 +152,43 @@ CONTENT = [
     ),
     ("judge q.lls zero.rle --as=rle", "content: BadTag 2 1", "zero.rle:2:1: a count has 1 to 6 digits, isn't zero, and a tag follows it\n    0b!\n    ^"),
     ("judge q.lls bare.rle --as=rle", "content: NoHeader", "bare.rle has no header: the first line that is no comment is as x = 3, y = 3"),
-    ("judge q.lls glider.rle --as=rle", "content: TooHigh 2", "glider.rle has a live cell in row 2, counted from 0, below the grid's last row"),
+    ("judge q.lls tall.rle --as=rle", "content: TooHigh 2", "tall.rle has a live cell in row 2, counted from 0, below the grid's last row"),
     ("cnf accent.lls", "content: NotAscii 1 3", "accent.lls:1:3: this byte isn't ASCII\n    0 ??\n      ^"),
     ("cnf high.lls", "limit: TooHigh 65", "a generation of high.lls has more than 64 rows; a blank line ends it"),
     ("cnf many.lls", "limit: TooMany 65", "many.lls has more than 64 generations; blank lines separate them"),
     ("judge q.lls many.lls", "limit: TooMany 65", "many.lls has more than 64 generations; blank lines separate them"),
     ("sat header.cnf new", "content: BadHeader 2", "header.cnf:2: the header is p cnf VARIABLES CLAUSES\n    p cnf 2\n    ^"),
     ("sat unended.cnf new", "content: Unended", "unended.cnf ends inside a clause: the last one has no 0"),
-    ("lrat f.cnf f.lrat", "content: ClauseCount 3 2", "the header of f.cnf says 3 clauses, and there are 2"),
-    ("sat f.cnf new", "limit: TooManyVariables 16777217", "f.cnf declares 16777217 variables, and 16777216 are the most"),
+    ("lrat count.cnf f.lrat", "content: ClauseCount 3 2", "the header of count.cnf says 3 clauses, and there are 2"),
+    ("sat many.cnf new", "limit: TooManyVariables 16777217", "many.cnf declares 16777217 variables, and 16777216 are the most"),
     (
         "cnf q.lls --live 0:3-2",
         "content: BoundsCross 0",
         "--live 0:3-2: for generation 0 the low end is above the high end, or above the number of cells",
     ),
     (
-        "cnf q.lls --live 0:2000-3000",
-        "limit: Counters 12291072",
-        "--live 0:2000-3000 needs 12291072 variables for counting, and 1000000 are the most; lower numbers need fewer",
+        "cnf large.lls --live 0:1-300",
+        "limit: Counters 1232896",
+        "--live 0:1-300 needs 1232896 variables for counting, and 1000000 are the most; lower numbers need fewer",
     ),
+    ("cnf larger.lls", "limit: TooManyCells 8256", "larger.lls has 8256 cells or more, and 8192 are the most"),
     ("search q.lls folder", "outside: CreateFailed", "'folder' is a folder"),
     ("search q.lls new", "outside: WriteFailed", "'new' could be written only in part: is the disk full?"),
     ("judge q.lls open.rle --as=rle", "content: NoEnd", "open.rle ends without the ! of a picture's end"),
     (
         "judge q.lls glider.rle --as=rle",
-        "content: TooWide 0",
-        "glider.rle has a live cell in row 0, counted from 0, right of the grid's last column",
+        "content: TooWide 1",
+        "glider.rle has a live cell in row 1, counted from 0, right of the grid's last column",
     ),
-    ("sat f.cnf new", "content: LiteralRange 4 3", "f.cnf:4: the literal 3 is beyond the variables of the header\n    3 0\n    ^"),
+    ("sat f.cnf new", "content: LiteralRange 4 -3", "f.cnf:4: the literal -3 is beyond the variables of the header\n    2 -3 0\n      ^"),
+    ("judge q.lls picture.cells", "content: BadCell 1 1", "picture.cells looks like plaintext (.cells), and a pattern has rows of cells, or RLE with --as rle"),
     ("sat word.cnf new", "content: BadWord 2", "word.cnf:2: 'x' is no number\n    1 x 0\n      ^"),
     ("sat satlib.cnf new", "content: Percent 3", "satlib.cnf:3: a %, as files of SATLIB end: take this line out, and those behind it\n    %\n    ^"),
     ("sat q.lls new", "content: NoHeader", "q.lls looks like rows of cells, and cnf prints the formula of such a search file"),
     (
-        "search wide.lls new --symmetry D8",
-        "content: NotSquare 1 65",
-        "--symmetry D8 exchanges rows and columns, and wide.lls has 1 row of 65 cells",
+        "search row.lls new --symmetry D8",
+        "content: NotSquare 1 3",
+        "--symmetry D8 exchanges rows and columns, and row.lls has 1 row of 3 cells",
     ),
     ("cnf q.lls --live 0:1-,2:-3", "content: NoGeneration 2", "--live 0:1-,2:-3 names generation 2, and q.lls has 2 generations, from 0"),
     ("cnf q.lls --differ 0,5", "content: NoGeneration 5", "--differ 0,5 names generation 5, and q.lls has 2 generations, from 0"),
@@ -338,6 +346,12 @@ class Streams(Case):
         done = subprocess.run(["./lls", "check", "a b", "*", ""], input=b"read", stdout=subprocess.PIPE, cwd=self.top, timeout=20, check=False)
         self.assertEqual((done.returncode, done.stdout), (20, b"<check><a b><*><>read"))
 
+    def test_closed_streams(self):
+        self.program("#!/bin/bash\necho answer || exit 4\ncat\nexit 20\n")
+        for closed, status in (("<&-", 20), ("2>&-", 20), (">&-", 4), (">/dev/full", 4), (">&- 2>&- <&-", 4)):
+            done = subprocess.run(["bash", "-c", f"./lls cnf {closed}"], stdin=subprocess.DEVNULL, capture_output=True, cwd=self.top, timeout=20, check=False)
+            self.assertEqual((done.returncode, done.stdout), (status, b"answer\n" if status == 20 else b""), closed)
+
     def test_output_comes_at_once(self):
         self.program("#!/bin/bash\necho first\nread -r\nexit 0\n")
         with subprocess.Popen(["./lls", "cnf"], stdin=subprocess.PIPE, stdout=subprocess.PIPE, cwd=self.top) as run:
@@ -442,8 +456,8 @@ class Terminal(Case):
     def test_interrupts(self):
         for number, (line, does, left) in enumerate(
             [
-                ("search q.lls f.lrat", ":", "nothing was written"),
-                ("search q.lls new", ":", "nothing was written"),
+                ("search q.lls f.lrat", ":", "nothing was written to f.lrat"),
+                ("search q.lls --edge open new", ":", "nothing was written to new"),
                 ("check q.lls f.lrat", ":", "nothing was written"),
                 ("cnf q.lls", ":", "what it printed may not be whole"),
                 ("search q.lls new", "echo 1 > new", "written to, and perhaps not whole: new"),
