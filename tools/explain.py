@@ -67,9 +67,8 @@ def some(number, what):
 
 
 def shown(word):
-    """A word between quotes, with what can't be seen as `?`, and not too much of it."""
-    text = "".join(char if char.isprintable() else "?" for char in word)
-    return f"'{text}'" if len(text) <= 60 else f"'{text[:57]}..'"
+    """A word between quotes, and not too much of it."""
+    return f"'{word}'" if len(word) <= 60 else f"'{word[:57]}..'"
 
 
 def nearest(word, others):
@@ -538,7 +537,7 @@ def explanation(status, said, words):
     except (AttributeError, IndexError, KeyError, OSError, TypeError, ValueError):
         # The file or the words aren't those that the program spoke of: there is nothing to add.
         return None
-    # Names of files may have anything in them.
+    # Words and names of files may have anything in them.
     return why and "".join(char if char.isprintable() or char == "\n" else "?" for char in why)
 
 

@@ -139,6 +139,15 @@ CONTENT = [
     ("check f.lrat q.lls", "content: BadCell 1 1", "f.lrat looks like an LRAT proof; are the two files exchanged?"),
     ("judge q.lls glider.rle", "content: BadCell 2 3", "glider.rle looks like RLE, which is read with --as rle"),
     ("judge q.lls p --as rle", "content: NoHeader", "p looks like rows of cells, which are read without --as rle"),
+    (
+        "judge odd.lls p",
+        "content: BadCell 3 3",
+        "odd.lls:3:3: '2' is no cell: 0 is dead, 1 live, * unknown, letters and digits a name\n    1 2\n      ^",
+    ),
+    ("judge wide.lls p", "limit: TooWide 65", "a row of wide.lls has 65 cells, and 64 are the most"),
+    ("judge q.lls wide.lls", "limit: TooWide 65", "a row of wide.lls has 65 cells, and 64 are the most"),
+    ("judge ragged.lls p", "content: Ragged 2 2 3", "ragged.lls:2: this row has 3 cells, and the first has 2\n    0 1 *\n        ^"),
+    ("judge q.lls sizes.lls", "content: Sizes 1 2 1", "generation 1 of sizes.lls has 1 row, and generation 0 has 2; a blank line ends a generation"),
     ("judge q.lls p", "content: NotPlain 0 1 1", "p:2:3: '*' in a pattern, which has 0 and 1 alone\n    1 *\n      ^"),
     (
         "judge q.lls bad.pattern",
@@ -448,6 +457,11 @@ class Terminal(Case):
                 self.assertEqual(self.on_terminal("/bin/bash", "-c", line), (1, "answer\n"))
         self.program("#!/bin/bash\necho answer\nexit 1\n")
         self.assertEqual(self.on_terminal("./lls", "check", "q.lls", "p"), (1, "answer\n"))
+
+    def test_all_output_comes_before_the_programs_line(self):
+        self.program("#!/bin/bash\nseq 20000\necho 'lls: odd' >&2\nexit 4\n")
+        wanted = "".join(f"{number}\n" for number in range(1, 20001))
+        self.assertEqual(self.on_terminal("./lls", "cnf", "q.lls"), (4, wanted + "lls: odd\n"))
 
     def test_explanations_on_a_terminal(self):
         self.program("#!/bin/bash\necho 'lls: words: UnknownCommand' >&2\nexit 2\n")
