@@ -37,7 +37,8 @@ _lls_reply() {
 _lls() {
     local current=${COMP_WORDS[COMP_CWORD]} previous=${COMP_WORDS[COMP_CWORD - 1]} commands='check cnf judge lrat make rule sat search'
     local first=1 words=()
-    [[ "${COMP_WORDS[1]-}" != --unproved && "${COMP_WORDS[1]-}" != --posed ]] || first=2
+    [ "${COMP_WORDS[1]-}" != --quiet ] || first=2
+    [[ "${COMP_WORDS[first]-}" != --unproved && "${COMP_WORDS[first]-}" != --posed ]] || first=$((first + 1))
     # `--edge=open` comes as three words.
     if [ "$current" = = ]; then
         current=
@@ -45,11 +46,14 @@ _lls() {
         previous=${COMP_WORDS[COMP_CWORD - 2]}
     fi
     if [ "$COMP_CWORD" -eq "$first" ]; then
-        [ "$first" -eq 2 ] || commands="$commands --help --version --posed --unproved"
+        case $first,${COMP_WORDS[1]} in
+        1,*) commands="$commands help --help --version --posed --quiet --unproved" ;;
+        2,--quiet) commands="$commands --posed --unproved" ;;
+        esac
         read -ra words <<<"$commands"
-    elif [ "$previous" = --help ]; then
+    elif [[ $previous = --help || $previous = help && $COMP_CWORD -eq 2 ]]; then
         read -ra words <<<"$commands"
-    elif [[ $previous = --* && $previous != --unproved && $previous != --posed ]]; then
+    elif [[ $previous = --* ]]; then
         read -ra words <<<"$(_lls_values "$previous")"
     elif [[ $current = -* ]]; then
         read -ra words <<<"$(_lls_options "${COMP_WORDS[first]}")"
