@@ -292,7 +292,7 @@ def other_kind(line, kind, name):
     elif kind == "search":
         then = ", and a search file has rows of cells; tools/pose.py poses questions of pictures"
     elif kind == "pattern":
-        then = ", which is read with --as rle" if found == "RLE" else ", and a pattern has rows of cells, or RLE with --as rle"
+        then = ", which is read with --as rle" if found == "RLE" else ", and a pattern has rows of cells, or RLE with --as rle; tools/place.py makes RLE of it"
     return f"{name} looks like {KINDS[found]}{then}"
 
 
@@ -404,7 +404,7 @@ def rle_fault(name, fault, numbers):
             why = "a count has 1 to 6 digits, isn't zero, and a tag follows it"
         return f"{name}:{number}:{column}: {why}{marked(text, column)}"
     return {
-        "NoHeader": "{name} has no header: the first line that is no comment is as x = 3, y = 3",
+        "NoHeader": "{name} has no header: the first line that is no comment is as x = 3, y = 3; tools/place.py writes one",
         "TooWide": "{name} has a live cell in row {0}, counted from 0, right of the grid's last column",
         "TooHigh": "{name} has a live cell in row {0}, counted from 0, below the grid's last row",
         "NoEnd": "{name} ends without the ! of a picture's end",

@@ -7,8 +7,10 @@
     pose.py spaceship W H P DX DY [--margin N]     a pattern in the box that is there again P generations later, moved by
                                                    DX columns to the right and DY rows down; its phases on the way lie in the
                                                    box, its margin and the room that it moves through
-    pose.py predecessor FILE.rle [--margin N]      a generation before a pattern, in the pattern's own box and its margin
-    pose.py orphan FILE.rle [--margin N]           any generation before a pattern, wherever its cells are: `no pattern` says that
+    pose.py predecessor PICTURE [--margin N] [--at X,Y]
+                                                   a generation before a pattern, in the pattern's own box and its margin
+    pose.py orphan PICTURE [--margin N] [--at X,Y]
+                                                   any generation before a pattern, wherever its cells are: `no pattern` says that
                                                    nothing at all comes before these cells
 
 The search file goes to the standard output, the options to the standard error:
@@ -21,13 +23,16 @@ They also stand in the file's first line, `#! --period 2 --differ 0,1`, from whi
 The margin is N rows and columns more on each side, 0 where it isn't given. Generation 0 is dead there, and later ones may use it;
 of a predecessor it is the other way round, and of an orphan the pattern is dead there. Round the grid everything stays dead. Where a
 question leaves out what a reader may think of, a note says so.
+
+A PICTURE is a file in RLE with or without a header, plaintext (.cells), Life 1.05 or Life 1.06. It stands in the middle of its margin, or
+with --at with its top left cell in column X and row Y of that grid, counted from 0.
 """
 import argparse
 import math
 import sys
 
 import ending
-from rle import BadRle, read_rles
+from pictures import BadPicture, pictures_of, place_word, placed
 
 MOST_GENERATIONS, MOST_ROWS, MOST_CELLS = 64, 64, 8192
 
@@ -80,36 +85,35 @@ def spaceship(width, height, period, right, down, margin):
     return Question([first] + [unknown_like(first)] * period, options, (notes if times > 1 else []) + [phases_note(first, margin)])
 
 
-def predecessor(name, margin):
-    wanted, options = wanted_pattern(name, margin)
-    notes = ["generations before it that reach outside of the grid are left out; `orphan` asks for any"]
+def predecessor(name, margin, at):
+    wanted, options, notes = wanted_pattern(name, margin, at)
+    notes.append("generations before it that reach outside of the grid are left out; `orphan` asks for any")
     return Question([unknown_like(wanted), wanted], options, notes)
 
 
-def orphan(name, margin):
-    wanted, options = wanted_pattern(name, margin)
+def orphan(name, margin, at):
+    wanted, options, notes = wanted_pattern(name, margin, at)
     # The cells of the pattern depend on a ring round them and on nothing else, so of the ring's own next state nothing is asked.
     free = ["*'"] * (len(wanted[0]) + 2)
     later = [free] + [["*'"] + row + ["*'"] for row in wanted] + [free]
-    return Question([unknown_like(later), later], options + ["--edge open"], [])
+    return Question([unknown_like(later), later], options + ["--edge open"], notes)
 
 
-def wanted_pattern(name, margin):
-    """Returns the cells of the first pattern of a file with dead ones round them, and the options that it asks for."""
+def wanted_pattern(name, margin, at):
+    """Returns the cells of the first picture of a file with dead ones round them, the options that it asks for, and notes."""
     try:
         with open(name, encoding="utf-8", errors="replace") as file:
-            patterns = read_rles(file.read())
+            picture = pictures_of(file.read())[0]
+        if not picture.rows or not picture.rows[0]:
+            raise BadPicture("a picture without cells")
+        rule = picture.known_rule()
+        width, height = len(picture.rows[0]) + 2 * margin, len(picture.rows) + 2 * margin
+        rows = placed(picture.rows, width, height, at or (margin, margin))
     except OSError as fault:
         raise BadQuestion(f"{name}: {fault.strerror}") from None
-    except BadRle as fault:
+    except BadPicture as fault:
         raise BadQuestion(f"{name}: {fault}") from None
-    pattern = patterns[0]
-    if not pattern.rows or not pattern.rows[0]:
-        raise BadQuestion(f"{name}: a pattern without cells")
-    side = ["0"] * margin
-    rows = [side + [str(cell) for cell in row] + side for row in pattern.rows]
-    dead = [["0"] * len(rows[0]) for _ in range(margin)]
-    return dead + rows + dead, [f"--rule {pattern.rule}"] if pattern.rule else []
+    return [[str(cell) for cell in row] for row in rows], [f"--rule {rule}"] if rule else [], picture.notes
 
 
 def boxed(width, height, left, top, box_width, box_height):
@@ -163,7 +167,8 @@ def question_of_words():
         words.set_defaults(ask=kind)
     for kind in (predecessor, orphan):
         words = kinds.add_parser(kind.__name__)
-        words.add_argument("name", metavar="FILE.rle")
+        words.add_argument("name", metavar="PICTURE")
+        words.add_argument("--at", metavar="X,Y", type=place_word)
         words.set_defaults(ask=kind)
     for words in kinds.choices.values():
         words.add_argument("--margin", metavar="N", type=margin_size, default=0)

@@ -5,6 +5,10 @@ HEADER = re.compile(r"[ \t]*x[ \t]*=[ \t]*(\d+)[ \t]*,[ \t]*y[ \t]*=[ \t]*(\d+)[
 ITEM = re.compile(r"[ \t\r\n]*(\d*)[ \t\r\n]*([bo$!])")
 
 
+# The most rows and columns of a picture.
+MOST_SIDE = 10_000
+
+
 class BadRle(Exception):
     """A text that is no RLE, with why."""
 
@@ -28,7 +32,8 @@ def read_rles(text):
 def read_one(lines):
     """Returns the pattern of a header line and the lines behind it."""
     width, height, rest = HEADER.match(lines[0]).groups()
-    rule = re.search(r"rule[ \t]*=[ \t]*(\S+)", rest or "", re.IGNORECASE)
+    # The rule comes last, and its name may have blanks.
+    rule = re.search(r"rule[ \t]*=[ \t]*(.*\S)", rest or "", re.IGNORECASE)
     rows = grid_of(read_runs("\n".join(lines[1:])), int(width), int(height))
     return Pattern(rows, rule and rule.group(1).rstrip(","))
 
@@ -57,6 +62,8 @@ def grid_of(runs, width, height):
     """Returns the rows of a grid that holds all runs, at least of the given size."""
     width = max([width] + [column + count for _, column, count in runs])
     height = max([height] + [row + 1 for row, _, _ in runs])
+    if max(width, height) > MOST_SIDE:
+        raise BadRle(f"a picture of more than {MOST_SIDE} rows or columns")
     rows = [[0] * width for _ in range(height)]
     for row, column, count in runs:
         rows[row][column : column + count] = [1] * count

@@ -3,7 +3,8 @@
 
     show.py [FILE ..] [--about] [--svg FILE [--animate]] [--width COLUMNS]
 
-A FILE is a history (rows of 0 and 1, an empty line between generations), a search file, or patterns in RLE, one behind the other.
+A FILE is a history (rows of 0 and 1, an empty line between generations), a search file, patterns in RLE, one behind the other, or a
+picture in plaintext (.cells), Life 1.05 or Life 1.06.
 With no FILE the standard input is read, so `lls search .. | show.py` works; its answers `no pattern` and `undecided` are handed on.
 
 In the terminal two rows share a line. A file with cells that aren't known is drawn one row a line and two columns a cell: `??`
@@ -22,7 +23,7 @@ import sys
 
 import ending
 from refute import read_search_file
-from rle import HEADER, BadRle, read_rles
+from pictures import BadPicture, is_picture, pictures_of
 
 CELL = re.compile(r"(?:[01*]|-?[A-Za-z][A-Za-z0-9]{0,31})'?")
 ANSWERS = ("no pattern", "undecided")
@@ -33,14 +34,15 @@ class BadInput(Exception):
 
 
 def read_generations(text):
-    """Returns the generations of a text of any of the three forms, all as words of search files."""
-    first = next((line for line in text.splitlines() if line.strip() and not line.startswith("#")), "")
-    if HEADER.match(first):
+    """Returns the generations of a text of any of these forms, all as words of search files."""
+    if is_picture(text):
         try:
-            patterns = [pattern.rows for pattern in read_rles(text)]
-        except BadRle as fault:
+            pictures = [picture.rows for picture in pictures_of(text)]
+        except BadPicture as fault:
             raise BadInput(str(fault)) from None
-        return same_sizes([[[str(cell) for cell in row] for row in rows] for rows in patterns])
+        if not any(rows and rows[0] for rows in pictures):
+            raise BadInput("a picture without cells")
+        return same_sizes([[[str(cell) for cell in row] for row in rows] for rows in pictures])
     generations = read_search_file(text)
     if not generations:
         raise BadInput("no rows of cells")

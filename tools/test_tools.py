@@ -423,7 +423,7 @@ class Pattern(unittest.TestCase):
 class Slips(unittest.TestCase):
     """Whatever words and files a script gets, it says a sentence and ends with a status that isn't 0: no traceback."""
 
-    SCRIPTS = "costs decided formula hints made pattern pose problems refute show solutions"
+    SCRIPTS = "costs decided formula hints made pattern place pose problems refute show solutions"
 
     def test_words_and_files(self):
         binary = scratch(self, "binary", "")
@@ -440,7 +440,7 @@ class Slips(unittest.TestCase):
                     self.fail(f"{script} {words} ends with 0")
 
     def test_help(self):
-        for script in (self.SCRIPTS + " documents words").split():
+        for script in (self.SCRIPTS + " documents fits words").split():
             status, out, err = ran(f"tools/{script}.py", "--help")
             self.assertEqual((status, err), (0, ""), script)
             self.assertIn(f"{script}.py", out)

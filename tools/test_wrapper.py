@@ -160,7 +160,7 @@ CONTENT = [
         "bad.rle:2:7: 'A' is no tag: b is dead, o live, $ a row's end, ! the end\n    bob$2bA$3o!\n          ^",
     ),
     ("judge q.lls zero.rle --as=rle", "content: BadTag 2 1", "zero.rle:2:1: a count has 1 to 6 digits, isn't zero, and a tag follows it\n    0b!\n    ^"),
-    ("judge q.lls bare.rle --as=rle", "content: NoHeader", "bare.rle has no header: the first line that is no comment is as x = 3, y = 3"),
+    ("judge q.lls bare.rle --as=rle", "content: NoHeader", "bare.rle has no header: the first line that is no comment is as x = 3, y = 3; tools/place.py writes one"),
     ("judge q.lls tall.rle --as=rle", "content: TooHigh 2", "tall.rle has a live cell in row 2, counted from 0, below the grid's last row"),
     ("cnf accent.lls", "content: NotAscii 1 3", "accent.lls:1:3: this byte isn't ASCII\n    0 ??\n      ^"),
     ("cnf high.lls", "limit: TooHigh 65", "a generation of high.lls has more than 64 rows; a blank line ends it"),
@@ -190,7 +190,7 @@ CONTENT = [
         "glider.rle has a live cell in row 1, counted from 0, right of the grid's last column",
     ),
     ("sat f.cnf new", "content: LiteralRange 4 -3", "f.cnf:4: the literal -3 is beyond the variables of the header\n    2 -3 0\n      ^"),
-    ("judge q.lls picture.cells", "content: BadCell 1 1", "picture.cells looks like plaintext (.cells), and a pattern has rows of cells, or RLE with --as rle"),
+    ("judge q.lls picture.cells", "content: BadCell 1 1", "picture.cells looks like plaintext (.cells), and a pattern has rows of cells, or RLE with --as rle; tools/place.py makes RLE of it"),
     ("sat word.cnf new", "content: BadWord 2", "word.cnf:2: 'x' is no number\n    1 x 0\n      ^"),
     ("sat satlib.cnf new", "content: Percent 3", "satlib.cnf:3: a %, as files of SATLIB end: take this line out, and those behind it\n    %\n    ^"),
     ("sat q.lls new", "content: NoHeader", "q.lls looks like rows of cells, and cnf prints the formula of such a search file"),
@@ -386,6 +386,25 @@ class Streams(Case):
     def test_no_descriptor_is_left_to_the_program(self):
         self.program("#!/bin/bash\n[ ! -e /dev/fd/3 ] && echo none\n")
         self.assertEqual(self.lls("cnf"), (0, b"none\n", ""))
+
+
+class Notes(Case):
+    """What the wrapper says of a picture behind the program's answer."""
+
+    NOTE = "lls: note: high.rle names the rule B36/S23, and is judged under B3/S23; --rule B36/S23 judges it under its own\n"
+
+    def test_behind_the_answer(self):
+        self.write("high.rle", "x = 1, y = 1, rule = HighLife\no!\n")
+        judged = "judge q.lls high.rle --as rle".split()
+        self.assertEqual(self.lls(*judged, OUT="meets", ENDS="0"), (0, b"meets", self.NOTE))
+        self.assertEqual(self.lls("--quiet", *judged, OUT="meets", ENDS="0"), (0, b"meets", ""))
+        self.assertEqual(self.lls(*judged, "--rule=B36/S23", OUT="meets", ENDS="0"), (0, b"meets", ""))
+        self.assertEqual(self.lls(*judged, OUT="", ENDS="5"), (5, b"", ""))
+
+    def test_behind_a_refusal_and_what_explains_it(self):
+        given = "judge q.lls glider.rle --as=rle".split()
+        status, out, err = self.lls(*given, SAYS="lls: content: TooWide 1", ENDS="3")
+        self.assertEqual((status, out, err.splitlines()[2]), (3, b"", "lls: note: glider.rle is 3 wide and 3 high, and the grid of q.lls 2 by 2; tools/place.py places a picture elsewhere in it"))
 
 
 class Help(Case):

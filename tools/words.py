@@ -130,6 +130,22 @@ def rule_fault(text):
     return fault or side_fault(birth, len(survival) + 2)
 
 
+def rule_sides(text):
+    """The births and the survivals of a rule text without a fault: each a set of counts, with a letter where the count has letters."""
+    if text[:1] in ("B", "b"):
+        birth, survival = re.fullmatch("[Bb]([^/Ss]*)/?[Ss](.*)", text).groups()
+    else:
+        survival, _, birth = text.partition("/")
+    sides = []
+    for side in (birth, survival):
+        named = set()
+        for count, minus, letters in re.findall("([0-8])(-?)([a-z]*)", side):
+            every = set(LETTERS[int(count)]) or {""}
+            named |= {(count, letter) for letter in (every - set(letters) if minus or not letters else letters)}
+        sides.append(named)
+    return sides
+
+
 def value(place, option, text):
     """What the value of an option or an operand says."""
     if option == "rule":
