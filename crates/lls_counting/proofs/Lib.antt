@@ -1,0 +1,4 @@
+pub mod Digits
+pub mod Sets
+pub mod Apart
+pub mod Logs

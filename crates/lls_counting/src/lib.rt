@@ -1,0 +1,8 @@
+//! Budgets that decide: with how many learnt clauses no search ends undecided.
+#![tactic(auto)]
+
+mod deciding;
+#[cfg(test)]
+mod tests;
+
+pub use deciding::deciding_budget;
