@@ -5,7 +5,8 @@
 
 PROGRAM is the built program; FOLDER gets the files. Each formula has at most 12 variables and is decided twice: with all clauses
 kept and a budget of 3 to the number of variables, and with a budget of 9 to it, both at most 10,000,000. An assignment that is
-printed has to satisfy the formula, and a proof has to be accepted by `lrat`. At the end a formula of 200 variables that some
+printed has to satisfy the formula, and a proof has to be accepted by `lrat`. So it is with every formula of one variable and of two, as
+sets of clauses in which no variable stands twice. At the end a formula of 200 variables that some
 assignment satisfies has to be decided within a second. Ends with a failure where an answer differs.
 """
 import itertools
@@ -24,6 +25,13 @@ def formula():
     literal = lambda: random.choice([1, -1]) * random.randint(1, count)
     length = lambda: 0 if random.random() < 0.001 else random.randint(1, 3)
     return count, [[literal() for _ in range(length())] for _ in range(random.randint(0, 6 * count))]
+
+
+def every_formula(count):
+    """Yields each set of clauses over so many variables in which none stands twice in a clause."""
+    clauses = [[lit for lit in signed if lit] for signed in itertools.product(*[(0, n, -n) for n in range(1, count + 1)])]
+    for chosen in itertools.product([False, True], repeat=len(clauses)):
+        yield count, list(itertools.compress(clauses, chosen))
 
 
 def is_satisfiable(count, clauses):
@@ -71,8 +79,8 @@ def main():
     random.seed(ending.number(seed, "SEED"))
     file, proof = os.path.join(folder, "formula"), os.path.join(folder, "proof")
     failed = 0
-    for _ in range(ending.number(count, "COUNT")):
-        variables, clauses = formula()
+    chosen = (formula() for _ in range(ending.number(count, "COUNT")))
+    for variables, clauses in itertools.chain(every_formula(1), every_formula(2), chosen):
         write(file, variables, clauses)
         satisfiable = is_satisfiable(variables, clauses)
         for options in (["--keep=all", f"--budget={min(3 ** variables, MOST_BUDGET)}"], [f"--budget={min(9 ** variables, MOST_BUDGET)}"]):
