@@ -1,5 +1,5 @@
 // The search for an assignment: descents and conflicts in turn.
-ghost use Rattle.std.specs.Prelude.{◌≡◌, ◌≤◌, ◌<◌, ◌+◌, ℕ, Bool, true, List, [], length, Ok, IfOk, OnOk, OnErr};
+ghost use Rattle.std.specs.Prelude.{◌≡◌, ◌≢◌, ◌≤◌, ◌<◌, ◌+◌, ◌^◌, ℕ, Bool, true, List, [], length, Ok, IfOk, OnOk, OnErr};
 ghost use Rattle.lls_prooflog.specs.Spent.{SomeCanBeLearnt, live_after};
 ghost use Rattle.lls_store.specs.Store.{IsConflict};
 ghost use Rattle.lls_analyse.specs.Learnt.{IsCurrentConflict};
@@ -42,6 +42,10 @@ pub fn solve(
     ensures undecided { result ≡ Ok Outcome.Undecided → IsExhausted formula.now budget log.new.steps }
     ensures memory { OnErr result (IsLogWithin formula.now budget log.new.steps) }
     ensures all_kept { KeepsAll keep_all log.new.steps }
+
+    // With such budgets a search never gives up, for no log spends them.
+    ensures decides { 9 ^ formula.now.vars ≤ budget → result ≢ Ok Outcome.Undecided }
+    ensures decides_kept { keep_all ≡ true → 3 ^ formula.now.vars ≤ budget → result ≢ Ok Outcome.Undecided }
 {
     let vars = formula.vars();
     let mut store = ScanStore::new(alloc, vars);
