@@ -3,8 +3,9 @@
 
     problems.py SEED COUNT FOLDER
 
-For each K below COUNT, FOLDER gets K.lls, a search file; K.words, the options of `lls`, one word a line; and K.script, the
-words of formula.py behind the search file, one a line. Rules are in B/S notation, and every demand fits its file.
+For each K below COUNT, FOLDER gets K.lls, a search file; K.words, the options of `lls`, one word a line; K.script, the
+words of formula.py behind the search file, one a line; and K.form, the option that names a form of the formula, for both, or
+nothing. Rules are in B/S notation, and every demand fits its file.
 """
 import os
 import random
@@ -55,15 +56,20 @@ def problem():
         pair = (random.randrange(generations), random.randrange(generations))
         words.append(f"--differ={pair[0]},{pair[1]}")
         script.append(f"--differ={pair[0]},{pair[1]}")
-    return text, words, script
+    form = random.choice([[], ["--formula=1"], ["--formula=2"]])
+    return text, words, script, form
+
+
+def lines(words):
+    return "".join(f"{word}\n" for word in words)
 
 
 def main():
     seed, count, folder = ending.words(__doc__, "SEED", "COUNT", "FOLDER")
     random.seed(ending.number(seed, "SEED"))
     for k in range(ending.number(count, "COUNT")):
-        text, words, script = problem()
-        for name, content in (("lls", text), ("words", "\n".join(words) + "\n"), ("script", "\n".join(script) + "\n")):
+        text, *lists = problem()
+        for name, content in zip(("lls", "words", "script", "form"), (text, *map(lines, lists))):
             with open(os.path.join(folder, f"{k}.{name}"), "w") as file:
                 file.write(content)
 

@@ -2,9 +2,9 @@
 """Makes the formula of a small search file and an LRAT proof of its absence, by plain splitting.
 
     refute.py SEARCH BIRTHS SURVIVALS closed|open [--symmetry NAME] [--period N] [--shift DX,DY] [--live T:LOW-HIGH,..]
-        [--differ A,B]
+        [--differ A,B] [--formula 1|2]
 
-BIRTHS and SURVIVALS are digits, or `-` for none. LOW and HIGH may be left out. The proof goes to the standard output, the sizes of the formula to the
+BIRTHS and SURVIVALS are digits, or `-` for none. LOW and HIGH may be left out. Form 2 of the formula, by cover, is the default. The proof goes to the standard output, the sizes of the formula to the
 standard error. Where generations exist that fit the file, there is no proof and the exit status is 1.
 
 It is written from docs/definitions.md alone and shares nothing with the crates, so that what both agree on is worth
@@ -56,6 +56,37 @@ GENERATORS = {
 }
 
 
+INPUTS = 10
+
+
+def bits_of(row):
+    """The bits of a row of inputs: the first input has the greatest weight."""
+    return tuple(bool(row >> (INPUTS - 1 - i) & 1) for i in range(INPUTS))
+
+
+def full_cubes(forbidden):
+    """A cube for each row: the bits that it asks for, by input."""
+    return [dict(enumerate(row)) for row in forbidden]
+
+
+def cover(forbidden):
+    """Cubes that contain just these rows: each begins as a row that no cube before it has, and loses the inputs, from the
+    first on, without which it still has such rows alone."""
+    rows, chosen, covered = set(forbidden), [], set()
+    for row in forbidden:
+        if row in covered:
+            continue
+        inside, free = {row}, set()
+        for i in range(INPUTS):
+            wider = inside | {member[:i] + (not member[i],) + member[i + 1 :] for member in inside}
+            if wider <= rows:
+                inside = wider
+                free.add(i)
+        covered |= inside
+        chosen.append({i: row[i] for i in range(INPUTS) if i not in free})
+    return chosen
+
+
 def opposite(place):
     """The negation of a literal or of a constant."""
     return not place if isinstance(place, bool) else -place
@@ -64,13 +95,14 @@ def opposite(place):
 class Formula:
     """The clauses of a search file, in the order of docs/definitions.md."""
 
-    def __init__(self, generations, successor, closed, symmetry="C1", period=None, shift=(0, 0), live=(), differ=None):
+    def __init__(self, generations, successor, closed, form=2, symmetry="C1", period=None, shift=(0, 0), live=(), differ=None):
         self.generations = generations
         self.height, self.width = len(generations[0]), len(generations[0][0])
         self.count = len(generations) * self.height * self.width
         self.closed = closed
-        rows = [[bool(row >> (9 - i) & 1) for i in range(10)] for row in range(1024)]
-        self.forbidden = [bits for bits in rows if successor(bits[:9]) != bits[9]]
+        forbidden = [row for row in map(bits_of, range(2**INPUTS)) if successor(row[:-1]) != row[-1]]
+        self.form = form
+        self.cubes = full_cubes(forbidden) if form == 1 else cover(forbidden)
         self.background = [False]
         for _ in generations[1:]:
             self.background.append(successor([self.background[-1]] * 9))
@@ -195,10 +227,13 @@ class Formula:
         steps = (-1, 0, 1)
         inputs = [self.place(t - 1, y + dy, x + dx) for dy in steps for dx in steps]
         inputs.append(self.place(t, y, x))
-        for bits in self.forbidden:
-            pairs = list(zip(inputs, bits))
+        here = len(self.clauses)
+        for cube in self.cubes:
+            pairs = [(inputs[i], bit) for i, bit in cube.items()]
             if all(value == bit for value, bit in pairs if isinstance(value, bool)):
-                self.clauses.append([-v if bit else v for v, bit in pairs if not isinstance(v, bool)])
+                clause = [-v if bit else v for v, bit in pairs if not isinstance(v, bool)]
+                if self.form == 1 or clause not in self.clauses[here:]:
+                    self.clauses.append(clause)
 
 
 class Refutation:
@@ -278,6 +313,7 @@ def formula_of_words(description):
     parser.add_argument("--shift", type=pair, default=(0, 0))
     parser.add_argument("--live", type=bounds, default=())
     parser.add_argument("--differ", type=pair)
+    parser.add_argument("--formula", type=int, choices=(1, 2), default=2)
     words = parser.parse_args()
 
     def successor(nine):
@@ -287,7 +323,7 @@ def formula_of_words(description):
     with open(words.search, encoding="ascii") as file:
         generations = read_search_file(file.read())
     demands = (words.symmetry, words.period, words.shift, words.live, words.differ)
-    return Formula(generations, successor, words.edge == "closed", *demands)
+    return Formula(generations, successor, words.edge == "closed", words.formula, *demands)
 
 
 def main():

@@ -6,9 +6,9 @@
     spread.py join FOLDER PROOF
     spread.py look FOLDER
 
-`start` takes the search file and the options of its question (--rule, --edge, --symmetry, --period, --live, --differ), and lays out
-the first pieces in FOLDER: each is the search file with the N unknown cells of generation 0 that are nearest to the middle (1 where
---cells isn't given) fixed one way. `run` searches all open pieces in rounds, each within its budget (10,000 for the first ones), by GNU
+`start` takes the search file, the options of its question (--rule, --edge, --symmetry, --period, --live, --differ) and the form of
+the formula (--formula), and lays out the first pieces in FOLDER: each is the search file with the N unknown cells of generation 0 that
+are nearest to the middle (1 where --cells isn't given) fixed one way. `run` searches all open pieces in rounds, each within its budget (10,000 for the first ones), by GNU
 parallel (Debian's package `parallel`): over this machine's processors, or with `-- --sshloginfile HOSTS` over many machines that have the
 program under the same name. A piece whose budget is spent is split by one more cell, and its parts get twice the budget. `run` can be
 killed at any time and begun again; a piece counts only where its answer stands whole. It ends with 20 where every piece is closed,
@@ -31,7 +31,7 @@ import time
 import ending
 from refute import read_search_file
 
-OPTIONS = ("rule", "edge", "symmetry", "period", "live", "differ")
+OPTIONS = ("rule", "edge", "symmetry", "period", "live", "differ", "formula")
 FIRST_BUDGET, MOST_BUDGET = 10_000, 10_000_000
 PATTERN, ABSENT, UNDECIDED = 10, 20, 30
 
@@ -207,7 +207,9 @@ def stands(leaves):
 
 def judged(spread, piece):
     """Says what the whole file's judge says of a piece's pattern."""
-    said = spread.lls("judge", f"{spread.folder}/search.lls", piece.path("pattern"), *spread.options)
+    # A history is judged without a formula.
+    options = [option for option in spread.options if not option.startswith("--formula=")]
+    said = spread.lls("judge", f"{spread.folder}/search.lls", piece.path("pattern"), *options)
     if said.stdout != "meets\n":
         raise Stop(f"the pattern of {piece.name} doesn't fit the whole file: {said.stdout.strip() or said.stderr.strip()}")
     print(f"pattern: {piece.path('pattern')}, judged by `lls judge` against the whole file")

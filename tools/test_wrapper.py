@@ -41,7 +41,7 @@ WORDS = [
     ("lrat f -", "BadWord 3", "'-' is no option; a file whose name begins with - is written ./-name"),
     ("lrat f -p", "BadWord 3", "'-p' is no option; a file whose name begins with - is written ./-p"),
     ("search q.lls p --simmetry C2", "UnknownOption 4", "no option '--simmetry'; is it --symmetry?"),
-    ("cnf q.lls --fast=1", "UnknownOption 3", "no option '--fast'; cnf takes --rule --edge --symmetry --period --live --differ"),
+    ("cnf q.lls --fast=1", "UnknownOption 3", "no option '--fast'; cnf takes --rule --edge --symmetry --period --live --differ --formula"),
     ("check q.lls p --budget 9", "UnknownOption 4", "check doesn't take --budget, which is for search, sat"),
     ("sat f p --edge open", "UnknownOption 4", "sat doesn't take --edge, which is for check, search, judge, cnf"),
     ("rule B3/S23 --fast", "UnknownOption 3", "rule takes no options"),

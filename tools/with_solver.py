@@ -66,10 +66,17 @@ class Question:
         self.posed = ["--posed"] * ("--posed" in words)
         self.words = [word for word in words if word != "--posed"]
 
+    def words_for(self, command):
+        """The words of a command: `judge` makes no formula and takes no form of one."""
+        if command != "judge":
+            return self.words
+        before = ["", *self.words]
+        return [word for word, last in zip(self.words, before) if last != "--formula" and word.partition("=")[0] != "--formula"]
+
     def ask(self, command, *files):
         """Runs a command of the program. Returns its status and what it prints."""
         with Step(f"`lls {command}`"):
-            return run(self.program, *self.posed, command, self.search, *files, *self.words)
+            return run(self.program, *self.posed, command, self.search, *files, *self.words_for(command))
 
 
 def cadical(program, formula, proof):

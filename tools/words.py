@@ -18,11 +18,12 @@ import sys
 import ending
 
 PROBLEM = ["rule", "edge", "symmetry", "period", "live", "differ"]
+FORMED = PROBLEM + ["formula"]
 COMMANDS = {
-    "check": (["search", "proof"], PROBLEM),
-    "search": (["search", "proof"], PROBLEM + ["budget", "keep", "as"]),
+    "check": (["search", "proof"], FORMED),
+    "search": (["search", "proof"], FORMED + ["budget", "keep", "as"]),
     "judge": (["search", "pattern"], PROBLEM + ["as"]),
-    "cnf": (["search"], PROBLEM),
+    "cnf": (["search"], FORMED),
     "sat": (["formula", "proof"], ["budget", "keep"]),
     "lrat": (["formula", "proof"], []),
     "rule": (["text"], []),
@@ -37,6 +38,7 @@ VALUES = {"text": "rule", "seed": "seed", "size": "size"}
 CHOICES = {
     "edge": ["closed", "open"],
     "symmetry": ["C1", "C2", "C4", "D2-", "D2|", "D2\\", "D2/", "D4+", "D4x", "D8"],
+    "formula": ["1", "2"],
     "keep": ["all", "half"],
     "as": ["rows", "rle"],
 }
@@ -240,6 +242,7 @@ BAD = {
     "size": ["0", "65", "000000000000000000001", "+8", "8x", "18446744073709551617"],
     "edge": ["shut", "Open", "closed,open"],
     "symmetry": ["C3", "c2", "D2", "D8 "],
+    "formula": ["0", "3", "12", "01", "cover"],
     "keep": ["some", "All"],
     "as": ["RLE", "row"],
 }

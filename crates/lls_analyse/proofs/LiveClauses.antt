@@ -1,10 +1,11 @@
 -- A live clause, found by its number.
 use Rattle.std.proofs.Common.{◌≡◌, ℕ, suc, ◌<◌, true, false, Bool, cond, List, [], ◌∷◌, Option, Some, None, refl, sym, ap, subst, ◌∙◌, arith}
-use Rattle.std.specs.Prelude.{ℤ, Contains, IsSome, IfSome, ◌==◌}
+use Rattle.std.specs.Prelude.{ℤ, Contains, IsSome, IfSome, option_and_then, ◌==◌}
 use Rattle.std.specs.FinSet as set
 use Rattle.std.proofs.lemmas.List.Elements.{All-contains}
 use Rattle.std.proofs.lemmas.Bool.Decides.{Decides-eqb}
 use Rattle.lls_lit.specs.Formula.{is_within}
+use Rattle.lls_store.specs.Trail.{Entry}
 use Rattle.lls_store.specs.Clauses.{LiveClause, Literals, clause_numbered}
 use Rattle.lls_store.specs.Store.{StoreState, AreLive, AreWithin}
 use Rattle.lls_store.proofs.Sets.{is_within-from_AreWithin}
@@ -57,3 +58,8 @@ told store number lits live some is =
 pub IsSome-from : {X : Type 0} → (o : Option X) (x : X) → o ≡ Some x → IsSome o
 IsSome-from None x is = absurd cc
 IsSome-from (Some y) x is = refl
+
+-- a variable whose value was forced has one
+pub forced_known : (o : Option Entry) → IsSome (option_and_then (λ (e : Entry). e.reason) o) → IsSome o
+forced_known None some = some
+forced_known (Some e) some = refl

@@ -68,10 +68,12 @@ impl Analyser {
         })
     }
 
-    /// Makes room for what a conflict gives: in the store for a clause, and in the log for a step.
+    /// Makes room for what a conflict gives: in the store for a clause, and in the log for a step. Room that the store had stays,
+    /// also after `Memory`.
     pub fn reserve_conflict<S: Store>(&mut self, store: &mut S, log: &mut Log) -> Result<(), Memory>
         ensures vars { self.new ≡ self.old }
         ensures room { OnOk result (IsTrue (S.room store.new)) }
+        ensures kept { IsTrue (S.room store.old) → IsTrue (S.room store.new) }
         ensures spare { OnOk result (HasSpare log.new 1 self.old (self.old + 1)) }
         ensures state { S.state store.new ≡ S.state store.old }
         ensures tracked { (t : TrailState) → S.tracks store.old t → S.tracks store.new t }

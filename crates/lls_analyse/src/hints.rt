@@ -58,7 +58,7 @@ fn hint<S: Store>(trail: &Trail, store: &S, place: usize) -> i64
     ensures { result ≡ hint_at (S.state store.now).live trail.now.entries place }
 {
     let var = trail.lit(place).var();
-    let reason = trail.reason(var).unwrap();
+    let reason = trail.known_reason(var).unwrap();
     clause_hint(store, reason)
 }
 

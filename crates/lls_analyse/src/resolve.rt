@@ -75,7 +75,7 @@ fn follow<S: Store>(visited: &mut Visited, trail: &Trail, store: &S, var: Var)
     ensures { Follows (S.state store.now).live trail.now visited.old visited.new var }
 {
     visited.follow(var);
-    let reason = trail.reason(var).unwrap();
+    let reason = trail.known_reason(var).unwrap();
     hold_clause(visited, trail, store, reason);
 }
 

@@ -77,7 +77,7 @@ impl Visited {
         requires { var ≤ self.now.vars }
         ensures { result ≡ status_of self.now.seen var }
     {
-        self.seen[place_of(var)]
+        self.seen[var.index()]
     }
 
     // Whether something is known of a variable.
@@ -86,7 +86,7 @@ impl Visited {
         ensures is_seen { result ≡ is_seen (status_of self.now.seen var) }
         ensures visited { AreVisited self.now }
     {
-        match self.seen[place_of(var)] {
+        match self.seen[var.index()] {
             Seen::No => false,
             Seen::Open | Seen::Kept | Seen::Followed => true,
         }
@@ -124,7 +124,8 @@ impl Visited {
           lits = self.old.lits ++ lit ∷ [];
         } }
     {
-        self.seen[place_of(lit.var())] = seen;
+        let place = lit.var().index();
+        self.seen[place] = seen;
         self.opens += one_if_open(seen);
         self.lits.push_reserved(lit);
     }
@@ -135,7 +136,7 @@ impl Visited {
         requires is_open { status_of self.old.seen var ≡ Seen.Open }
         ensures { self.new ≡ record self.old { seen = slice_set self.old.seen (var - 1) Seen.Followed } }
     {
-        self.seen[place_of(var)] = Seen::Followed;
+        self.seen[var.index()] = Seen::Followed;
         self.opens -= 1;
     }
 
@@ -145,7 +146,7 @@ impl Visited {
         requires is_kept { status_of self.old.seen var ≡ Seen.Kept }
         ensures { self.new ≡ record self.old { seen = slice_set self.old.seen (var - 1) Seen.Followed } }
     {
-        self.seen[place_of(var)] = Seen::Followed;
+        self.seen[var.index()] = Seen::Followed;
     }
 
     // A literal that gave way is kept after all.
@@ -154,7 +155,7 @@ impl Visited {
         requires is_followed { status_of self.old.seen var ≡ Seen.Followed }
         ensures { self.new ≡ record self.old { seen = slice_set self.old.seen (var - 1) Seen.Kept } }
     {
-        self.seen[place_of(var)] = Seen::Kept;
+        self.seen[var.index()] = Seen::Kept;
     }
 
     // Forgets the last literal that was visited.
@@ -166,7 +167,7 @@ impl Visited {
         } }
     {
         if let Some(lit) = self.lits.pop() {
-            let place = place_of(lit.var());
+            let place = lit.var().index();
             self.opens -= one_if_open(self.seen[place]);
             self.seen[place] = Seen::No;
         }
@@ -180,11 +181,4 @@ fn one_if_open(seen: Seen) -> u32
         Seen::Open => 1,
         Seen::No | Seen::Kept | Seen::Followed => 0,
     }
-}
-
-// Where a variable stands in a table of one entry a variable.
-fn place_of(var: Var) -> usize
-    ensures { result + 1 ≡ var }
-{
-    var.number() as usize - 1
 }

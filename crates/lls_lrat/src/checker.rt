@@ -128,7 +128,7 @@ impl<'f> Checker<'f> {
     }
 
     // The step that adds a clause, where the empty clause wasn't added yet.
-    pub(crate) fn add(&mut self, id: u64, lits: &[Lit], hints: &[i64]) -> Result<Progress, Refusal>
+    fn add(&mut self, id: u64, lits: &[Lit], hints: &[i64]) -> Result<Progress, Refusal>
         requires { self.old.done ≡ false }
         ensures stepped { GivesWrapped Refusal.Fault (λ _. self.new) result
             (stepped self.old (Add id lits.now hints.now)) }

@@ -2,7 +2,8 @@
 ghost use Rattle.std.specs.Prelude.{◌≡◌, ℕ, List, true, ◌+◌, ◌<◌, ◌^◌, false, Ok, Err, OnOk, IfOk, if◌then◌else◌};
 ghost use Rattle.lls_base.specs.Results.{Gives};
 ghost use Rattle.lls_lit.specs.Formula.{IsUnsatisfiable};
-ghost use Rattle.lls_prooflog.specs.Log.{ReadsAs, step_of_addition};
+ghost use Rattle.lls_prooflog.specs.Log.{ReadsAs, step_of_ref};
+ghost use Rattle.lls_prooflog.specs.Range.{IsInRange};
 ghost use Rattle.lls_prooflog.specs.Steps.{numbered, are_accepted};
 ghost use Rattle.lls_lrat.specs.Checking.{progress_of};
 ghost use Rattle.lls_lrat.specs.Verdict.{Accepted, verdict, log_verdict, answer_of, step_taken};
@@ -13,7 +14,7 @@ use crate::checker::{Checker, Progress};
 use crate::error::CheckError;
 use crate::refusal::Refusal;
 use lls_cnf::Formula;
-use lls_prooflog::{Addition, Log};
+use lls_prooflog::{Log, StepRef};
 use std::alloc::Global;
 
 /// Checks that a log is an accepted proof, as `check_bytes` does with its text, which isn't made. The line of a fault is the
@@ -32,7 +33,7 @@ pub fn check<'f>(alloc: Global, formula: &'f Formula, log: &Log) -> Result<Check
 {
     let mut checker = Checker::new(alloc, formula)?;
     for k in 0..log.len() {
-        match take_step(&mut checker, k as u64, log.addition(k)) {
+        match take_step(&mut checker, k as u64, log.lend(k)) {
             Ok(Progress::Done) => return checker.conclude(),
             Ok(Progress::Going) => {}
             Err(error) => return Err(error),
@@ -42,15 +43,16 @@ pub fn check<'f>(alloc: Global, formula: &'f Formula, log: &Log) -> Result<Check
 }
 
 // Takes one more step behind so many.
-fn take_step(checker: &mut Checker, count: u64, addition: Addition) -> Result<Progress, CheckError>
+fn take_step(checker: &mut Checker, count: u64, step: StepRef) -> Result<Progress, CheckError>
+    requires in_range { IsInRange (step_of_ref step) }
     requires going { checker.old.done ≡ false }
     requires room { count + 1 < 2 ^ 64 }
     ensures taken { Gives CheckError.Memory (λ _. at_line checker.new (count + 1)) result
-        (or_fault (step_taken (at_line checker.old count) (step_of_addition addition.entry))) }
+        (or_fault (step_taken (at_line checker.old count) (step_of_ref step.entry))) }
     ensures progress { IfOk result (λ p. p ≡ progress_of checker.new.done) }
     ensures formula { OnOk result (checker.new.formula ≡ checker.old.formula) }
 {
-    match checker.add(addition.id, addition.lits, addition.hints) {
+    match checker.take(step) {
         Ok(progress) => Ok(progress),
         Err(Refusal::Fault(fault)) => Err(CheckError::Step(count + 1, fault)),
         Err(Refusal::Memory) => Err(CheckError::Memory),

@@ -1,98 +1,91 @@
--- The steps of a log, whose literals and hints stand in two buffers: how many there are, the one at a place, and one more.
-use Rattle.std.proofs.Common.{◌≡◌, ℕ, zero, suc, ◌+◌, ◌-◌, ◌<◌, ◌≤◌, List, [], ◌∷◌, ◌++◌, All, length, get_or, take, drop, Some, refl, sym, ap, ◌∙◌, arith, subst}
-use Rattle.std.specs.Prelude.{ℤ, slice_get, count_by, if◌then◌else◌}
+-- The steps of a log, whose numbers stand in buffers: how many there are, the one at a place, and one more.
+use Rattle.std.proofs.Common.{◌≡◌, ℕ, zero, suc, ◌+◌, ◌-◌, List, [], ◌∷◌, ◌++◌, All, length, get_or, take, drop, cond, Some, refl, sym, ap, ◌∙◌, arith, subst}
+use Rattle.std.specs.Prelude.{ℤ, slice_get, count_by}
 use Rattle.std.specs.List.{between}
-use Rattle.std.proofs.lemmas.List.{take-append-le, drop-append-le, drop_at, take_all, length-append, length-drop}
-use Rattle.std.proofs.lemmas.List.Elements.{All-append, All-from_recursion}
-use Rattle.std.proofs.lemmas.List.Sums.{sum_by-cons}
-use Rattle.std.proofs.lemmas.Option.{slice_get_within}
-use Rattle.std.proofs.lemmas.Option.{same_Some, get_or_from_slice_get}
-use Rattle.lls_prooflog.specs.declared.step.Step.TheVariants.{Add}
+use Rattle.std.proofs.lemmas.List.{append-nil, map-append, length-map, take-append-le, drop-append-le, drop_at, take_all, length-append, length-drop}
+use Rattle.std.proofs.lemmas.List.Elements.{All-append, All-from_recursion, recursion_from_All}
+use Rattle.std.proofs.lemmas.List.Sums.{sum_by-append, sum_by-cons}
+use Rattle.std.proofs.lemmas.Option.{slice_get_within, same_Some, get_or_from_slice_get}
+use Rattle.lls_prooflog.specs.declared.step.Step.{Step}
+use Rattle.lls_prooflog.specs.declared.step.Step.TheVariants.{Add, Del}
+use Rattle.lls_prooflog.specs.declared.log.Span.{Span}
 use Rattle.lls_prooflog.specs.declared.log.Head.{Head}
+use Rattle.lls_prooflog.specs.declared.log.Head.TheVariants as heads
 use Rattle.lls_prooflog.specs.Range.{IsInRange}
 use Rattle.lls_prooflog.specs.Spent.{is_addition}
-use Rattle.lls_prooflog.specs.Heads.{steps_in, AreHeads, IsLaid, lits_start, hints_start}
+use Rattle.lls_prooflog.specs.Heads.{step_at, steps_in, IsSpan, IsHead, IsLaid}
 
-pub length-steps_in : (a b : ℕ) (heads : List Head) (lits hints : List ℤ) → length (steps_in a b heads lits hints) ≡ length heads
-length-steps_in a b [] lits hints = refl
-length-steps_in a b (h ∷ hs) lits hints = ap suc (length-steps_in h.lits_end h.hints_end hs lits hints)
+pub length-steps_in : (lits hints : List ℤ) (ids : List ℕ) (hs : List Head) → length (steps_in lits hints ids hs) ≡ length hs
+length-steps_in lits hints ids hs = length-map hs (step_at lits hints ids)
 
-pub additions-steps_in : (a b : ℕ) (heads : List Head) (lits hints : List ℤ) → count_by is_addition (steps_in a b heads lits hints) ≡ length heads
-additions-steps_in a b [] lits hints = refl
-additions-steps_in a b (h ∷ hs) lits hints =
-    let first = Add h.id (between a h.lits_end lits) (between b h.hints_end hints) in
-    let rest = steps_in h.lits_end h.hints_end hs lits hints in
-    sum_by-cons (λ step. if is_addition step then 1 else 0) first rest ∙ ap (λ n. 1 + n) (additions-steps_in h.lits_end h.hints_end hs lits hints) ∙ omega arith
+pub slice_get-steps_in : (lits hints : List ℤ) (ids : List ℕ) (hs : List Head) (k : ℕ) (head : Head) → slice_get hs k ≡ Some head → slice_get (steps_in lits hints ids hs) k ≡ Some (step_at lits hints ids head)
+slice_get-steps_in lits hints ids [] k head e = absurd cc
+slice_get-steps_in lits hints ids (x ∷ xs) zero head e = ap (λ (h : Head). Some (step_at lits hints ids h)) (same_Some x head e)
+slice_get-steps_in lits hints ids (x ∷ xs) (suc k) head e = slice_get-steps_in lits hints ids xs k head e
 
--- no piece ends behind its buffer
-pub heads_within : (a b : ℕ) (heads : List Head) (m n : ℕ) → AreHeads a b heads m n → (a ≤ m) × (b ≤ n)
-heads_within a b [] m n h = (omega (arith, h.0), omega (arith, h.1))
-heads_within a b (x ∷ xs) m n h =
-    let later = heads_within x.lits_end x.hints_end xs m n h.1.1 in
-    (omega (arith, h.0, later.0), omega (arith, h.1.0, later.1))
+-- a buffer that begins with another
+abbrev pub Begins : {X : Type 0} → List X → List X → Type 0
+Begins {X = X} old new = (more : List X) × (new ≡ old ++ more)
 
--- where the literals and hints of a step stand
-pub record IsPlaced (a b : ℕ) (heads : List Head) (m n k : ℕ) (head : Head) : Type 0 where
-  pub lits_order : lits_start a heads k ≤ head.lits_end
-  pub lits_within : head.lits_end ≤ m
-  pub hints_order : hints_start b heads k ≤ head.hints_end
-  pub hints_within : head.hints_end ≤ n
+pub begins_same : {X : Type 0} (xs : List X) → Begins xs xs
+begins_same xs = ([], sym (append-nil xs))
 
-pub placed : (a b : ℕ) (heads : List Head) (m n k : ℕ) (head : Head) → AreHeads a b heads m n → slice_get heads k ≡ Some head → IsPlaced a b heads m n k head
-placed a b [] m n k head h e = absurd cc
-placed a b (x ∷ xs) m n zero head h e =
-    let later = heads_within x.lits_end x.hints_end xs m n h.1.1 in
-    let same : x ≡ head = same_Some x head e in
-    rw (← same) (record { lits_order = h.0; lits_within = later.0; hints_order = h.1.0; hints_within = later.1 })
-placed a b (x ∷ xs) m n (suc k) head h e =
-    let later = placed x.lits_end x.hints_end xs m n k head h.1.1 e in
-    record { lits_order = later.lits_order; lits_within = later.lits_within; hints_order = later.hints_order; hints_within = later.hints_within }
+pub begins_more : {X : Type 0} (xs more : List X) → Begins xs (xs ++ more)
+begins_more xs more = (more, refl)
 
-pub slice_get-steps_in : (a b : ℕ) (heads : List Head) (lits hints : List ℤ) (k : ℕ) (head : Head) → slice_get heads k ≡ Some head
-    → slice_get (steps_in a b heads lits hints) k ≡ Some (Add head.id (between (lits_start a heads k) head.lits_end lits) (between (hints_start b heads k) head.hints_end hints))
-slice_get-steps_in a b [] lits hints k head e = absurd cc
-slice_get-steps_in a b (x ∷ xs) lits hints zero head e = let same : x ≡ head = same_Some x head e in rw (← same) refl
-slice_get-steps_in a b (x ∷ xs) lits hints (suc k) head e = slice_get-steps_in x.lits_end x.hints_end xs lits hints k head e
+last_piece : {X : Type 0} (buffer more : List X) → between (length buffer) (length buffer + length more) (buffer ++ more) ≡ more
+last_piece buffer more =
+    let all : take (length buffer + length more - length buffer) more ≡ more = take_all _ more (omega arith) in
+    rw (drop_at buffer more (length buffer) refl) all
 
--- where a piece begins is where the one before it ends
-pub lits_start-suc : (a : ℕ) (heads : List Head) (k : ℕ) (d : Head) → k < length heads → lits_start a heads (suc k) ≡ (get_or heads k d).lits_end
-lits_start-suc a [] k d lt = absurd (omega (arith, lt))
-lits_start-suc a (x ∷ xs) zero d lt = refl
-lits_start-suc a (x ∷ xs) (suc k) d lt = lits_start-suc x.lits_end xs k d (omega (arith, lt))
+kept_piece : {X : Type 0} (span : Span) (old new : List X) → IsSpan (length old) span → Begins old new → between span.from span.to new ≡ between span.from span.to old
+kept_piece span old new h (more, is) =
+    rw (is, drop-append-le span.from old more (omega (arith, h.order, h.within)), take-append-le (span.to - span.from) (drop span.from old) more (omega (arith, length-drop span.from old, h.order, h.within))) refl
 
-pub hints_start-suc : (b : ℕ) (heads : List Head) (k : ℕ) (d : Head) → k < length heads → hints_start b heads (suc k) ≡ (get_or heads k d).hints_end
-hints_start-suc b [] k d lt = absurd (omega (arith, lt))
-hints_start-suc b (x ∷ xs) zero d lt = refl
-hints_start-suc b (x ∷ xs) (suc k) d lt = hints_start-suc x.hints_end xs k d (omega (arith, lt))
+span_more : {X : Type 0} (span : Span) (old new : List X) → IsSpan (length old) span → Begins old new → IsSpan (length new) span
+span_more span old new h (more, is) = record { order = h.order; within = omega (arith, h.within, ap length is, length-append old more) }
 
-last_piece : (from : ℕ) (buffer more : List ℤ) → from ≡ length buffer → between from (length buffer + length more) (buffer ++ more) ≡ more
-last_piece from buffer more e =
-    let all : take (length buffer + length more - from) more ≡ more = take_all _ more (omega (arith, e)) in
-    rw (drop_at buffer more from (sym e)) all
+module _ (lits lits2 hints hints2 : List ℤ) (ids ids2 : List ℕ) (more_lits : Begins lits lits2) (more_hints : Begins hints hints2) (more_ids : Begins ids ids2) where
+  step_at-kept : (head : Head) → IsHead (length lits) (length hints) (length ids) head → step_at lits2 hints2 ids2 head ≡ step_at lits hints ids head
+  step_at-kept (heads.Add id clause chain) h = rw (kept_piece clause lits lits2 h.0 more_lits, kept_piece chain hints hints2 h.1 more_hints) refl
+  step_at-kept (heads.Del named) h = rw (kept_piece named ids ids2 h more_ids) refl
 
-kept_piece : (from end : ℕ) (buffer more : List ℤ) → from ≤ end → end ≤ length buffer → between from end (buffer ++ more) ≡ between from end buffer
-kept_piece from end buffer more le lt =
-    rw (drop-append-le from buffer more (omega (arith, le, lt)), take-append-le (end - from) (drop from buffer) more (omega (arith, length-drop from buffer, le, lt))) refl
+  head_more : (head : Head) → IsHead (length lits) (length hints) (length ids) head → IsHead (length lits2) (length hints2) (length ids2) head
+  head_more (heads.Add id clause chain) h = (span_more clause lits lits2 h.0 more_lits, span_more chain hints hints2 h.1 more_hints)
+  head_more (heads.Del named) h = span_more named ids ids2 h more_ids
 
--- one more step
-pub steps_in-push : (a b : ℕ) (heads : List Head) (lits hints xs ys : List ℤ) (id : ℕ) → AreHeads a b heads (length lits) (length hints)
-    → steps_in a b (heads ++ record { id = id; lits_end = length lits + length xs; hints_end = length hints + length ys } ∷ []) (lits ++ xs) (hints ++ ys)
-    ≡ steps_in a b heads lits hints ++ Add id xs ys ∷ []
-steps_in-push a b [] lits hints xs ys id h = rw (last_piece a lits xs h.0, last_piece b hints ys h.1) refl
-steps_in-push a b (x ∷ rest) lits hints xs ys id h =
-    let later = heads_within x.lits_end x.hints_end rest (length lits) (length hints) h.1.1 in
-    rw (kept_piece a x.lits_end lits xs h.0 later.0, kept_piece b x.hints_end hints ys h.1.0 later.1, steps_in-push x.lits_end x.hints_end rest lits hints xs ys id h.1.1) refl
+  steps_in-kept : (hs : List Head) → All (IsHead (length lits) (length hints) (length ids)) hs → steps_in lits2 hints2 ids2 hs ≡ steps_in lits hints ids hs
+  steps_in-kept [] all = refl
+  steps_in-kept (x ∷ xs) all =
+      let parts = recursion_from_All (IsHead (length lits) (length hints) (length ids)) (x ∷ xs) all in
+      rw (step_at-kept x parts.0, steps_in-kept xs (All-from_recursion (IsHead (length lits) (length hints) (length ids)) xs parts.1)) refl
 
-AreHeads-push : (a b : ℕ) (heads : List Head) (m n p q id : ℕ) → AreHeads a b heads m n → AreHeads a b (heads ++ record { id = id; lits_end = m + p; hints_end = n + q } ∷ []) (m + p) (n + q)
-AreHeads-push a b [] m n p q id h = (omega (arith, h.0), (omega (arith, h.1), (refl, refl)))
-AreHeads-push a b (x ∷ xs) m n p q id h = (h.0, (h.1.0, AreHeads-push x.lits_end x.hints_end xs m n p q id h.1.1))
+  -- one more step
+  pub steps_in-push : (hs : List Head) (head : Head) (step : Step) → All (IsHead (length lits) (length hints) (length ids)) hs → step_at lits2 hints2 ids2 head ≡ step → steps_in lits2 hints2 ids2 (hs ++ head ∷ []) ≡ steps_in lits hints ids hs ++ step ∷ []
+  steps_in-push hs head step all is = rw (map-append (step_at lits2 hints2 ids2) hs (head ∷ []), steps_in-kept hs all, is) refl
 
-pub laid-push : (heads : List Head) (lits hints xs ys : List ℤ) (id : ℕ) → IsLaid heads lits hints → IsInRange (Add id xs ys)
-    → IsLaid (heads ++ record { id = id; lits_end = length lits + length xs; hints_end = length hints + length ys } ∷ []) (lits ++ xs) (hints ++ ys)
-laid-push heads lits hints xs ys id h range = record {
-  are_heads = rw (length-append lits xs, length-append hints ys) (AreHeads-push 0 0 heads (length lits) (length hints) (length xs) (length ys) id h.are_heads);
-  in_range = rw (steps_in-push 0 0 heads lits hints xs ys id h.are_heads) (All-append IsInRange (steps_in 0 0 heads lits hints) (Add id xs ys ∷ []) h.in_range (All-from_recursion IsInRange (Add id xs ys ∷ []) (range, tt)));
-}
+  pub laid-push : (hs : List Head) (head : Head) (step : Step) (n m : ℕ) → IsLaid lits hints ids hs n → IsHead (length lits2) (length hints2) (length ids2) head → step_at lits2 hints2 ids2 head ≡ step → IsInRange step → m ≡ n + cond (is_addition step) 1 0 → IsLaid lits2 hints2 ids2 (hs ++ head ∷ []) m
+  laid-push hs head step n m h placed is range more =
+      let steps = steps_in lits hints ids hs in
+      let pushed = steps_in-push hs head step h.are_heads is in
+      record {
+        are_heads = All-append (IsHead (length lits2) (length hints2) (length ids2)) hs (head ∷ []) (λ k d lt. head_more (get_or hs k d) (h.are_heads k d lt)) (All-from_recursion (IsHead (length lits2) (length hints2) (length ids2)) (head ∷ []) (placed, tt));
+        in_range = rw pushed (All-append IsInRange steps (step ∷ []) h.in_range (All-from_recursion IsInRange (step ∷ []) (range, tt)));
+        counted = rw pushed (more ∙ ap (λ k. k + cond (is_addition step) 1 0) h.counted ∙ sym (sum_by-append (λ s. cond (is_addition s) 1 0) steps (step ∷ []) ∙ ap (λ k. count_by is_addition steps + k) (one step)));
+      }
+    where
+      one : (s : Step) → count_by is_addition (s ∷ []) ≡ cond (is_addition s) 1 0
+      one s = sum_by-cons (λ x. cond (is_addition x) 1 0) s [] ∙ omega arith
+
+-- the pieces that were filled last
+pub added_at : (lits xs hints ys : List ℤ) (ids : List ℕ) (id : ℕ) → step_at (lits ++ xs) (hints ++ ys) ids (heads.Add id (record { from = length lits; to = length lits + length xs }) (record { from = length hints; to = length hints + length ys })) ≡ Add id xs ys
+added_at lits xs hints ys ids id = rw (last_piece lits xs, last_piece hints ys) refl
+
+pub deleted_at : (lits hints : List ℤ) (ids more : List ℕ) → step_at lits hints (ids ++ more) (heads.Del (record { from = length ids; to = length ids + length more })) ≡ Del more
+deleted_at lits hints ids more = rw (last_piece ids more) refl
+
+pub last_span : {X : Type 0} (buffer more : List X) → IsSpan (length (buffer ++ more)) (record { from = length buffer; to = length buffer + length more })
+last_span buffer more = record { order = omega arith; within = omega (arith, length-append buffer more) }
 
 -- what is true of each element is true of the one at a place
 pub All-at : {X : Type 0} (P : X → Type 0) (xs : List X) (k : ℕ) (x : X) → All P xs → slice_get xs k ≡ Some x → P x

@@ -8,9 +8,9 @@ use Rattle.lls_text.specs.Lines.{lines_of}
 use Rattle.lls_text.proofs.Printed.{lines_of-printed}
 use Rattle.lls_prooflog.specs.declared.step.Step.{Step}
 use Rattle.lls_prooflog.specs.Range.{IsInRange}
-use Rattle.lls_prooflog.specs.StepText.{step_line, step_text}
+use Rattle.lls_prooflog.specs.StepText.{step_line, step_text, AreLiterals}
 use Rattle.lls_prooflog.specs.Log.{log_text, ReadsAs}
-use Rattle.lls_prooflog.proofs.PrintedSteps.{AreLiterals, step_of_line-step_line}
+use Rattle.lls_prooflog.proofs.PrintedSteps.{step_of_line-step_line}
 use Rattle.lls_prooflog.proofs.StepLines.{step_printed}
 
 -- a step whose line is read as the step

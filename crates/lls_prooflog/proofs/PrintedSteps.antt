@@ -16,7 +16,7 @@ use Rattle.lls_prooflog.specs.declared.step.Step.TheVariants.{Add, Del}
 use Rattle.lls_prooflog.specs.Number.{id_in, leading_in, literal_in, hint_in, item}
 use Rattle.lls_prooflog.specs.Range.{is_id, is_hint, IsInRange}
 use Rattle.lls_prooflog.specs.Line.{behind_end, listed, addition, deletion, begins_d, step_of_words, step_of_line, comment}
-use Rattle.lls_prooflog.specs.StepText.{step_line}
+use Rattle.lls_prooflog.specs.StepText.{step_line, AreLiterals}
 use Rattle.lls_prooflog.proofs.PrintedNumbers.{signed_bytes, is_zeros-decimal, is_zeros-signed, is_lit, id_bounds, lit_bounds, hint_bounds, id_word, lit_word, hint_word, no_d}
 use Rattle.lls_prooflog.proofs.PrintedLists.{list_text, IsPrinted, read_list}
 
@@ -83,10 +83,6 @@ printed_deletion ids all =
     let back = read_list (item id_in) decimal is_id printed_id 5 ids [] all refl in
     let whole : words_from 5 text ≡ words_from 5 (text ++ []) = ap (words_from 5) (sym (append-nil text)) in
     deletion-parts (record { column = 1; text = 48 ∷ [] }) (words_from 5 text) 0 ids refl (ap (listed (item id_in)) whole ∙ back.listed) (ap behind_end whole ∙ back.behind)
-
-abbrev pub AreLiterals : Step → Type 0
-AreLiterals (Add id lits hints) = is_within MOST lits ≡ true
-AreLiterals (Del ids) = Unit {0}
 
 pub step_of_line-step_line : (step : Step) → AreLiterals step → IsInRange step → step_of_line (step_line step) ≡ Ok (Some step)
 step_of_line-step_line (Add id lits hints) within range = let parts = and_parts (is_id id) (list_all is_hint hints) range in printed_addition id lits hints within parts.0 parts.1

@@ -11,10 +11,9 @@ use Rattle.lls_text.proofs.NumberBytes.{natural_bytes, printed_bytes}
 use Rattle.lls_prooflog.specs.declared.step.Step.{Step}
 use Rattle.lls_prooflog.specs.declared.step.Step.TheVariants.{Add, Del}
 use Rattle.lls_prooflog.specs.Range.{is_id, is_hint, IsInRange}
-use Rattle.lls_prooflog.specs.StepText.{step_line, step_text}
+use Rattle.lls_prooflog.specs.StepText.{step_line, step_text, AreLiterals}
 use Rattle.lls_prooflog.proofs.PrintedNumbers.{signed_bytes, is_lit, id_bounds, lit_bounds, hint_bounds}
 use Rattle.lls_prooflog.proofs.PrintedLists.{list_text}
-use Rattle.lls_prooflog.proofs.PrintedSteps.{AreLiterals}
 
 id_printed : (n : ℕ) → is_id n ≡ true → list_all is_printed (decimal n) ≡ true
 id_printed n e = printed_bytes (decimal n) (natural_bytes n (id_bounds n e).1).1

@@ -1,34 +1,34 @@
--- For private contracts alone: the literals and hints of all steps, each in one buffer that heads cut into pieces.
-use Rattle.std.specs.Prelude.{◌≡◌, ◌≤◌, ℕ, ℤ, List, [], ◌∷◌, All, length, zero, suc}
+-- For private contracts alone: the literals, hints and ids of all steps, each kind in one buffer, of which heads name pieces.
+use Rattle.std.specs.Prelude.{◌≡◌, ◌≤◌, ℕ, ℤ, List, map, All, length, count_by}
 use Rattle.std.specs.List.{between}
 use Rattle.lls_prooflog.specs.declared.step.Step.{Step}
-use Rattle.lls_prooflog.specs.declared.step.Step.TheVariants.{Add}
+use Rattle.lls_prooflog.specs.declared.step.Step.TheVariants.{Add, Del}
+use Rattle.lls_prooflog.specs.declared.log.Span.{Span}
 use Rattle.lls_prooflog.specs.declared.log.Head.{Head}
+use Rattle.lls_prooflog.specs.declared.log.Head.TheVariants as heads
 use Rattle.lls_prooflog.specs.Range.{IsInRange}
+use Rattle.lls_prooflog.specs.Spent.{is_addition}
 
--- the steps whose literals and hints begin at these places
-abbrev pub steps_in : ℕ → ℕ → List Head → List ℤ → List ℤ → List Step
-steps_in lit hint [] lits hints = []
-steps_in lit hint (h ∷ hs) lits hints =
-    Add h.id (between lit h.lits_end lits) (between hint h.hints_end hints) ∷ steps_in h.lits_end h.hints_end hs lits hints
+-- the step of a head
+abbrev pub step_at : List ℤ → List ℤ → List ℕ → Head → Step
+step_at lits hints ids (heads.Add id clause chain) = Add id (between clause.from clause.to lits) (between chain.from chain.to hints)
+step_at lits hints ids (heads.Del named) = Del (between named.from named.to ids)
 
--- no piece ends before it begins, and the last ones end with the buffers
-abbrev pub AreHeads : ℕ → ℕ → List Head → ℕ → ℕ → Type 0
-AreHeads lit hint [] lits hints = (lit ≡ lits) × (hint ≡ hints)
-AreHeads lit hint (h ∷ hs) lits hints = (lit ≤ h.lits_end) × ((hint ≤ h.hints_end) × AreHeads h.lits_end h.hints_end hs lits hints)
+abbrev pub steps_in : List ℤ → List ℤ → List ℕ → List Head → List Step
+steps_in lits hints ids heads = map (step_at lits hints ids) heads
 
--- where the pieces of that number begin
-abbrev pub lits_start : ℕ → List Head → ℕ → ℕ
-lits_start lit hs zero = lit
-lits_start lit [] (suc k) = lit
-lits_start lit (h ∷ hs) (suc k) = lits_start h.lits_end hs k
+-- a piece of a buffer of that length
+pub record IsSpan (len : ℕ) (span : Span) : Type 0 where
+  pub order : span.from ≤ span.to
+  pub within : span.to ≤ len
 
-abbrev pub hints_start : ℕ → List Head → ℕ → ℕ
-hints_start hint hs zero = hint
-hints_start hint [] (suc k) = hint
-hints_start hint (h ∷ hs) (suc k) = hints_start h.hints_end hs k
+-- pieces of buffers of these lengths
+abbrev pub IsHead : ℕ → ℕ → ℕ → Head → Type 0
+IsHead lits hints ids (heads.Add id clause chain) = IsSpan lits clause × IsSpan hints chain
+IsHead lits hints ids (heads.Del named) = IsSpan ids named
 
 -- what holds of the parts of a log
-pub record IsLaid (heads : List Head) (lits hints : List ℤ) : Type 0 where
-  pub are_heads : AreHeads 0 0 heads (length lits) (length hints)
-  pub in_range : All IsInRange (steps_in 0 0 heads lits hints)
+pub record IsLaid (lits hints : List ℤ) (ids : List ℕ) (heads : List Head) (additions : ℕ) : Type 0 where
+  pub are_heads : All (IsHead (length lits) (length hints) (length ids)) heads
+  pub in_range : All IsInRange (steps_in lits hints ids heads)
+  pub counted : additions ≡ count_by is_addition (steps_in lits hints ids heads)

@@ -1,7 +1,9 @@
 -- The line that writes a step: words with one blank between.
-use Rattle.std.specs.Prelude.{ℕ, ℤ, List, ◌++◌, codes}
+use Rattle.std.specs.Prelude.{◌≡◌, ℕ, ℤ, true, List, ◌++◌, codes}
 use Rattle.std.specs.List.{flat_map}
 use Rattle.std.specs.Fmt.{decimal, signed_decimal}
+use Rattle.lls_lit.specs.Formula.{is_within}
+use Rattle.lls_lit.specs.declared.var.TheConstants.Var.{MOST}
 use Rattle.lls_prooflog.specs.declared.step.Step.{Step}
 use Rattle.lls_prooflog.specs.declared.step.Step.TheVariants.{Add, Del}
 
@@ -20,3 +22,8 @@ step_line (Del ids) = codes "0 d " ++ id_list_text ids
 -- the line and its LF
 abbrev pub step_text : Step → List ℕ
 step_text step = step_line step ++ codes "\n"
+
+-- the literals of a step are numbers of literals
+abbrev pub AreLiterals : Step → Type 0
+AreLiterals (Add id lits hints) = is_within MOST lits ≡ true
+AreLiterals (Del ids) = Unit {0}

@@ -1,13 +1,13 @@
 // A log: the steps of a proof, as a search writes them down.
 ghost use Rattle.std.specs.Prelude.{◌≡◌, ◌≤◌, ◌<◌, ◌+◌, ◌-◌, ◌∷◌, ◌++◌, [], length, slice_get, count_by, max, vec_capacity, IfOk, OnOk, OnErr};
-ghost use Rattle.lls_prooflog.specs.declared.step.Step.TheVariants.{Add};
+ghost use Rattle.lls_prooflog.specs.declared.step.Step.TheVariants.{Add, Del};
 ghost use Rattle.lls_prooflog.specs.Range.{IsInRange};
 ghost use Rattle.lls_prooflog.specs.Spent.{is_addition};
-ghost use Rattle.lls_prooflog.specs.Log.{HasSpare, Widens, step_of_addition};
+ghost use Rattle.lls_prooflog.specs.Log.{HasSpare, Widens, step_of_ref};
 ghost use Rattle.std.specs.List.{between};
-ghost use Rattle.lls_prooflog.specs.Heads.{steps_in, AreHeads, lits_start, hints_start};
+ghost use Rattle.lls_prooflog.specs.Heads.{step_at, IsHead, IsSpan};
 
-use crate::{Hints, Lits, Step};
+use crate::{Step, StepRef};
 use lls_base::Memory;
 use lls_lit::Lit;
 use std::alloc::Global;
@@ -21,24 +21,32 @@ pub struct Addition<'l> {
     pub hints: &'l [i64],
 }
 
-/// The id of an addition, and where its literals and its hints end. They begin where those of the addition before end.
+/// A piece of a buffer: the items from a place to before another.
 #[derive(Clone, Copy, Debug, Drop)]
-struct Head {
-    id: u64,
-    lits_end: usize,
-    hints_end: usize,
+struct Span {
+    from: usize,
+    to: usize,
+}
+
+/// What a step is, and where its numbers stand.
+#[derive(Clone, Copy, Debug, Drop)]
+enum Head {
+    Add { id: u64, lits: Span, hints: Span },
+    Del { ids: Span },
 }
 
 /// Steps of a proof, in the order in which they were written down.
 ///
-/// All literals stand in one buffer, and all hints in another: a step takes 24 bytes, 4 for each literal and 8 for each
-/// hint. `reserve` takes the memory, and a push none.
+/// All literals stand in one buffer, all hints in another, and the ids of deletions in a third: a step takes 48 bytes, 4 for
+/// each literal and 8 for each hint or deleted id. `reserve` takes the memory, and a push none.
 #[derive(Drop)]
 pub struct Log {
     alloc: Global,
     heads: Vec<Head>,
     lits: Vec<Lit>,
     hints: Vec<i64>,
+    ids: Vec<u64>,
+    additions: u64,
     spare_steps: usize,
     spare_lits: usize,
     spare_hints: usize,
@@ -52,16 +60,17 @@ impl Model for Log {
     ghost Value = { Logged };
 
     ghost view = { λ l. record {
-      steps = steps_in 0 0 l.heads.items l.lits.items l.hints.items;
+      steps = steps_in l.lits.items l.hints.items l.ids.items l.heads.items;
       spare_steps = l.spare_steps;
       spare_lits = l.spare_lits;
       spare_hints = l.spare_hints;
     } };
 
-    ghost invariant = { λ l. IsLaid l.heads.items l.lits.items l.hints.items
+    ghost invariant = { λ l. IsLaid l.lits.items l.hints.items l.ids.items l.heads.items l.additions
         × ((length l.heads.items + l.spare_steps ≤ vec_capacity l.heads)
         × ((length l.lits.items + l.spare_lits ≤ vec_capacity l.lits)
-        × (length l.hints.items + l.spare_hints ≤ vec_capacity l.hints))) };
+        × ((length l.hints.items + l.spare_hints ≤ vec_capacity l.hints)
+        × (length l.ids.items + l.spare_hints ≤ vec_capacity l.ids)))) };
 }
 
 impl Log {
@@ -74,20 +83,23 @@ impl Log {
             heads: Vec::new(alloc),
             lits: Vec::new(alloc),
             hints: Vec::new(alloc),
+            ids: Vec::new(alloc),
+            additions: 0,
             spare_steps: 0,
             spare_lits: 0,
             spare_hints: 0,
         }
     }
 
-    /// Makes room for so many steps, literals and hints more. After `Memory` the steps are as before, and some room may be
-    /// greater.
+    /// Makes room for so many steps, literals and hints more. The ids that a deletion names count as hints. After `Memory` the
+    /// steps are as before, and some room may be greater.
     pub fn reserve(&mut self, steps: usize, lits: usize, hints: usize) -> Result<(), Memory>
         ensures ok { OnOk result (HasSpare self.new steps lits hints) }
         ensures widens { Widens self.old self.new }
     {
         self.spare_steps = widened(&mut self.heads, self.spare_steps, steps)?;
         self.spare_lits = widened(&mut self.lits, self.spare_lits, lits)?;
+        let _ids = widened(&mut self.ids, self.spare_hints, hints)?;
         self.spare_hints = widened(&mut self.hints, self.spare_hints, hints)?;
         Ok(())
     }
@@ -103,16 +115,35 @@ impl Log {
           spare_hints = self.old.spare_hints - length hints.now;
         } }
     {
-        fill(&mut self.lits, lits);
-        fill(&mut self.hints, hints);
-        self.heads.push_reserved(Head {
+        let head = Head::Add {
             id,
-            lits_end: self.lits.len(),
-            hints_end: self.hints.len(),
-        });
+            lits: filled(&mut self.lits, lits),
+            hints: filled(&mut self.hints, hints),
+        };
+        self.heads.push_reserved(head);
+        self.additions += 1;
         self.spare_steps -= 1;
         self.spare_lits -= lits.len();
         self.spare_hints -= hints.len();
+    }
+
+    /// Writes a deletion of the clauses of these ids down, which takes no memory.
+    pub fn push_del(&mut self, ids: &[u64])
+        requires in_range { IsInRange (Del ids.now) }
+        requires spare { HasSpare self.old 1 0 (length ids.now) }
+        ensures { self.new ≡ record {
+          steps = self.old.steps ++ Del ids.now ∷ [];
+          spare_steps = self.old.spare_steps - 1;
+          spare_lits = self.old.spare_lits;
+          spare_hints = self.old.spare_hints - length ids.now;
+        } }
+    {
+        let head = Head::Del {
+            ids: filled(&mut self.ids, ids),
+        };
+        self.heads.push_reserved(head);
+        self.spare_steps -= 1;
+        self.spare_hints -= ids.len();
     }
 
     /// The number of steps.
@@ -126,7 +157,7 @@ impl Log {
     pub fn additions(&self) -> u64
         ensures { result ≡ count_by is_addition self.now.steps }
     {
-        self.heads.len() as u64
+        self.additions
     }
 
     /// The step of that number, counted from 0.
@@ -134,36 +165,35 @@ impl Log {
         requires { k < length self.now.steps }
         ensures { IfOk result (λ step. slice_get self.now.steps k ≡ Some step) }
     {
-        let addition = self.addition(k);
-        Ok(Step::Add {
-            id: addition.id,
-            lits: Lits::new(Vec::from_slice(self.alloc, addition.lits)?),
-            hints: Hints::new(Vec::from_slice(self.alloc, addition.hints)?),
-        })
+        self.lend(k).to_step(self.alloc)
     }
 
-    /// The addition of that number, counted from 0, without a copy. Every step is one.
-    pub fn addition(&self, k: usize) -> Addition
+    /// The same without a copy.
+    pub fn lend(&self, k: usize) -> StepRef
         requires { k < length self.now.steps }
-        ensures step { slice_get self.now.steps k ≡ Some (step_of_addition result) }
-        ensures in_range { IsInRange (step_of_addition result) }
+        ensures step { slice_get self.now.steps k ≡ Some (step_of_ref result) }
+        ensures in_range { IsInRange (step_of_ref result) }
     {
-        cut(&self.heads, &self.lits, &self.hints, k)
+        cut(&self.heads[k], &self.lits, &self.hints, &self.ids)
     }
 }
 
-// The addition of that number, where heads cut the buffers.
-fn cut<'l>(heads: &[Head], lits: &'l [Lit], hints: &'l [i64], k: usize) -> Addition<'l>
-    requires heads { AreHeads 0 0 heads.now (length lits.now) (length hints.now) }
-    requires number { k < length heads.now }
-    ensures { slice_get (steps_in 0 0 heads.now lits.now hints.now) k ≡ Some (step_of_addition result) }
+// The step of a head, cut from the buffers.
+fn cut<'l>(head: &Head, lits: &'l [Lit], hints: &'l [i64], ids: &'l [u64]) -> StepRef<'l>
+    requires { IsHead (length lits.now) (length hints.now) (length ids.now) head.now }
+    ensures { step_of_ref result ≡ step_at lits.now hints.now ids.now head.now }
 {
-    let head = heads[k];
-    let (lits_start, hints_start) = starts(heads, k);
-    Addition {
-        id: head.id,
-        lits: between(lits, lits_start, head.lits_end),
-        hints: between(hints, hints_start, head.hints_end),
+    match head {
+        Head::Add {
+            id,
+            lits: clause,
+            hints: chain,
+        } => StepRef::Add(Addition {
+            id: *id,
+            lits: piece(lits, clause),
+            hints: piece(hints, chain),
+        }),
+        Head::Del { ids: named } => StepRef::Del(piece(ids, named)),
     }
 }
 
@@ -179,32 +209,24 @@ fn widened<T>(items: &mut Vec<T>, spare: usize, more: usize) -> Result<usize, Me
     Ok(spare.max(more))
 }
 
-// Puts items at the end, where there is room for them.
-fn fill<T: Copy>(items: &mut Vec<T>, more: &[T])
+// Puts items at the end, where there is room for them, and says where they stand.
+fn filled<T: Copy>(items: &mut Vec<T>, more: &[T]) -> Span
     requires { length items.old.items + length more.now ≤ vec_capacity items.old }
     ensures items { items.new.items ≡ items.old.items ++ more.now }
     ensures capacity { vec_capacity items.old ≤ vec_capacity items.new }
+    ensures span { result ≡ record { from = length items.old.items; to = length items.old.items + length more.now } }
 {
+    let from = items.len();
     items.extend_from_slice(more).unwrap();
-}
-
-// Where the literals and the hints of the addition of that number begin.
-fn starts(heads: &[Head], k: usize) -> (usize, usize)
-    requires { k ≤ length heads.now }
-    ensures lits { result.0 ≡ lits_start 0 heads.now k }
-    ensures hints { result.1 ≡ hints_start 0 heads.now k }
-{
-    if k == 0 {
-        return (0, 0);
+    Span {
+        from,
+        to: items.len(),
     }
-    let before = &heads[k - 1];
-    (before.lits_end, before.hints_end)
 }
 
-fn between<T>(items: &[T], from: usize, to: usize) -> &[T]
-    requires order { from ≤ to }
-    requires within { to ≤ length items.now }
-    ensures { result.now ≡ between from to items.now }
+fn piece<'l, T>(items: &'l [T], span: &Span) -> &'l [T]
+    requires { IsSpan (length items.now) span.now }
+    ensures { result.now ≡ between span.now.from span.now.to items.now }
 {
-    &items[from..to]
+    &items[span.from..span.to]
 }

@@ -5,10 +5,10 @@ ghost use Rattle.lls_lit.specs.Formula.{is_within};
 ghost use Rattle.lls_prooflog.specs.declared.step.Step.TheVariants.{Add, Del};
 ghost use Rattle.lls_prooflog.specs.Range.{IsInRange};
 ghost use Rattle.lls_prooflog.specs.Line.{step_of_line};
-ghost use Rattle.lls_prooflog.specs.StepText.{signed_list_text, id_list_text, step_line, step_text};
-ghost use Rattle.lls_prooflog.specs.Log.{log_text, ReadsAs};
+ghost use Rattle.lls_prooflog.specs.StepText.{signed_list_text, id_list_text, step_line, step_text, AreLiterals};
+ghost use Rattle.lls_prooflog.specs.Log.{log_text, step_of_ref, ReadsAs};
 
-use crate::{Addition, Log, Step};
+use crate::{Addition, Log, Step, StepRef};
 use itoa::Buffer;
 use lls_base::Memory;
 use lls_lit::{Lit, Var};
@@ -23,12 +23,7 @@ pub fn print_step(alloc: Global, step: &Step) -> Result<Vec<u8>, Memory>
     ensures read_again { OnOk result (step_of_line (step_line step.now) ≡ Ok (Some step.now)) }
 {
     let mut text = Vec::new(alloc);
-    match step {
-        Step::Add { id, lits, hints } => {
-            push_addition(&mut text, *id, lits.items(), hints.items())?;
-        }
-        Step::Del { ids } => push_deletion(&mut text, ids.items())?,
-    }
+    push_step(&mut text, step.lend())?;
     Ok(text)
 }
 
@@ -39,8 +34,7 @@ pub fn print_log(alloc: Global, log: &Log) -> Result<Vec<u8>, Memory>
 {
     let mut text = Vec::with_capacity(alloc, text_len(log))?;
     for k in 0..log.len() {
-        let addition = log.addition(k);
-        push_addition(&mut text, addition.id, addition.lits, addition.hints)?;
+        push_step(&mut text, log.lend(k))?;
     }
     Ok(text)
 }
@@ -49,19 +43,36 @@ pub fn print_log(alloc: Global, log: &Log) -> Result<Vec<u8>, Memory>
 fn text_len(log: &Log) -> usize {
     let mut len: usize = 0;
     for k in 0..log.len() {
-        len = len.saturating_add(line_len(log.addition(k)));
+        len = len.saturating_add(line_len(log.lend(k)));
     }
     len
 }
 
+// The length of a step's line.
+fn line_len(step: StepRef) -> usize {
+    match step {
+        StepRef::Add(addition) => addition_len(addition),
+        StepRef::Del(ids) => deletion_len(ids),
+    }
+}
+
 // The length of an addition's line. Each number has a blank or an LF behind it, and two of them are the 0 of a list.
-fn line_len(addition: Addition) -> usize {
+fn addition_len(addition: Addition) -> usize {
     let mut len = word_len(addition.id, false) + 2 * word_len(0, false);
     for lit in addition.lits {
         len = len.saturating_add(word_len(u64::from(lit.var().number()), lit.number() < 0));
     }
     for hint in addition.hints {
         len = len.saturating_add(word_len(hint.unsigned_abs(), *hint < 0));
+    }
+    len
+}
+
+// The length of a deletion's line. The d takes as much as the 0 before it.
+fn deletion_len(ids: &[u64]) -> usize {
+    let mut len = 3 * word_len(0, false);
+    for id in ids {
+        len = len.saturating_add(word_len(*id, false));
     }
     len
 }
@@ -74,6 +85,16 @@ fn word_len(size: u64, is_negative: bool) -> usize
         None => 1,
     };
     digits + usize::from(is_negative) + 1
+}
+
+fn push_step(text: &mut Vec<u8>, step: StepRef) -> Result<(), Memory>
+    ensures text { OnOk result (text.new.items ≡ text.old.items ++ step_text (step_of_ref step.entry)) }
+    ensures literals { OnOk result (AreLiterals (step_of_ref step.entry)) }
+{
+    match step {
+        StepRef::Add(addition) => push_addition(text, addition.id, addition.lits, addition.hints),
+        StepRef::Del(ids) => push_deletion(text, ids),
+    }
 }
 
 fn push_addition(text: &mut Vec<u8>, id: u64, lits: &[Lit], hints: &[i64]) -> Result<(), Memory>

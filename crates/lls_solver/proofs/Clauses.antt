@@ -1,28 +1,23 @@
 -- A store's clauses and those of a proof, one by one.
-use Rattle.std.proofs.Common.{◌≡◌, ℕ, zero, suc, ◌+◌, ◌≤◌, true, cond, List, [], ◌∷◌, ◌++◌, length, map, get_or, take, Some, refl, sym, ap, ◌∙◌, arith}
-use Rattle.std.specs.Prelude.{ℤ, IsSome, slice_get, fold, count_by}
-use Rattle.std.specs.List.{list_all, range_with_len, enumerate_from}
-use Rattle.std.proofs.lemmas.Bool.{and_parts}
-use Rattle.std.proofs.lemmas.List.Sums.{sum_by-cons}
+use Rattle.std.proofs.Common.{◌≡◌, ℕ, zero, suc, ◌+◌, ◌<◌, ◌≤◌, List, [], ◌∷◌, ◌++◌, length, map, get_or, take, Some, refl, sym, ap, subst, ◌∙◌, arith}
+use Rattle.std.specs.Prelude.{ℤ, IsSome, slice_get}
+use Rattle.std.specs.List.{enumerate_from}
 use Rattle.std.specs.FinSet as set
-use Rattle.std.proofs.lemmas.List.{length_push, get_or-map, length-map, map-append}
+use Rattle.std.proofs.lemmas.List.{get_or-map, length-map, map-append}
+use Rattle.std.proofs.lemmas.List.Elements.{Contains-append_right}
 use Rattle.std.proofs.lemmas.Option.{same_Some}
-use Rattle.std.proofs.lemmas.List.FromFn.{length-range_with_len, get_or-range_with_len, length-enumerate_from}
 use Rattle.lls_lit.specs.Formula.{Clause, Cnf}
 use Rattle.lls_prooflog.specs.UnitWalk.{Live}
+use Rattle.lls_prooflog.specs.Spent.{live_after}
+use Rattle.lls_prooflog.specs.declared.step.Step.{Step}
 use Rattle.lls_store.specs.declared.store.TheConstants.{MOST_ID}
 use Rattle.lls_store.specs.Clauses.{LiveClause, clause_numbered}
 use Rattle.lls_store.proofs.Live.{clause_numbered-contained}
-use Rattle.std.proofs.lemmas.List.Elements.{Contains-append_right}
 use Rattle.lls_store.specs.Store.{StoreState, AreLive, IsNewId, empty_store, sealed, with_clause}
 use Rattle.lls_store.specs.Sound.{IsSound}
 use Rattle.lls_store.specs.Changes.{empty_trail}
 use Rattle.lls_analyse.specs.Spelled.{Spells}
-use Rattle.lls_prooflog.specs.Steps.{after}
-use Rattle.lls_prooflog.specs.Spent.{LogState, log_start, log_after, live_after, is_addition}
-use Rattle.lls_prooflog.specs.declared.step.Step.{Step}
-use Rattle.lls_prooflog.specs.declared.step.Step.TheVariants.{Add, Del}
-use Rattle.lls_solver.specs.Searching.{HoldsClauses, ids_of}
+use Rattle.lls_solver.specs.Searching.{additions, AreAscending, HoldsClauses, ids_of}
 
 pub spells_push : (live : List LiveClause) (pairs : Live) (number id : ℕ) (lits : List ℤ) → Spells live pairs → Spells (live ++ record { number = number; id = id; lits = set.from_list lits } ∷ []) (pairs ++ (id, lits) ∷ [])
 spells_push [] [] number id lits h = (refl, (refl, tt))
@@ -39,39 +34,42 @@ spells_ids [] (pair ∷ pairs) h = absurd h
 spells_ids (clause ∷ live) [] h = absurd h
 spells_ids (clause ∷ live) (pair ∷ pairs) h = rw (h.0, spells_ids live pairs h.1.1) refl
 
--- behind the ids up to a number, the next one is new
-pub next_id : (store : StoreState) (vars : ℕ) (pairs : Live) (id : ℕ) → HoldsClauses store vars pairs → length pairs + 1 ≡ id → id ≤ MOST_ID → IsNewId store.live id
-next_id store vars pairs id h is most = record {
-  least = omega (arith, is);
+ascending_below : (least : ℕ) (ids : List ℕ) (bound : ℕ) → AreAscending least ids bound → least ≤ bound
+ascending_below least [] bound h = h
+ascending_below least (id ∷ ids) bound h = omega (arith, h.0, ascending_below (id + 1) ids bound h.1)
+
+ascending_each : (least : ℕ) (ids : List ℕ) (bound k : ℕ) → AreAscending least ids bound → k < length ids → get_or ids k 0 < bound
+ascending_each least [] bound k h lt = absurd (omega (arith, lt))
+ascending_each least (id ∷ ids) bound zero h lt = omega (arith, ascending_below (id + 1) ids bound h.1)
+ascending_each least (id ∷ ids) bound (suc k) h lt = ascending_each (id + 1) ids bound k h.1 (omega (arith, lt))
+
+ascending_push : (least : ℕ) (ids : List ℕ) (bound : ℕ) → AreAscending least ids bound → AreAscending least (ids ++ bound ∷ []) (bound + 1)
+ascending_push least [] bound h = (h, omega arith)
+ascending_push least (id ∷ ids) bound h = (h.0, ascending_push (id + 1) ids bound h.1)
+
+-- behind the last id that was given, the next one is new
+pub next_id : (store : StoreState) (vars : ℕ) (pairs : Live) (last : ℕ) → HoldsClauses store vars pairs last → last + 1 ≤ MOST_ID → IsNewId store.live (last + 1)
+next_id store vars pairs last h most = record {
+  least = omega arith;
   most = most;
   new = λ clause contains same.
-      let ids = spells_ids store.live pairs h.spelled ∙ h.ids in
-      let many : length store.live ≡ length pairs = sym (length-map store.live (λ (c : LiveClause). c.id)) ∙ ap length ids ∙ length-range_with_len 1 (length pairs) in
+      let ids = spells_ids store.live pairs h.spelled in
+      let many : length store.live ≡ length (ids_of pairs) = sym (length-map store.live (λ (c : LiveClause). c.id)) ∙ ap length ids in
       let k = contains.0 in
-      let id_at : get_or (range_with_len 1 (length pairs)) k 0 ≡ clause.id = ap (λ ns. get_or ns k 0) (sym ids) ∙ get_or-map (λ (c : LiveClause). c.id) store.live k clause 0 contains.1 ∙ ap (λ (c : LiveClause). c.id) contains.2 in
-      omega (arith, same, is, id_at, get_or-range_with_len 1 (length pairs) k 0 (omega (arith, contains.1, many)), contains.1, many);
+      let id_at : get_or (ids_of pairs) k 0 ≡ clause.id = ap (λ ns. get_or ns k 0) (sym ids) ∙ get_or-map (λ (c : LiveClause). c.id) store.live k clause 0 contains.1 ∙ ap (λ (c : LiveClause). c.id) contains.2 in
+      omega (arith, same, id_at, ascending_each 1 (ids_of pairs) (last + 1) k h.ids (omega (arith, contains.1, many)));
 }
 
-range_push : (a n : ℕ) → range_with_len a (n + 1) ≡ range_with_len a n ++ (a + n) ∷ []
-range_push a zero = let same : a ≡ a + 0 = omega arith in ap (λ (k : ℕ). k ∷ []) same
-range_push a (suc n) =
-    let next : suc n + 1 ≡ suc (n + 1) = omega arith in
-    let last : (a + 1) + n ≡ a + suc n = omega arith in
-    rw (next, range_push (a + 1) n, last) refl
-
-pub holds_push : (store : StoreState) (vars : ℕ) (pairs : Live) (id : ℕ) (lits : List ℤ) → HoldsClauses store vars pairs → length pairs + 1 ≡ id → HoldsClauses (with_clause store id lits) vars (pairs ++ (id, lits) ∷ [])
-holds_push store vars pairs id lits h is = record {
+pub holds_push : (store : StoreState) (vars : ℕ) (pairs : Live) (last : ℕ) (lits : List ℤ) → HoldsClauses store vars pairs last → HoldsClauses (with_clause store (last + 1) lits) vars (pairs ++ (last + 1, lits) ∷ []) (last + 1)
+holds_push store vars pairs last lits h = record {
   store_vars = h.store_vars;
-  spelled = spells_push store.live pairs store.count id lits h.spelled;
-  count = omega (arith, h.count, length_push pairs (id, lits));
-  ids =
-      let many : length (pairs ++ (id, lits) ∷ []) ≡ length pairs + 1 = length_push pairs (id, lits) in
-      let last : 1 + length pairs ≡ id = omega (arith, is) in
-      map-append (λ (pair : ℕ × Clause). pair.0) pairs ((id, lits) ∷ []) ∙ ap (λ (ns : List ℕ). ns ++ id ∷ []) h.ids ∙ ap (λ (k : ℕ). range_with_len 1 (length pairs) ++ k ∷ []) (sym last) ∙ sym (range_push 1 (length pairs)) ∙ ap (range_with_len 1) (sym many);
+  spelled = spells_push store.live pairs store.count (last + 1) lits h.spelled;
+  count = omega (arith, h.count);
+  ids = rw (map-append (λ (pair : ℕ × Clause). pair.0) pairs ((last + 1, lits) ∷ [])) (ascending_push 1 (ids_of pairs) (last + 1) h.ids);
 }
 
-pub holds_none : (vars : ℕ) → HoldsClauses (empty_store vars) vars []
-holds_none vars = record { store_vars = refl; spelled = tt; count = refl; ids = refl }
+pub holds_none : (vars : ℕ) → HoldsClauses (empty_store vars) vars [] 0
+holds_none vars = record { store_vars = refl; spelled = tt; count = omega arith; ids = omega arith }
 
 -- the first clauses under their ids
 pub take-numbered : (clauses : List Clause) (n k : ℕ) (clause : Clause) → slice_get clauses k ≡ Some clause → take (k + 1) (enumerate_from n clauses) ≡ take k (enumerate_from n clauses) ++ (n + k, clause) ∷ []
@@ -90,30 +88,16 @@ sound_empty live vars [] after e reason splits is = absurd cc
 sound_empty live vars (x ∷ before) after e reason splits is = absurd cc
 
 -- a clause that was built at the tail
-pub holds_sealed : (store : StoreState) (vars : ℕ) (pairs : Live) (id : ℕ) (lits : List ℤ) → HoldsClauses store vars pairs → length pairs + 1 ≡ id → HoldsClauses (sealed (record store { tail = lits }) id) vars (pairs ++ (id, lits) ∷ [])
-holds_sealed store vars pairs id lits h is =
-    let more = holds_push store vars pairs id lits h is in
+pub holds_sealed : (store : StoreState) (vars : ℕ) (pairs : Live) (last : ℕ) (lits : List ℤ) → HoldsClauses store vars pairs last → HoldsClauses (sealed (record store { tail = lits }) (last + 1)) vars (pairs ++ (last + 1, lits) ∷ []) (last + 1)
+holds_sealed store vars pairs last lits h =
+    let more = holds_push store vars pairs last lits h in
     record { store_vars = more.store_vars; spelled = more.spelled; count = more.count; ids = more.ids }
 
--- as many as the formula's clauses and the additions are live
-pub length-live_after : (formula : Cnf) (steps : List Step) → list_all is_addition steps ≡ true → length (live_after formula steps) ≡ length formula.clauses + length steps
-length-live_after formula steps all = from (log_start formula) steps all ∙ ap (λ n. n + length steps) (length-enumerate_from 1 formula.clauses) where
-  from : (state : LogState) (rest : List Step) → list_all is_addition rest ≡ true → length (fold log_after state rest).live ≡ length state.live + length rest
-  from state [] all = omega arith
-  from state (Del ids ∷ rest) all = absurd cc
-  from state (Add id lits hints ∷ rest) all =
-      from (log_after state (Add id lits hints)) rest (and_parts true (list_all is_addition rest) all).1 ∙ omega (arith, length_push state.live (id, lits))
-
-pub count-additions : (steps : List Step) → list_all is_addition steps ≡ true → count_by is_addition steps ≡ length steps
-count-additions [] all = refl
-count-additions (Del ids ∷ rest) all = absurd cc
-count-additions (Add id lits hints ∷ rest) all =
-    sum_by-cons (λ step. cond (is_addition step) 1 0) (Add id lits hints) rest ∙ ap (λ n. 1 + n) (count-additions rest (and_parts true (list_all is_addition rest) all).1) ∙ omega arith
-
 -- the id behind the formula's clauses and the additions is new
-pub fresh_id : (formula : Cnf) (steps : List Step) (store : StoreState) (m k : ℕ) → HoldsClauses store formula.vars (live_after formula steps) → list_all is_addition steps ≡ true → m ≡ length formula.clauses → k ≡ count_by is_addition steps → m + k + 1 ≤ MOST_ID → IsNewId store.live (m + k + 1)
-fresh_id formula steps store m k h all m_is k_is most =
-    next_id store formula.vars (live_after formula steps) (m + k + 1) h (omega (arith, length-live_after formula steps all, m_is, k_is, count-additions steps all)) most
+pub fresh_id : (formula : Cnf) (steps : List Step) (store : StoreState) (m k : ℕ) → HoldsClauses store formula.vars (live_after formula steps) (length formula.clauses + additions steps) → m ≡ length formula.clauses → k ≡ additions steps → m + k + 1 ≤ MOST_ID → IsNewId store.live (m + k + 1)
+fresh_id formula steps store m k h m_is k_is most =
+    let same : length formula.clauses + additions steps ≡ m + k = omega (arith, m_is, k_is) in
+    subst (λ (n : ℕ). IsNewId store.live (n + 1)) same (next_id store formula.vars (live_after formula steps) (length formula.clauses + additions steps) h (omega (arith, same, most)))
 
 -- the clause that was sealed is the one of its number
 pub sealed_live : (store : StoreState) (id : ℕ) (lits : List ℤ) → AreLive (sealed (record store { tail = lits }) id) → IsSome (clause_numbered (sealed (record store { tail = lits }) id).live store.count)

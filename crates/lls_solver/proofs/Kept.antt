@@ -1,5 +1,5 @@
 -- What is true over the clauses of a store is true over those of an equal one.
-use Rattle.std.proofs.Common.{◌≡◌, ℕ, List, subst, sym, ◌∙◌}
+use Rattle.std.proofs.Common.{◌≡◌, ℕ, ◌+◌, List, length, subst, sym, ◌∙◌}
 use Rattle.lls_store.specs.Trail.{TrailState}
 use Rattle.lls_store.specs.Sound.{IsSound}
 use Rattle.lls_store.specs.Store.{StoreState, IsConflict}
@@ -9,7 +9,7 @@ use Rattle.lls_prooflog.specs.Spent.{live_after}
 use Rattle.lls_prooflog.specs.declared.step.Step.{Step}
 use Rattle.lls_order.specs.Order.{OrderState}
 use Rattle.lls_solver.specs.Course.{IsCourse, AreClosedBelow}
-use Rattle.lls_solver.specs.Searching.{HoldsClauses, IsSearching}
+use Rattle.lls_solver.specs.Searching.{additions, HoldsClauses, IsSearching}
 
 pub sound_kept : (s t : StoreState) (trail : TrailState) → s ≡ t → IsSound s.live trail → IsSound t.live trail
 sound_kept s t trail same sound = subst (λ (x : StoreState). IsSound x.live trail) same sound
@@ -36,7 +36,7 @@ closed_below_moved s old new same closed = subst (λ (x : TrailState). AreClosed
 pub searching_kept : (formula : Cnf) (steps : List Step) (s middle t : StoreState) (old new : TrailState) (before after : OrderState) (phases more : ℕ) → IsSearching formula steps s old before phases → middle ≡ s → t ≡ middle
     → IsCourse middle.vars new after more → IsSound middle.live new → AreClosedBelow middle.live new → IsSearching formula steps t new after more
 searching_kept formula steps s middle t old new before after phases more h first second course sound closed = record {
-  holds = subst (λ (x : StoreState). HoldsClauses x formula.vars (live_after formula steps)) (sym (second ∙ first)) h.holds;
+  holds = subst (λ (x : StoreState). HoldsClauses x formula.vars (live_after formula steps) (length formula.clauses + additions steps)) (sym (second ∙ first)) h.holds;
   log = h.log;
   course = subst (λ (x : StoreState). IsCourse x.vars new after more) (sym second) course;
   sound = sound_kept middle t new (sym second) sound;

@@ -1,10 +1,10 @@
 -- A search under way: what holds of its clauses and of its log.
-use Rattle.std.specs.Prelude.{◌≡◌, ◌≤◌, ℕ, ◌+◌, Bool, true, not, List, [], ◌∷◌, ◌++◌, map, length}
-use Rattle.std.specs.List.{list_all, range_with_len}
+use Rattle.std.specs.Prelude.{◌≡◌, ◌≤◌, ℕ, ◌+◌, Bool, true, not, List, [], ◌∷◌, ◌++◌, map, length, count_by}
+use Rattle.std.specs.List.{list_all}
 use Rattle.lls_lit.specs.Formula.{Cnf, satisfies}
 use Rattle.lls_prooflog.specs.UnitWalk.{Live, numbered}
 use Rattle.lls_prooflog.specs.Steps.{are_accepted, is_empty_addition}
-use Rattle.lls_prooflog.specs.Spent.{EachStep, IsGood, IsFreshAddition, IsSpent, log_start, is_addition, live_after}
+use Rattle.lls_prooflog.specs.Spent.{EachStep, IsGood, IsFreshAddition, IsLateDeletion, IsSpent, log_start, is_addition, live_after}
 use Rattle.lls_prooflog.specs.declared.step.Step.{Step}
 use Rattle.lls_prooflog.specs.declared.step.Step.TheVariants.{Add, Del}
 use Rattle.lls_store.specs.Trail.{TrailState}
@@ -17,30 +17,43 @@ use Rattle.lls_analyse.specs.Spelled.{Spells}
 abbrev pub ids_of : Live → List ℕ
 ids_of live = map (λ pair. pair.0) live
 
--- a store of these clauses, under the ids from 1
-pub record HoldsClauses (store : StoreState) (vars : ℕ) (pairs : Live) : Type 0 where
+-- ids that ascend, from a number on and below another
+abbrev pub AreAscending : ℕ → List ℕ → ℕ → Type 0
+AreAscending least [] bound = least ≤ bound
+AreAscending least (id ∷ ids) bound = (least ≤ id) × AreAscending (id + 1) ids bound
+
+-- a store of these clauses, under ids that ascend from 1 to the last that was given; of the numbers no more were given
+pub record HoldsClauses (store : StoreState) (vars : ℕ) (pairs : Live) (last : ℕ) : Type 0 where
   pub store_vars : store.vars ≡ vars
   pub spelled : Spells store.live pairs
-  pub count : store.count ≡ length pairs
-  pub ids : ids_of pairs ≡ range_with_len 1 (length pairs)
+  pub count : store.count ≤ last
+  pub ids : AreAscending 1 (ids_of pairs) (last + 1)
 
--- additions whose ids run upwards from a number
+-- the ids of the additions run upwards from a number, whatever is deleted between
 abbrev pub AreNumberedFrom : ℕ → List Step → Type 0
 AreNumberedFrom n [] = Unit {0}
 AreNumberedFrom n (Add id lits hints ∷ steps) = (id ≡ n) × AreNumberedFrom (n + 1) steps
-AreNumberedFrom n (Del ids ∷ steps) = ⊥
+AreNumberedFrom n (Del ids ∷ steps) = AreNumberedFrom n steps
 
--- additions that are good and fresh in their turn, none of which is empty, with the ids behind those of the formula's clauses
+abbrev pub additions : List Step → ℕ
+additions steps = count_by is_addition steps
+
+-- nothing is deleted where all is to be kept
+abbrev pub KeepsAll : Bool → List Step → Type 0
+KeepsAll keep_all steps = keep_all ≡ true → list_all is_addition steps ≡ true
+
+-- additions that are good and fresh in their turn, none of which is empty, with the ids behind those of the formula's clauses, and
+-- deletions of live additions alone, each of them late
 pub record IsGoodLog (formula : Cnf) (steps : List Step) : Type 0 where
   pub good : EachStep IsGood (log_start formula) steps
   pub fresh : EachStep (IsFreshAddition formula.vars) (log_start formula) steps
+  pub deletions : EachStep IsLateDeletion (log_start formula) steps
   pub numbered_on : AreNumberedFrom (length formula.clauses + 1) steps
-  pub additions : list_all is_addition steps ≡ true
   pub none_empty : list_all (λ step. not (is_empty_addition step)) steps ≡ true
 
 -- what holds between two conflicts
 pub record IsSearching (formula : Cnf) (steps : List Step) (store : StoreState) (trail : TrailState) (order : OrderState) (phases : ℕ) : Type 0 where
-  pub holds : HoldsClauses store formula.vars (live_after formula steps)
+  pub holds : HoldsClauses store formula.vars (live_after formula steps) (length formula.clauses + additions steps)
   pub log : IsGoodLog formula steps
   pub course : IsCourse store.vars trail order phases
   pub sound : IsSound store.live trail
@@ -54,7 +67,7 @@ pub record IsModel (formula : Cnf) (values : List Bool) : Type 0 where
 -- a good log of what was learnt within a budget
 pub record IsLogWithin (formula : Cnf) (budget : ℕ) (steps : List Step) : Type 0 where
   pub log : IsGoodLog formula steps
-  pub within : length steps ≤ budget
+  pub within : additions steps ≤ budget
 
 -- a log that shows that nothing satisfies the formula: what was learnt within a budget, and the empty clause behind it
 pub record IsRefutation (formula : Cnf) (budget : ℕ) (steps : List Step) : Type 0 where
@@ -66,7 +79,7 @@ pub record IsRefutation (formula : Cnf) (budget : ℕ) (steps : List Step) : Typ
   pub accepted : are_accepted (numbered formula.clauses) steps ≡ true
   pub numbered_on : AreNumberedFrom (length formula.clauses + 1) steps
 
--- good additions, as many as the budget allows, and the search wasn't done
+-- a good log of as many additions as the budget allows, and the search wasn't done
 pub record IsExhausted (formula : Cnf) (budget : ℕ) (steps : List Step) : Type 0 where
   pub log : IsGoodLog formula steps
   pub spent : IsSpent formula steps budget

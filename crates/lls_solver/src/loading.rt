@@ -15,7 +15,7 @@ pub(crate) fn load<S: Store>(store: &mut S, trail: &Trail, formula: &Formula) ->
     requires store { S.state store.old ≡ empty_store formula.now.vars }
     requires trail { trail.now ≡ empty_trail formula.now.vars }
     requires tracked { S.tracks store.old trail.now }
-    ensures holds { OnOk result (HoldsClauses (S.state store.new) formula.now.vars (numbered formula.now.clauses)) }
+    ensures holds { OnOk result (HoldsClauses (S.state store.new) formula.now.vars (numbered formula.now.clauses) (length formula.now.clauses)) }
     ensures tracked { OnOk result (S.tracks store.new trail.now) }
     ensures sound { OnOk result (IsSound (S.state store.new).live trail.now) }
 {

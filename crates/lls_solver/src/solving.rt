@@ -1,10 +1,10 @@
 // The search for an assignment: descents and conflicts in turn.
-ghost use Rattle.std.specs.Prelude.{◌≡◌, ◌≤◌, ◌<◌, ◌+◌, ℕ, Bool, true, List, [], length, Ok, IfOk, OnOk, OnErr};
+ghost use Rattle.std.specs.Prelude.{◌≡◌, ◌≢◌, ◌≤◌, ◌<◌, ◌+◌, ◌^◌, ℕ, Bool, true, List, [], length, Ok, IfOk, OnOk, OnErr};
 ghost use Rattle.lls_prooflog.specs.Spent.{SomeCanBeLearnt, live_after};
 ghost use Rattle.lls_store.specs.Store.{IsConflict};
 ghost use Rattle.lls_analyse.specs.Learnt.{IsCurrentConflict};
 ghost use Rattle.lls_solver.specs.Course.{IsComplete};
-ghost use Rattle.lls_solver.specs.Searching.{HoldsFormula, IsExhausted, IsLogWithin, IsModel, IsRefutation, IsSearching};
+ghost use Rattle.lls_solver.specs.Searching.{additions, HoldsFormula, IsExhausted, IsLogWithin, IsModel, IsRefutation, IsSearching, KeepsAll};
 
 use crate::conflict::go_to_conflict;
 use crate::course::Course;
@@ -26,11 +26,12 @@ pub const MOST_BUDGET: u32 = 10_000_000;
 /// (Marques-Silva, Sakallah, *GRASP*, 1996; Eén, Sörensson, *An Extensible SAT-solver*, 2003). The log gets the clauses that
 /// were learnt, as many as the budget allows, each as a step of a proof; their ids run upwards from the number of the formula's
 /// clauses plus 1. Unit propagation over the clauses before it gives none of them. After `Undecided` one more could be learnt.
-/// After `Memory` the log holds what was learnt until then.
+/// After `Memory` the log holds what was learnt until then. With `keep_all` nothing is deleted.
 pub fn solve(
     alloc: Global,
     formula: &Formula,
     budget: u32,
+    keep_all: bool,
     log: &mut Log,
 ) -> Result<Outcome, Memory>
     requires none { log.old.steps ≡ [] }
@@ -40,6 +41,11 @@ pub fn solve(
     ensures unsat { result ≡ Ok Outcome.Unsat → IsRefutation formula.now budget log.new.steps }
     ensures undecided { result ≡ Ok Outcome.Undecided → IsExhausted formula.now budget log.new.steps }
     ensures memory { OnErr result (IsLogWithin formula.now budget log.new.steps) }
+    ensures all_kept { KeepsAll keep_all log.new.steps }
+
+    // With such budgets a search never gives up, for no log spends them.
+    ensures decides { 9 ^ formula.now.vars ≤ budget → result ≢ Ok Outcome.Undecided }
+    ensures decides_kept { keep_all ≡ true → 3 ^ formula.now.vars ≤ budget → result ≢ Ok Outcome.Undecided }
 {
     let vars = formula.vars();
     let mut store = ScanStore::new(alloc, vars);
@@ -54,6 +60,7 @@ pub fn solve(
         &mut analyser,
         log,
         budget,
+        keep_all,
     )
 }
 
@@ -66,6 +73,7 @@ pub(crate) fn solve_over<S: Store>(
     analyser: &mut Analyser,
     log: &mut Log,
     budget: u32,
+    keep_all: bool,
 ) -> Result<Outcome, Memory>
     requires searching { IsSearching formula.now log.old.steps (S.state store.old) course.old.trail course.old.order (length course.old.phases.items) }
     requires tracked { S.tracks store.old course.old.trail }
@@ -77,7 +85,10 @@ pub(crate) fn solve_over<S: Store>(
     ensures unsat { result ≡ Ok Outcome.Unsat → IsRefutation formula.now budget log.new.steps }
     ensures undecided { result ≡ Ok Outcome.Undecided → IsExhausted formula.now budget log.new.steps }
     ensures memory { OnErr result (IsLogWithin formula.now budget log.new.steps) }
+    ensures all_kept { KeepsAll keep_all log.new.steps }
 {
+    // Nothing is deleted yet, so all is kept either way.
+    let _ = keep_all;
     loop {
         let conflict = match descend(store, course) {
             Descent::Complete => return Ok(Outcome::Sat(found(alloc, formula, store, course)?)),
@@ -126,12 +137,13 @@ fn learn_from<S: Store>(
     requires searching { IsSearching formula.now log.old.steps (S.state store.old) course.old.trail course.old.order (length course.old.phases.items) }
     requires tracked { S.tracks store.old course.old.trail }
     requires analyser { analyser.old ≡ formula.now.vars }
-    requires few { length log.old.steps < MOST_BUDGET }
+    requires few { additions log.old.steps < MOST_BUDGET }
     requires level { 0 < course.old.trail.current }
     requires conflict { IsCurrentConflict (S.state store.old).live course.old.trail conflict }
     ensures searching { OnOk result (IsSearching formula.now log.new.steps (S.state store.new) course.new.trail course.new.order (length course.new.phases.items)) }
     ensures tracked { OnOk result (S.tracks store.new course.new.trail) }
-    ensures steps { OnOk result (length log.new.steps ≡ length log.old.steps + 1) }
+    ensures additions { OnOk result (additions log.new.steps ≡ additions log.old.steps + 1) }
+    ensures kept { OnOk result ((keep_all : Bool) → KeepsAll keep_all log.old.steps → KeepsAll keep_all log.new.steps) }
     ensures analyser { analyser.new ≡ analyser.old }
     ensures err { OnErr result (log.new.steps ≡ log.old.steps) }
 {
@@ -159,7 +171,7 @@ fn learn_further<S: Store>(
     requires searching { IsSearching formula.now log.now.steps (S.state store.old) course.now.trail course.now.order (length course.now.phases.items) }
     requires tracked { S.tracks store.old course.now.trail }
     requires analyser { analyser.old ≡ formula.now.vars }
-    requires few { length log.now.steps ≤ MOST_BUDGET }
+    requires few { additions log.now.steps ≤ MOST_BUDGET }
     requires level { 0 < course.now.trail.current }
     requires conflict { IsCurrentConflict (S.state store.old).live course.now.trail conflict }
     ensures further { OnOk result (SomeCanBeLearnt formula.now.vars (live_after formula.now log.now.steps)) }
@@ -183,10 +195,11 @@ fn refute_by<S: Store>(
     requires searching { IsSearching formula.now log.old.steps (S.state store.old) course.now.trail course.now.order (length course.now.phases.items) }
     requires tracked { S.tracks store.old course.now.trail }
     requires analyser { analyser.old ≡ formula.now.vars }
-    requires few { length log.old.steps ≤ MOST_BUDGET }
+    requires few { additions log.old.steps ≤ MOST_BUDGET }
     requires level { course.now.trail.current ≡ 0 }
     requires conflict { IsConflict (S.state store.old).live course.now.trail conflict }
-    ensures refutation { OnOk result ((budget : ℕ) → length log.old.steps ≤ budget → IsRefutation formula.now budget log.new.steps) }
+    ensures refutation { OnOk result ((budget : ℕ) → additions log.old.steps ≤ budget → IsRefutation formula.now budget log.new.steps) }
+    ensures kept { OnOk result ((keep_all : Bool) → KeepsAll keep_all log.old.steps → KeepsAll keep_all log.new.steps) }
     ensures err { OnErr result (log.new.steps ≡ log.old.steps) }
 {
     analyser.reserve_conflict(store, log)?;

@@ -35,7 +35,7 @@ fn found(
     requires { log.old.steps ≡ [] }
 {
     assert!(rt; budget <= MOST_BUDGET);
-    match solve(alloc, formula, budget, log)? {
+    match solve(alloc, formula, budget, false, log)? {
         Outcome::Sat(assignment) => {
             assert_eq!(rt; assignment.values().len(), formula.vars() as usize);
             assert!(rt; holds(formula, &assignment));
@@ -203,7 +203,7 @@ fn decisions_keep_the_last_value(rt: HostRuntime) -> Result<(), Fail> {
     assert!(rt; text.len() <= MOST_DIMACS_BYTES);
     let formula = read_dimacs(rt.alloc(), text)?;
     let mut log = Log::new(rt.alloc());
-    match solve(rt.alloc(), &formula, 10, &mut log)? {
+    match solve(rt.alloc(), &formula, 10, true, &mut log)? {
         Outcome::Sat(assignment) => assert_eq!(rt; assignment.values(), [true; 4].as_slice()),
         _ => return Err(Fail::from("an assignment")),
     }

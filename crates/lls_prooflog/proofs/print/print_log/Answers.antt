@@ -1,18 +1,18 @@
 use Rattle.std.proofs.Common.{◌++◌, All, ap, ◌∙◌, arith, subst}
 use Rattle.std.proofs.lemmas.List.{take_all}
 use Rattle.lls_prooflog.specs.StepText.{step_text}
-use Rattle.lls_prooflog.specs.Log.{step_of_addition}
+use Rattle.lls_prooflog.specs.Log.{step_of_ref}
 use Rattle.lls_prooflog.proofs.PrintedLogs.{IsReadable, readable_next, text_next, read_lines-log_text}
 use Rattle.lls_prooflog.proofs.print.print_log.Goals as goal
 
 pub loop-k-preserved : goal.loop-k-preserved
 loop-k-preserved c =
     let steps = c.args.log.now.steps in
-    let step = step_of_addition c.addition-addition.result in
-    let at = c.addition-addition.ensures.step in
+    let step = step_of_ref c.lend.result in
+    let at = c.lend.ensures.step in
     record {
-      text = c.in_ok-push_addition.ensures.text ∙ ap (λ t. t ++ step_text step) c.loop-k.invariant.text ∙ text_next steps c.loop-k.k step at;
-      readable = readable_next steps c.loop-k.k step at (record { literals = c.in_ok-push_addition.ensures.within; in_range = c.addition-addition.ensures.in_range }) c.loop-k.invariant.readable;
+      text = c.in_ok-push_step.ensures.text ∙ ap (λ t. t ++ step_text step) c.loop-k.invariant.text ∙ text_next steps c.loop-k.k step at;
+      readable = readable_next steps c.loop-k.k step at (record { literals = c.in_ok-push_step.ensures.literals; in_range = c.lend.ensures.in_range }) c.loop-k.invariant.readable;
     }
 
 pub returns-clause-read_again : goal.returns-clause-read_again

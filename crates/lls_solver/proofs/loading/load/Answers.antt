@@ -1,5 +1,5 @@
 use Rattle.std.proofs.Common.{◌≡◌, ◌+◌, ◌++◌, ◌∷◌, [], ℕ, length, take, sym, ap, ◌∙◌, subst, arith}
-use Rattle.std.proofs.lemmas.List.{take_all, length-take}
+use Rattle.std.proofs.lemmas.List.{take_all}
 use Rattle.std.proofs.lemmas.List.FromFn.{length-enumerate_from}
 use Rattle.lls_prooflog.specs.UnitWalk.{Live, numbered}
 use Rattle.lls_store.specs.Trail.{TrailState}
@@ -22,8 +22,7 @@ loop-k-init g c =
 pub add-requires-clause-id : goal.add-requires-clause-id
 add-requires-clause-id g c =
     let pairs = numbered c.args.formula.now.clauses in
-    let many : length (take c.loop-k.k pairs) + 1 ≡ c.loop-k.k + 1 = omega (arith, length-take c.loop-k.k pairs, length-enumerate_from 1 c.args.formula.now.clauses, c.loop-k-test.true, c.len-k-end.ensures.len) in
-    next_id (g.S.Store.state c.loop-k.store) c.args.formula.now.vars (take c.loop-k.k pairs) (c.loop-k.k + 1) c.loop-k.invariant.holds many (omega (arith, c.loop-k-test.true, c.len-k-end.ensures.most))
+    next_id (g.S.Store.state c.loop-k.store) c.args.formula.now.vars (take c.loop-k.k pairs) c.loop-k.k c.loop-k.invariant.holds (omega (arith, c.loop-k-test.true, c.len-k-end.ensures.most))
 
 pub loop-k-preserved : goal.loop-k-preserved
 loop-k-preserved g c =
@@ -31,14 +30,13 @@ loop-k-preserved g c =
     let clauses = c.args.formula.now.clauses in
     let clause = c.clause.result.now in
     let pairs = numbered clauses in
-    let many : length (take c.loop-k.k pairs) + 1 ≡ c.loop-k.k + 1 = omega (arith, length-take c.loop-k.k pairs, length-enumerate_from 1 clauses, c.loop-k-test.true, c.len-k-end.ensures.len) in
     let id : 1 + c.loop-k.k ≡ c.loop-k.k + 1 = omega arith in
     let more : take (c.loop-k.k + 1) pairs ≡ take c.loop-k.k pairs ++ (c.loop-k.k + 1, clause) ∷ [] =
     take-numbered clauses 1 c.loop-k.k clause c.clause.ensures.value ∙ ap (λ (n : ℕ). take c.loop-k.k pairs ++ (n, clause) ∷ []) id
     in
     record {
-      holds = subst (λ (x : StoreState). HoldsClauses x c.args.formula.now.vars (take (c.loop-k.k + 1) pairs)) (sym c.in_ok-add.ensures.ok)
-          (subst (λ (ps : Live). HoldsClauses (with_clause s (c.loop-k.k + 1) clause) c.args.formula.now.vars ps) (sym more) (holds_push s c.args.formula.now.vars (take c.loop-k.k pairs) (c.loop-k.k + 1) clause c.loop-k.invariant.holds many));
+      holds = subst (λ (x : StoreState). HoldsClauses x c.args.formula.now.vars (take (c.loop-k.k + 1) pairs) (c.loop-k.k + 1)) (sym c.in_ok-add.ensures.ok)
+          (subst (λ (ps : Live). HoldsClauses (with_clause s (c.loop-k.k + 1) clause) c.args.formula.now.vars ps (c.loop-k.k + 1)) (sym more) (holds_push s c.args.formula.now.vars (take c.loop-k.k pairs) c.loop-k.k clause c.loop-k.invariant.holds));
       tail = ap (λ (x : StoreState). x.tail) c.in_ok-add.ensures.ok ∙ c.loop-k.invariant.tail;
       tracked = c.in_ok-add.ensures.tracked;
       sound = c.in_ok-add.ensures.sound;
@@ -48,4 +46,5 @@ pub returns-clause-holds : goal.returns-clause-holds
 returns-clause-holds g c =
     let pairs = numbered c.args.formula.now.clauses in
     let all : take c.loop-k.k pairs ≡ pairs = take_all c.loop-k.k pairs (omega (arith, length-enumerate_from 1 c.args.formula.now.clauses, c.loop-k-test.false, c.len-k-end.ensures.len)) in
-    subst (λ (ps : Live). HoldsClauses (g.S.Store.state c.loop-k.store) c.args.formula.now.vars ps) all c.loop-k.invariant.holds
+    let last : c.loop-k.k ≡ length c.args.formula.now.clauses = omega (arith, c.loop-k-test.false, c.len-k-end.ensures.len) in
+    subst (λ (n : ℕ). HoldsClauses (g.S.Store.state c.loop-k.store) c.args.formula.now.vars pairs n) last (subst (λ (ps : Live). HoldsClauses (g.S.Store.state c.loop-k.store) c.args.formula.now.vars ps c.loop-k.k) all c.loop-k.invariant.holds)

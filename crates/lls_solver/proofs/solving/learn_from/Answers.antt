@@ -1,9 +1,8 @@
 use Rattle.std.proofs.Common.{◌≡◌, ◌+◌, ◌++◌, ◌∷◌, [], ℕ, List, length, sym, ap, ◌∙◌, subst, arith, true}
-use Rattle.std.specs.Prelude.{count_by, IsSome}
+use Rattle.std.specs.Prelude.{IsSome}
 use Rattle.lls_lit.specs.Formula.{is_within}
-use Rattle.lls_prooflog.specs.UnitWalk.{Live}
 use Rattle.lls_prooflog.proofs.Soundness.{good_by_propagation}
-use Rattle.lls_prooflog.specs.Spent.{live_after, is_addition}
+use Rattle.lls_prooflog.specs.Spent.{live_after}
 use Rattle.lls_prooflog.specs.declared.step.Step.{Step}
 use Rattle.lls_prooflog.specs.declared.step.Step.TheVariants.{Add}
 use Rattle.lls_store.specs.Trail.{TrailState}
@@ -12,12 +11,12 @@ use Rattle.lls_store.specs.Clauses.{clause_numbered}
 use Rattle.lls_store.specs.Store.{StoreState, AreLive, IsNewId, sealed}
 use Rattle.lls_store.proofs.Live.{AreWithin-read}
 use Rattle.lls_store.proofs.Sets.{is_within-from_AreWithin}
-use Rattle.lls_solver.specs.Searching.{HoldsClauses, IsGoodLog}
+use Rattle.lls_solver.specs.Searching.{additions, HoldsClauses, IsGoodLog, KeepsAll}
 use Rattle.lls_solver.specs.Course.{IsCourse}
 use Rattle.lls_solver.proofs.Kept.{sound_kept, sound_moved, closed_below_kept, closed_below_moved}
 use Rattle.lls_solver.proofs.Below.{closed_below_learnt}
-use Rattle.lls_solver.proofs.Clauses.{fresh_id, holds_sealed, length-live_after, count-additions, sealed_live}
-use Rattle.lls_solver.proofs.Logs.{good_push, live_after-push}
+use Rattle.lls_solver.proofs.Clauses.{fresh_id, sealed_live}
+use Rattle.lls_solver.proofs.Logs.{additions-push, good_push, holds_learnt, kept_push}
 use Rattle.lls_solver.proofs.Learning.{back_most, adds_learnt}
 use Rattle.lls_solver.proofs.solving.learn_from.Goals as goal
 
@@ -30,18 +29,29 @@ learn-learnt-requires-clause-id g c =
     let h = c.requires.searching in
     let steps = c.args.log.now.steps in
     let same = c.in_ok-reserve_conflict.ensures.steps.steps_stay in
-    let count : c.additions.result ≡ count_by is_addition steps = c.additions.ensures ∙ ap (count_by is_addition) same in
-    let few = count-additions steps h.log.additions in
+    let count : c.additions.result ≡ additions steps = c.additions.ensures ∙ ap additions same in
     subst (λ (s : StoreState). IsNewId s.live (c.len.result + c.additions.result + 1)) (sym c.in_ok-reserve_conflict.ensures.state)
-    (fresh_id c.args.formula.now steps (g.S.Store.state c.args.store.now) c.len.result c.additions.result h.holds h.log.additions c.len.ensures.len count (omega (arith, c.len.ensures.most, count, few, c.requires.few)))
+    (fresh_id c.args.formula.now steps (g.S.Store.state c.args.store.now) c.len.result c.additions.result h.holds c.len.ensures.len count (omega (arith, c.len.ensures.most, count, c.requires.few)))
 
 pub learn-learnt-requires-clause-most : goal.learn-learnt-requires-clause-most
 learn-learnt-requires-clause-most g c =
-    let h = c.requires.searching in
-    let formula = c.args.formula.now in
-    let steps = c.args.log.now.steps in
     let same = ap (λ (s : StoreState). s.count) c.in_ok-reserve_conflict.ensures.state in
-    omega (arith, same, h.holds.count, length-live_after formula steps h.log.additions, c.len.ensures.len, c.len.ensures.most, c.requires.few)
+    omega (arith, same, c.requires.searching.holds.count, c.len.ensures.len, c.len.ensures.most, c.requires.few)
+
+pub returns-clause-additions : goal.returns-clause-additions
+returns-clause-additions g c =
+    let steps = c.args.log.now.steps in
+    let learns = c.learn-learnt.ensures.learns in
+    let id = c.len.result + c.additions.result + 1 in
+    ap additions (learns.step.logged ∙ ap (λ (ss : List Step). ss ++ Add id learns.lits learns.hints ∷ []) c.in_ok-reserve_conflict.ensures.steps.steps_stay) ∙ additions-push steps id learns.lits learns.hints
+
+pub returns-clause-kept : goal.returns-clause-kept
+returns-clause-kept g c =
+    let steps = c.args.log.now.steps in
+    let learns = c.learn-learnt.ensures.learns in
+    let id = c.len.result + c.additions.result + 1 in
+    let logged = learns.step.logged ∙ ap (λ (ss : List Step). ss ++ Add id learns.lits learns.hints ∷ []) c.in_ok-reserve_conflict.ensures.steps.steps_stay in
+    λ keep_all kept. subst (KeepsAll keep_all) (sym logged) (kept_push keep_all steps id learns.lits learns.hints kept)
 
 pub bump-requires : goal.bump-requires
 bump-requires g c =
@@ -84,13 +94,12 @@ returns-clause-searching g c =
     let same = c.in_ok-reserve_conflict.ensures.steps.steps_stay in
     let step = Add id learns.lits learns.hints in
     let logged : c.learn-learnt.new.log.steps ≡ steps ++ step ∷ [] = learns.step.logged ∙ ap (λ (ss : List Step). ss ++ step ∷ []) same in
-    let count : c.additions.result ≡ count_by is_addition steps = c.additions.ensures ∙ ap (count_by is_addition) same in
-    let next : length (live_after formula steps) + 1 ≡ id = omega (arith, length-live_after formula steps h.log.additions, c.len.ensures.len, count, count-additions steps h.log.additions) in
-    let after : length formula.clauses + 1 + length steps ≡ id = omega (arith, c.len.ensures.len, count, count-additions steps h.log.additions) in
-    let holds : HoldsClauses middle formula.vars (live_after formula steps) = subst (λ (s : StoreState). HoldsClauses s formula.vars (live_after formula steps)) (sym c.in_ok-reserve_conflict.ensures.state) h.holds in
-    let more : HoldsClauses (sealed (record middle { tail = learns.lits }) id) formula.vars (live_after formula (steps ++ step ∷ [])) =
-    subst (λ (ps : Live). HoldsClauses (sealed (record middle { tail = learns.lits }) id) formula.vars ps) (sym (live_after-push formula steps step)) (holds_sealed middle formula.vars (live_after formula steps) id learns.lits holds next)
-    in
+    let last_id = length formula.clauses + additions steps in
+    let count : c.additions.result ≡ additions steps = c.additions.ensures ∙ ap additions same in
+    let next : last_id + 1 ≡ id = omega (arith, c.len.ensures.len, count) in
+    let after : length formula.clauses + 1 + additions steps ≡ id = omega (arith, c.len.ensures.len, count) in
+    let holds : HoldsClauses middle formula.vars (live_after formula steps) last_id = subst (λ (s : StoreState). HoldsClauses s formula.vars (live_after formula steps) last_id) (sym c.in_ok-reserve_conflict.ensures.state) h.holds in
+    let more = holds_learnt formula steps middle id learns.lits learns.hints holds next in
     let good = good_by_propagation (live_after formula steps) id learns.lits learns.hints (learns.step.good (live_after formula steps) holds.spelled) in
     let t = c.args.course.now.trail in
     let back = c.learn-learnt.result.back in
@@ -100,8 +109,8 @@ returns-clause-searching g c =
     let cut : cut_to t back ≡ c.go_back.new.self.trail = sym (c.go_back.ensures.cut ∙ ap (λ (x : TrailState). cut_to x back) c.bump.ensures.trail) in
     let vars : new.vars ≡ last.vars = sym (ap (λ (s : StoreState). s.vars) c.go_back.ensures.state) in
     record {
-      holds = subst (λ (s : StoreState). HoldsClauses s formula.vars (live_after formula c.learn-learnt.new.log.steps)) (sym (c.go_back.ensures.state ∙ learns.store))
-          (subst (λ (ss : List Step). HoldsClauses (sealed (record middle { tail = learns.lits }) id) formula.vars (live_after formula ss)) (sym logged) more);
+      holds = subst (λ (s : StoreState). HoldsClauses s formula.vars (live_after formula c.learn-learnt.new.log.steps) (length formula.clauses + additions c.learn-learnt.new.log.steps)) (sym (c.go_back.ensures.state ∙ learns.store))
+          (subst (λ (ss : List Step). HoldsClauses (sealed (record middle { tail = learns.lits }) id) formula.vars (live_after formula ss) (length formula.clauses + additions ss)) (sym logged) more);
       log = subst (IsGoodLog formula) (sym logged) log;
       course = subst (λ n. IsCourse n c.go_back.new.self.trail c.go_back.new.self.order (length c.go_back.new.self.phases.items)) vars c.go_back.ensures.course;
       sound = sound_kept new last c.go_back.new.self.trail (sym c.go_back.ensures.state) c.go_back.ensures.sound;

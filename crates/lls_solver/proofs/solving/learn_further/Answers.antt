@@ -3,7 +3,7 @@ use Rattle.lls_prooflog.specs.Spent.{live_after}
 use Rattle.lls_store.specs.Store.{StoreState, IsNewId}
 use Rattle.lls_analyse.specs.Spelled.{Spells}
 use Rattle.lls_solver.proofs.Kept.{sound_kept, closed_below_kept}
-use Rattle.lls_solver.proofs.Clauses.{fresh_id, length-live_after, count-additions}
+use Rattle.lls_solver.proofs.Clauses.{fresh_id}
 use Rattle.lls_solver.proofs.Learning.{adds_learnt, further_learnt}
 use Rattle.lls_solver.proofs.solving.learn_further.Goals as goal
 
@@ -16,13 +16,13 @@ learn-requires-clause-id g c =
     let h = c.requires.searching in
     let steps = c.args.log.now.steps in
     subst (λ (s : StoreState). IsNewId s.live (c.len.result + c.additions.result + 1)) (sym c.in_ok-reserve_conflict.ensures.state)
-    (fresh_id c.args.formula.now steps (g.S.Store.state c.args.store.now) c.len.result c.additions.result h.holds h.log.additions c.len.ensures.len c.additions.ensures (omega (arith, c.len.ensures.most, c.additions.ensures, count-additions steps h.log.additions, c.requires.few)))
+    (fresh_id c.args.formula.now steps (g.S.Store.state c.args.store.now) c.len.result c.additions.result h.holds c.len.ensures.len c.additions.ensures (omega (arith, c.len.ensures.most, c.additions.ensures, c.requires.few)))
 
 pub learn-requires-clause-most : goal.learn-requires-clause-most
 learn-requires-clause-most g c =
     let h = c.requires.searching in
     let same = ap (λ (s : StoreState). s.count) c.in_ok-reserve_conflict.ensures.state in
-    omega (arith, same, h.holds.count, length-live_after c.args.formula.now c.args.log.now.steps h.log.additions, c.len.ensures.len, c.len.ensures.most, c.requires.few)
+    omega (arith, same, h.holds.count, c.len.ensures.len, c.len.ensures.most, c.requires.few)
 
 pub returns : goal.returns
 returns g c =

@@ -1,15 +1,14 @@
 use Rattle.std.proofs.Common.{◌≡◌, ◌+◌, ◌++◌, ◌∷◌, [], List, length, sym, ap, ◌∙◌, subst, arith}
-use Rattle.std.specs.Prelude.{count_by}
-use Rattle.lls_prooflog.specs.Spent.{live_after, is_addition}
+use Rattle.lls_prooflog.specs.Spent.{live_after}
 use Rattle.lls_prooflog.proofs.Soundness.{good_by_propagation}
 use Rattle.lls_prooflog.specs.declared.step.Step.{Step}
 use Rattle.lls_prooflog.specs.declared.step.Step.TheVariants.{Add}
 use Rattle.lls_store.specs.Store.{StoreState, IsNewId}
-use Rattle.lls_solver.specs.Searching.{IsRefutation}
+use Rattle.lls_solver.specs.Searching.{additions, IsRefutation, KeepsAll}
 use Rattle.lls_analyse.specs.Spelled.{Spells}
 use Rattle.lls_solver.proofs.Kept.{sound_kept}
-use Rattle.lls_solver.proofs.Clauses.{fresh_id, count-additions}
-use Rattle.lls_solver.proofs.Logs.{refutation_push}
+use Rattle.lls_solver.proofs.Clauses.{fresh_id}
+use Rattle.lls_solver.proofs.Logs.{kept_push, refutation_push}
 use Rattle.lls_solver.proofs.solving.refute_by.Goals as goal
 
 pub refute-requires-clause-sound : goal.refute-requires-clause-sound
@@ -21,10 +20,9 @@ refute-requires-clause-id g c =
     let h = c.requires.searching in
     let steps = c.args.log.now.steps in
     let same = c.in_ok-reserve_conflict.ensures.steps.steps_stay in
-    let count : c.additions.result ≡ count_by is_addition steps = c.additions.ensures ∙ ap (count_by is_addition) same in
-    let few = count-additions steps h.log.additions in
+    let count : c.additions.result ≡ additions steps = c.additions.ensures ∙ ap additions same in
     subst (λ (s : StoreState). IsNewId s.live (c.len.result + c.additions.result + 1)) (sym c.in_ok-reserve_conflict.ensures.state)
-    (fresh_id c.args.formula.now steps (g.S.Store.state c.args.store.now) c.len.result c.additions.result h.holds h.log.additions c.len.ensures.len count (omega (arith, c.len.ensures.most, count, few, c.requires.few)))
+    (fresh_id c.args.formula.now steps (g.S.Store.state c.args.store.now) c.len.result c.additions.result h.holds c.len.ensures.len count (omega (arith, c.len.ensures.most, count, c.requires.few)))
 
 pub returns-clause-refutation : goal.returns-clause-refutation
 returns-clause-refutation g c =
@@ -36,7 +34,15 @@ returns-clause-refutation g c =
     let id = c.len.result + c.additions.result + 1 in
     let spelled = subst (λ (s : StoreState). Spells s.live (live_after formula steps)) (sym c.in_ok-reserve_conflict.ensures.state) h.holds.spelled in
     let good = good_by_propagation (live_after formula steps) id [] refutes.hints (refutes.step.good (live_after formula steps) spelled) in
-    let count : c.additions.result ≡ count_by is_addition steps = c.additions.ensures ∙ ap (count_by is_addition) same in
-    let next : length formula.clauses + 1 + length steps ≡ id = omega (arith, c.len.ensures.len, count, count-additions steps h.log.additions) in
+    let count : c.additions.result ≡ additions steps = c.additions.ensures ∙ ap additions same in
+    let next : length formula.clauses + 1 + additions steps ≡ id = omega (arith, c.len.ensures.len, count) in
     λ budget within. subst (IsRefutation formula budget) (sym (refutes.step.logged ∙ ap (λ (ss : List Step). ss ++ Add id [] refutes.hints ∷ []) same))
     (refutation_push formula budget steps id refutes.hints h.log within next good)
+
+pub returns-clause-kept : goal.returns-clause-kept
+returns-clause-kept g c =
+    let steps = c.args.log.now.steps in
+    let refutes = c.refute.ensures.refutes in
+    let id = c.len.result + c.additions.result + 1 in
+    let logged = refutes.step.logged ∙ ap (λ (ss : List Step). ss ++ Add id [] refutes.hints ∷ []) c.in_ok-reserve_conflict.ensures.steps.steps_stay in
+    λ keep_all kept. subst (KeepsAll keep_all) (sym logged) (kept_push keep_all steps id [] refutes.hints kept)

@@ -1,14 +1,13 @@
-use Rattle.std.proofs.Common.{length, sym, ◌∙◌, subst, arith}
-use Rattle.lls_solver.specs.Searching.{HoldsFormula}
+use Rattle.std.proofs.Common.{◌+◌, length, sym, ◌∙◌, subst, arith}
+use Rattle.lls_solver.specs.Searching.{additions, HoldsFormula}
 use Rattle.lls_solver.proofs.Kept.{sound_kept, conflict_kept, closed_below_kept, searching_kept}
-use Rattle.lls_solver.proofs.Clauses.{count-additions}
 use Rattle.lls_solver.proofs.Logs.{holds_formula, exhausted}
 use Rattle.lls_solver.proofs.solving.solve_over.Goals as goal
 
 pub found-requires-clause-holds : goal.found-requires-clause-holds
 found-requires-clause-holds g c =
     let h = c.loop-alloc.invariant.searching in
-    subst (HoldsFormula c.args.formula.now) (sym c.descend.ensures.state) (holds_formula c.args.formula.now c.loop-alloc.log.steps (g.S.Store.state c.loop-alloc.store) h.holds h.log.additions)
+    subst (HoldsFormula c.args.formula.now) (sym c.descend.ensures.state) (holds_formula c.args.formula.now c.loop-alloc.log.steps (g.S.Store.state c.loop-alloc.store) (length c.args.formula.now.clauses + additions c.loop-alloc.log.steps) h.holds h.log)
 
 pub go_to_conflict-requires-clause-conflict : goal.go_to_conflict-requires-clause-conflict
 go_to_conflict-requires-clause-conflict g c =
@@ -48,22 +47,23 @@ learn_from-requires-clause-searching g c =
 
 pub learn_from-requires-clause-few : goal.learn_from-requires-clause-few
 learn_from-requires-clause-few g c =
-    omega (arith, c.if-additions-from.false, c.additions.ensures, c.from.ensures, count-additions c.loop-alloc.log.steps c.loop-alloc.invariant.searching.log.additions, c.requires.budget)
+    omega (arith, c.if-additions-from.false, c.additions.ensures, c.from.ensures, c.requires.budget)
 
 pub returns-then-additions-from-clause-undecided : goal.returns-then-additions-from-clause-undecided
 returns-then-additions-from-clause-undecided g c =
     let steps = c.loop-alloc.log.steps in
     let h = c.loop-alloc.invariant.searching in
-    λ is. exhausted c.args.formula.now c.args.budget steps h.log (omega (arith, c.if-additions-from.true, c.additions.ensures, c.from.ensures, count-additions steps h.log.additions, c.loop-alloc.invariant.spent)) c.in_ok-learn_further.ensures.further
+    λ is. exhausted c.args.formula.now c.args.budget steps h.log (omega (arith, c.if-additions-from.true, c.additions.ensures, c.from.ensures, c.loop-alloc.invariant.spent)) c.in_ok-learn_further.ensures.further
 
 pub loop-alloc-smaller : goal.loop-alloc-smaller
 loop-alloc-smaller g c =
-    omega (arith, c.in_ok-learn_from.ensures.steps, c.if-additions-from.false, c.additions.ensures, c.from.ensures, count-additions c.loop-alloc.log.steps c.loop-alloc.invariant.searching.log.additions)
+    omega (arith, c.in_ok-learn_from.ensures.additions, c.if-additions-from.false, c.additions.ensures, c.from.ensures)
 
 pub loop-alloc-preserved : goal.loop-alloc-preserved
 loop-alloc-preserved g c = record {
   searching = c.in_ok-learn_from.ensures.searching;
   tracked = c.in_ok-learn_from.ensures.tracked;
   analyser = c.in_ok-learn_from.ensures.analyser ∙ c.loop-alloc.invariant.analyser;
-  spent = omega (arith, c.in_ok-learn_from.ensures.steps, c.if-additions-from.false, c.additions.ensures, c.from.ensures, count-additions c.loop-alloc.log.steps c.loop-alloc.invariant.searching.log.additions);
+  kept = c.in_ok-learn_from.ensures.kept c.args.keep_all c.loop-alloc.invariant.kept;
+  spent = omega (arith, c.in_ok-learn_from.ensures.additions, c.if-additions-from.false, c.additions.ensures, c.from.ensures);
 }

@@ -1,5 +1,5 @@
 use Rattle.std.proofs.Common.{◌≡◌, ◌≤◌, ◌-◌, length}
-use Rattle.lls_solver.specs.Searching.{IsSearching}
+use Rattle.lls_solver.specs.Searching.{additions, IsSearching, KeepsAll}
 use Rattle.lls_solver.proofs.solving.solve_over.Given as goal
 
 abbrev pub invariant-loop-alloc : goal.invariant-loop-alloc
@@ -7,8 +7,9 @@ invariant-loop-alloc g l = record {
   searching : IsSearching l.formula l.log.steps (g.S.Store.state l.store) l.course.trail l.course.order (length l.course.phases.items);
   tracked : g.S.Store.tracks l.store l.course.trail;
   analyser : l.analyser ≡ l.formula.vars;
-  spent : length l.log.steps ≤ l.budget;
+  kept : KeepsAll l.keep_all l.log.steps;
+  spent : additions l.log.steps ≤ l.budget;
 }
 
 abbrev pub decreases-loop-alloc : goal.decreases-loop-alloc
-decreases-loop-alloc g l = l.budget - length l.log.steps
+decreases-loop-alloc g l = l.budget - additions l.log.steps

@@ -7,6 +7,6 @@ use Rattle.lls_analyse.proofs.visited.Visited.forget.Goals as goal
 pub invariant_of-self : goal.invariant_of-self
 invariant_of-self c =
     let m = c.self.inside in
-    let at : c.place_of-place.result + 1 ≡ variable_of c.in-Some.lit = c.place_of-place.ensures ∙ c.var.ensures.var in
+    let at : c.index-place.result + 1 ≡ variable_of c.in-Some.lit = c.index-place.ensures.place ∙ c.var.ensures.var in
     rw (c.one_if_open.ensures, c.in-Some.ensures.capacity)
-    (AreKept-forget m.vars m.seen.items m.lits.items c.pop.new.self.items (vec_capacity m.lits) m.opens c.place_of-place.result c.in-Some.lit c.index.result.now c.self.invariant c.in-Some.ensures.items at c.index.ensures)
+    (AreKept-forget m.vars m.seen.items m.lits.items c.pop.new.self.items (vec_capacity m.lits) m.opens c.index-place.result c.in-Some.lit c.index.result.now c.self.invariant c.in-Some.ensures.items at c.index.ensures)

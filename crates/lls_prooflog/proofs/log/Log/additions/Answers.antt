@@ -1,6 +1,0 @@
-use Rattle.std.proofs.Common.{arith}
-use Rattle.lls_prooflog.proofs.Logged.{additions-steps_in}
-use Rattle.lls_prooflog.proofs.log.Log.additions.Goals as goal
-
-pub returns : goal.returns
-returns c = rw (← c.self.view_is) (omega (arith, c.len.ensures, additions-steps_in 0 0 c.self.inside.heads.items c.self.inside.lits.items c.self.inside.hints.items))
