@@ -123,11 +123,10 @@ link_at lits es spans k w e edge watched lt at is = read_edges (link_of w) (link
 
 slice_get-slice_range : (lits : List ℤ) (s e k : ℕ) → k < length (slice_range lits s e) → (s + k < e) × (slice_get (slice_range lits s e) k ≡ Some (get_or lits (s + k) (pos 0)))
 slice_get-slice_range lits s e k lt =
-    let short : k < e - s = omega (arith, lt, length-take (e - s) (drop s lits)) in
-    (
+    let short : k < e - s = omega (arith, lt, length-take (e - s) (drop s lits)) in (
       omega arith,
       slice_get-get_or (slice_range lits s e) k (pos 0) lt
-      ∙ ap Some (get_or-take (e - s) (drop s lits) k (pos 0) short ∙ get_or-drop s lits k (pos 0)),
+          ∙ ap Some (get_or-take (e - s) (drop s lits) k (pos 0) short ∙ get_or-drop s lits k (pos 0)),
     )
 
 watched_read : (lits : List ℤ) (w : Bool) (e : Edges) (s : Span) (edge : Edge) → AreWatched lits e s → edge ≡ cond w e.second e.first → place_of w < length (slice_range lits s.start s.end) → slice_get (slice_range lits s.start s.end) (place_of w) ≡ Some edge.lit
@@ -170,3 +169,14 @@ pub head_at-sealed : (lits : List ℤ) (tail end : ℕ) (e : Edges) (s : Span) �
     → head_at lits e s ≡ record { id = s.id; live = s.live; lits = drop tail lits; first = None; second = None }
 head_at-sealed lits tail end e s starts ends whole first second =
     rw (starts, ends, first, second, slice_range-from lits tail end whole) refl
+
+-- a clause that is known has its literals within its span
+pub literal_inside : (arena : ArenaState) (lits : List ℤ) (es : List Edges) (spans : List Span) (k i : ℕ) (s : Span) → heads_in lits es spans ≡ arena.heads → AreAllWatched lits es spans → k < length spans → s ≡ get_or spans k s
+    → ForSome (slice_get arena.heads k) (λ head. i < length head.lits)
+    → s.start + i < s.end
+literal_inside arena lits es spans k i s is watched lt at_span long =
+    let e = get_or es k no_edges in
+    let at_edges : e ≡ get_or es k e = get_or_default es k no_edges e (omega (arith, same_length lits es spans watched)) in
+    let read = slice_get-heads_in lits es spans k e s watched lt at_edges at_span in
+    let short : i < length (slice_range lits s.start s.end) = long (head_at lits e s) (ap (λ (heads : List HeadState). slice_get heads k) (sym is) ∙ read) in
+    omega (arith, short, length-take (s.end - s.start) (drop s.start lits))

@@ -3,7 +3,7 @@ ghost use Rattle.std.specs.Prelude.{◌≡◌, ◌<◌, ◌≤◌, ◌+◌, ◌-
 ghost use Rattle.std.specs.List.{slice_range};
 ghost use Rattle.std.specs.Option.{ForSome};
 ghost use Rattle.lls_arena.specs.declared.TheConstants.{MOST_HEADS};
-ghost use Rattle.lls_arena.specs.Arena.{IsLive, changed_at, empty_arena, killed, link_of, place_of, sealed, with_link};
+ghost use Rattle.lls_arena.specs.Arena.{IsLive, changed_at, empty_arena, killed, link_of, place_of, sealed, swapped, with_link};
 
 use crate::edges::{Edges, Link};
 use lls_base::Memory;
@@ -150,6 +150,19 @@ impl Arena {
         self.planned = false;
     }
 
+    /// Puts two literals of a live clause in each other's place. The edges watch the first two as before.
+    #[inline]
+    pub fn swap(&mut self, c: u32, i: usize, j: usize)
+        requires live { IsLive self.old.heads c }
+        requires first { ForSome (slice_get self.old.heads c) (λ head. i < length head.lits) }
+        requires second { ForSome (slice_get self.old.heads c) (λ head. j < length head.lits) }
+        ensures { self.new ≡ record self.old { heads = changed_at (swapped i j) c self.old.heads } }
+    {
+        let span = self.spans[c as usize];
+        self.lits.swap(span.start + i, span.start + j);
+        self.edges[c as usize].watch(piece(&self.lits, span.start, span.end));
+    }
+
     /// Makes a live clause dead.
     pub fn kill(&mut self, c: u32)
         requires { IsLive self.old.heads c }
@@ -190,7 +203,8 @@ impl Arena {
     {
         let number = self.spans.len() as u32;
         let end = self.lits.len();
-        self.edges.push_reserved(Edges::of(piece(&self.lits, self.tail, end)));
+        self.edges
+            .push_reserved(Edges::of(piece(&self.lits, self.tail, end)));
         self.spans.push_reserved(Span {
             start: self.tail,
             end,

@@ -71,6 +71,22 @@ impl Edges {
         if w { self.second } else { self.first }
     }
 
+    // Watches the first two of these literals, as far as they are there.
+    #[inline]
+    pub(crate) fn watch(&mut self, lits: &[Lit])
+        ensures first { 0 < length lits.now → self.new.first.lit ≡ slice_index_or lits.now 0 (pos 0) }
+        ensures second { 1 < length lits.now → self.new.second.lit ≡ slice_index_or lits.now 1 (pos 0) }
+        ensures first_link { self.new.first.next ≡ self.old.first.next }
+        ensures second_link { self.new.second.next ≡ self.old.second.next }
+    {
+        if lits.len() > 0 {
+            self.first.lit = lits[0];
+        }
+        if lits.len() > 1 {
+            self.second.lit = lits[1];
+        }
+    }
+
     // Gives one edge another link.
     #[inline]
     pub(crate) fn set_next(&mut self, w: bool, next: Link)

@@ -10,8 +10,7 @@ invariant_of-self c =
     let a = c.self.inside in
     let longer = length_push a.lits.items c.args.lit in
     let same_front : take a.tail a.lits.items ≡ take a.tail c.push_reserved.new.self.items = rw c.push_reserved.ensures.items (sym (take-append-le a.tail a.lits.items (c.args.lit ∷ []) c.self.invariant.0.tail_begins)) in
-    let grown = ap length c.push_reserved.ensures.items in
-    (
+    let grown = ap length c.push_reserved.ensures.items in (
       record {
         few = c.self.invariant.0.few;
         in_order = c.self.invariant.0.in_order;

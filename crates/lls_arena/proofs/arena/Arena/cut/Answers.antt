@@ -9,8 +9,7 @@ invariant_of-self c =
     let a = c.self.inside in
     let shorter = length-take (a.tail + c.args.keep) a.lits.items in
     let same_front : take a.tail a.lits.items ≡ take a.tail c.truncate.new.self.items = rw c.truncate.ensures.items (sym (take-take a.tail (a.tail + c.args.keep) a.lits.items (omega arith))) in
-    let cut = ap length c.truncate.ensures.items in
-    (
+    let cut = ap length c.truncate.ensures.items in (
       record {
         few = c.self.invariant.0.few;
         in_order = c.self.invariant.0.in_order;

@@ -15,8 +15,7 @@ pub invariant_of-self : goal.invariant_of-self
 invariant_of-self c =
     let a = c.self.inside in
     let s = c.index_mut.result.now in
-    let longer = length-set a.spans.items c.args.c (record s { live = false }) in
-    (
+    let longer = length-set a.spans.items c.args.c (record s { live = false }) in (
       record {
         few = omega (arith, longer, c.self.invariant.0.few);
         in_order = AreInOrder-killed 0 a.spans.items a.tail c.args.c s c.index_mut.ensures.value c.self.invariant.0.in_order;

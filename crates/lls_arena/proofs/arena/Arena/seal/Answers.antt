@@ -21,8 +21,7 @@ invariant_of-self c =
     let more_edges = ap length c.push_reserved.ensures.items in
     let span_pushed = length_push a.spans.items span in
     let edges_pushed = length_push a.edges.items c.of.result in
-    let spare = ap (λ (x : ArenaState). x.spare_heads) c.self.view_is in
-    (
+    let spare = ap (λ (x : ArenaState). x.spare_heads) c.self.view_is in (
       record {
         few = omega (arith, more_spans, span_pushed, known, counted, c.requires.most);
         in_order = rw c.push_reserved-2.ensures.items (AreInOrder-push 0 a.spans.items a.tail c.len-end.result span c.self.invariant.0.in_order (omega arith) (omega (arith, end, c.self.invariant.0.tail_begins)) (omega arith));

@@ -17,8 +17,7 @@ index_mut-requires c =
 pub invariant_of-self : goal.invariant_of-self
 invariant_of-self c =
     let a = c.self.inside in
-    let longer = length-set a.edges.items c.args.c c.set_next.new.self in
-    (
+    let longer = length-set a.edges.items c.args.c c.set_next.new.self in (
       record {
         few = c.self.invariant.0.few;
         in_order = c.self.invariant.0.in_order;
