@@ -1,9 +1,10 @@
 // An arena of clauses.
-ghost use Rattle.std.specs.Prelude.{◌≡◌, ◌<◌, ◌≤◌, ◌+◌, ◌-◌, [], ◌∷◌, ◌++◌, false, length, map, slice_get, take, Some, IfSome, OnOk};
+ghost use Rattle.std.specs.Prelude.{◌≡◌, ◌<◌, ◌≤◌, ◌+◌, ◌-◌, [], ◌∷◌, ◌++◌, false, true, length, map, slice_get, take, Some, IfSome, OnOk};
 ghost use Rattle.std.specs.List.{slice_range};
 ghost use Rattle.std.specs.Option.{ForSome};
 ghost use Rattle.lls_arena.specs.declared.TheConstants.{MOST_HEADS};
-ghost use Rattle.lls_arena.specs.Arena.{IsLive, changed_at, empty_arena, killed, link_of, place_of, sealed, swapped, with_link};
+ghost use Rattle.lls_arena.specs.Arena.{IsLive, changed_at, empty_arena, killed, link_of, live_before, place_of, sealed, swapped, unlinked, with_link};
+ghost use Rattle.lls_arena.specs.Parts.{AreTold};
 
 use crate::edges::{Edges, Link};
 use lls_base::Memory;
@@ -38,16 +39,17 @@ pub struct Arena {
 }
 
 impl Model for Arena {
-    ghost use Rattle.std.specs.Prelude.{length, vec_capacity};
+    ghost use Rattle.std.specs.Prelude.{◌≡◌, true, length, vec_capacity};
     ghost use Rattle.lls_arena.specs.Arena.{ArenaState};
-    ghost use Rattle.lls_arena.specs.Parts.{arena_in, AreParts, HaveRoom};
+    ghost use Rattle.lls_arena.specs.Parts.{arena_in, AreParts, HaveRoom, SayWhereTo};
 
     ghost Value = { ArenaState };
 
     ghost view = { λ a. arena_in a.edges.items a.spans.items a.lits.items a.tail a.spare_heads a.spare_lits a.planned };
 
     ghost invariant = { λ a. AreParts a.edges.items a.spans.items a.lits.items a.tail
-        × HaveRoom (length a.edges.items) (length a.spans.items) (length a.lits.items) a.spare_heads a.spare_lits (vec_capacity a.edges) (vec_capacity a.spans) (vec_capacity a.lits) };
+        × HaveRoom (length a.edges.items) (length a.spans.items) (length a.lits.items) a.spare_heads a.spare_lits (vec_capacity a.edges) (vec_capacity a.spans) (vec_capacity a.lits)
+        × (a.planned ≡ true → SayWhereTo a.edges.items a.spans.items) };
 }
 
 impl Arena {
@@ -215,6 +217,42 @@ impl Arena {
         self.spare_heads -= 1;
         self.planned = false;
         number
+    }
+
+    /// Settles where each live clause is to go, for which links may be lost.
+    pub fn plan_compact(&mut self)
+        requires { self.old.tail ≡ [] }
+        ensures heads { map unlinked self.new.heads ≡ map unlinked self.old.heads }
+        ensures same { self.new ≡ record self.old { heads = self.new.heads; planned = true } }
+    {
+        tell_where_to(&mut self.edges, &self.spans);
+        self.planned = true;
+    }
+
+    /// Where a live clause is to go: so many live ones are before it.
+    #[inline]
+    pub fn moved_to(&self, c: u32) -> u32
+        requires planned { self.now.planned ≡ true }
+        requires live { IsLive self.now.heads c }
+        ensures { result ≡ live_before self.now.heads c }
+    {
+        // A live clause has been told, so its own number is never the answer of want of one.
+        self.edges[c as usize].first.next.next().unwrap_or(c)
+    }
+}
+
+// Puts at the first edge of each live clause how many live ones are before it.
+fn tell_where_to(edges: &mut [Edges], spans: &[Span])
+    requires each { length edges.old ≡ length spans.now }
+    requires few { length spans.now ≤ MOST_HEADS }
+    ensures { AreTold edges.old edges.new spans.now }
+{
+    let mut before = 0;
+    for k in 0..spans.len() {
+        if spans[k].live {
+            edges[k].first.next = Link::new(Some(before));
+            before += 1;
+        }
     }
 }
 
