@@ -3,3 +3,4 @@ pub mod Heads
 pub mod Changed
 pub mod Pieces
 pub mod Told
+pub mod Sliding

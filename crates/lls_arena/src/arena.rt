@@ -3,8 +3,8 @@ ghost use Rattle.std.specs.Prelude.{◌≡◌, ◌<◌, ◌≤◌, ◌+◌, ◌-
 ghost use Rattle.std.specs.List.{slice_range};
 ghost use Rattle.std.specs.Option.{ForSome};
 ghost use Rattle.lls_arena.specs.declared.TheConstants.{MOST_HEADS};
-ghost use Rattle.lls_arena.specs.Arena.{IsLive, changed_at, empty_arena, killed, link_of, live_before, place_of, sealed, swapped, unlinked, with_link};
-ghost use Rattle.lls_arena.specs.Parts.{AreTold};
+ghost use Rattle.lls_arena.specs.Arena.{IsLive, changed_at, compacted, empty_arena, killed, link_of, live_before, place_of, sealed, swapped, unlinked, with_link};
+ghost use Rattle.lls_arena.specs.Parts.{AreAllWatched, AreInOrder, AreSlid, AreTold, DifferWithin, heads_in};
 
 use crate::edges::{Edges, Link};
 use lls_base::Memory;
@@ -238,6 +238,61 @@ impl Arena {
     {
         // A live clause has been told, so its own number is never the answer of want of one.
         self.edges[c as usize].first.next.next().unwrap_or(c)
+    }
+
+    /// Takes the dead clauses away, and all links: the live ones slide down in place, in their order.
+    pub fn finish_compact(&mut self)
+        requires planned { self.old.planned ≡ true }
+        requires tail { self.old.tail ≡ [] }
+        ensures { self.new ≡ compacted self.old }
+    {
+        let (kept, end) = slide_live(&mut self.edges, &mut self.spans, &mut self.lits);
+        self.edges.truncate(kept);
+        self.spans.truncate(kept);
+        self.lits.truncate(end);
+        self.tail = end;
+        self.planned = false;
+    }
+}
+
+// Slides the live clauses down over the dead ones: how many there are, and where their literals end.
+fn slide_live(edges: &mut [Edges], spans: &mut [Span], lits: &mut [Lit]) -> (usize, usize)
+    requires in_order { AreInOrder 0 spans.old (length lits.old) }
+    requires watched { AreAllWatched lits.old edges.old spans.old }
+    ensures { AreSlid (heads_in lits.old edges.old spans.old) edges.new spans.new lits.new result.0 result.1 }
+{
+    let mut kept = 0;
+    let mut end = 0;
+    for k in 0..spans.len() {
+        let span = spans[k];
+        if span.live {
+            let start = end;
+            end = start + (span.end - span.start);
+            slide(lits, span.start, span.end, start);
+            edges[kept] = edges[k].unlinked();
+            spans[kept] = Span {
+                start,
+                end,
+                id: span.id,
+                live: true,
+            };
+            kept += 1;
+        }
+    }
+    (kept, end)
+}
+
+// Copies a piece to where it may overlap itself from before.
+#[inline]
+fn slide(lits: &mut [Lit], start: usize, end: usize, to: usize)
+    requires down { to ≤ start }
+    requires straight { start ≤ end }
+    requires within { end ≤ length lits.old }
+    ensures moved { slice_range lits.new to (to + (end - start)) ≡ slice_range lits.old start end }
+    ensures outside { DifferWithin lits.old lits.new to (to + (end - start)) }
+{
+    for k in 0..end - start {
+        lits[to + k] = lits[start + k];
     }
 }
 

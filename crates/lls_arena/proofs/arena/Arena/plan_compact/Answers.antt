@@ -18,8 +18,7 @@ invariant_of-self c =
     let a = c.self.inside in
     let new = c.tell_where_to.new.edges in
     let told : AreTold a.edges.items new a.spans.items = rw (c.deref_mut.ensures.value, c.deref.ensures.value) at c.tell_where_to.ensures in
-    rw (with_items_is a.edges new (c.tell_where_to.auto.edges ∙ c.deref_mut.ensures.len))
-    (
+    rw (with_items_is a.edges new (c.tell_where_to.auto.edges ∙ c.deref_mut.ensures.len)) (
       record {
         few = c.self.invariant.0.few;
         in_order = c.self.invariant.0.in_order;
