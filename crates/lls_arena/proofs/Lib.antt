@@ -1,0 +1,6 @@
+pub mod Buffer
+pub mod Heads
+pub mod Changed
+pub mod Pieces
+pub mod Told
+pub mod Sliding
