@@ -228,11 +228,11 @@ stays_silent (Err error) before after status (file_failed answer fault, ended) s
 stays_silent (Err error) before after status (output_failed answer, ended) silent = absurd ended
 
 pub asks-question_of : (job : Job) (files : Files) (question : Result Question Fault) → Asks job (Some files) question → question_of job files ≡ question
-asks-question_of (jobs.Check one two rule demands) files question asked = rw (← asked.first_is, ← asked.second_is) (sym asked.made)
+asks-question_of (jobs.Check one two rule demands form) files question asked = rw (← asked.first_is, ← asked.second_is) (sym asked.made)
 asks-question_of (jobs.Judge one two rule demands rle) files question asked = rw (← asked.first_is, ← asked.second_is) (sym asked.made)
-asks-question_of (jobs.Search one two rule demands budget keep_all rle) files question asked = rw (← asked.input_is) (sym asked.made)
+asks-question_of (jobs.Search one two rule demands form budget keep_all rle) files question asked = rw (← asked.input_is) (sym asked.made)
 asks-question_of (jobs.Sat one two budget keep_all) files question asked = rw (← asked.input_is) (sym asked.made)
-asks-question_of (jobs.Cnf one rule demands) files question asked = rw (← asked.input_is) (sym asked.made)
+asks-question_of (jobs.Cnf one rule demands form) files question asked = rw (← asked.input_is) (sym asked.made)
 asks-question_of (jobs.Lrat one two) files question asked = rw (← asked.first_is, ← asked.second_is) (sym asked.made)
 asks-question_of (jobs.Rule rule) files question asked = sym asked
 asks-question_of (jobs.Make seed size one two) files question asked = sym asked

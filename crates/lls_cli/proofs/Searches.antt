@@ -5,7 +5,6 @@ use Rattle.std.specs.List.{list_all}
 use Rattle.std.proofs.lemmas.List.{length-append}
 use Rattle.lls_lit.specs.Formula.{Cnf, IsUnsatisfiable}
 use Rattle.lls_grid.specs.History.{History}
-use Rattle.lls_problem.specs.Problem.{PosedProblem}
 use Rattle.lls_problem.specs.Solution.{IsSolution, IsAbsent}
 use Rattle.lls_problem.proofs.Plane.{plane_law}
 use Rattle.lls_encode.specs.Formula.{formula_of}
@@ -15,8 +14,9 @@ use Rattle.lls_prooflog.specs.Log.{log_text}
 use Rattle.lls_prooflog.specs.Spent.{is_addition}
 use Rattle.lls_solver.specs.Searching.{AreNumberedFrom, IsModel, IsRefutation, IsExhausted}
 use Rattle.lls_lrat.specs.Verdict.{Accepted, verdict}
+use Rattle.lls_cli.specs.declared.question.Asked.{Asked}
 use Rattle.lls_cli.specs.declared.status.Status.TheVariants as statuses
-use Rattle.lls_cli.specs.Question.{Effort, searches, decides}
+use Rattle.lls_cli.specs.Question.{Effort, formula_asked, searches, decides}
 use Rattle.lls_cli.specs.Evidence.{NamedFile, HasProof, HasSpentLog}
 use Rattle.lls_cli.specs.ModelText.{model_text}
 use Rattle.lls_cli.specs.PatternText.{pattern_text}
@@ -70,23 +70,23 @@ pub unknown_answer : (formula : Cnf) (effort : Effort) (steps : List Step) (file
 unknown_answer formula effort steps file answer named exhausted is =
     subst (IsAnswer (decides formula effort)) (sym is) (record { answers = unknown file (log_of formula effort steps file named exhausted); holds = tt })
 
-pub found_answer : (problem : PosedProblem) (effort : Effort) (rle : Bool) (history : History) (answer : GivenAnswer) → IsSolution problem history
-    → answer ≡ shown statuses.Pattern (pattern_text rle problem.rule history) → IsAnswer (searches problem effort rle) answer
-found_answer problem effort rle history answer solution is =
-    let law = plane_law problem history solution in
-    subst (IsAnswer (searches problem effort rle)) (sym is) (record { answers = found history solution law; holds = (history, solution, law) })
+pub found_answer : (asked : Asked) (effort : Effort) (rle : Bool) (history : History) (answer : GivenAnswer) → IsSolution asked.problem history
+    → answer ≡ shown statuses.Pattern (pattern_text rle asked.problem.rule history) → IsAnswer (searches asked effort rle) answer
+found_answer asked effort rle history answer solution is =
+    let law = plane_law asked.problem history solution in
+    subst (IsAnswer (searches asked effort rle)) (sym is) (record { answers = found history solution law; holds = (history, solution, law) })
 
-pub absent_answer : (problem : PosedProblem) (effort : Effort) (rle : Bool) (steps : List Step) (file : NamedFile) → file ≡ record { name = effort.proof; bytes = log_text steps }
-    → IsRefutation (formula_of problem) effort.budget steps → verdict (formula_of problem) file.bytes ≡ Accepted → IsAbsent problem → IsAnswer (searches problem effort rle) (none_behind file)
-absent_answer problem effort rle steps file named refutation accepted none =
-    record { answers = absent file (proof_of (formula_of problem) effort steps file named refutation accepted); holds = none }
+pub absent_answer : (asked : Asked) (effort : Effort) (rle : Bool) (steps : List Step) (file : NamedFile) → file ≡ record { name = effort.proof; bytes = log_text steps }
+    → IsRefutation (formula_asked asked) effort.budget steps → verdict (formula_asked asked) file.bytes ≡ Accepted → IsAbsent asked.problem → IsAnswer (searches asked effort rle) (none_behind file)
+absent_answer asked effort rle steps file named refutation accepted none =
+    record { answers = absent file (proof_of (formula_asked asked) effort steps file named refutation accepted); holds = none }
 
-pub undecided_answer : (problem : PosedProblem) (effort : Effort) (rle : Bool) (steps : List Step) (file : NamedFile) (answer : GivenAnswer) → file ≡ record { name = effort.proof; bytes = log_text steps }
-    → IsExhausted (formula_of problem) effort.budget steps → answer ≡ said_behind file statuses.Undecided (codes "undecided") → IsAnswer (searches problem effort rle) answer
-undecided_answer problem effort rle steps file answer named exhausted is =
-    subst (IsAnswer (searches problem effort rle)) (sym is) (record { answers = undecided file (log_of (formula_of problem) effort steps file named exhausted); holds = tt })
+pub undecided_answer : (asked : Asked) (effort : Effort) (rle : Bool) (steps : List Step) (file : NamedFile) (answer : GivenAnswer) → file ≡ record { name = effort.proof; bytes = log_text steps }
+    → IsExhausted (formula_asked asked) effort.budget steps → answer ≡ said_behind file statuses.Undecided (codes "undecided") → IsAnswer (searches asked effort rle) answer
+undecided_answer asked effort rle steps file answer named exhausted is =
+    subst (IsAnswer (searches asked effort rle)) (sym is) (record { answers = undecided file (log_of (formula_asked asked) effort steps file named exhausted); holds = tt })
 
 -- there is a variable for each cell
-pub cells_fit : (problem : PosedProblem) → length problem.posed.cells ≤ (formula_of problem).vars
+pub cells_fit : (asked : Asked) → length asked.problem.posed.cells ≤ (formula_asked asked).vars
 unfolding formula_of
-cells_fit problem = omega arith
+cells_fit asked = omega arith

@@ -23,12 +23,11 @@ use crate::fault::Fault;
 use crate::judge::judge;
 use crate::making::{make_file, solve_made};
 use crate::print::{print_formula, print_line};
-use crate::question::{Effort, Question};
+use crate::question::{Asked, Effort, Question};
 use crate::search::{Finding, search};
 use crate::status::Status;
 use lls_base::{Memory, Name, Shelf, Sink};
 use lls_encode::encode;
-use lls_problem::Problem;
 use lls_words::read_job;
 use std::alloc::Global;
 
@@ -53,15 +52,15 @@ fn give<S: Shelf, O: Sink, E: Sink>(
     }
 }
 
-/// Gives what a search comes to over the problem's formula.
+/// Gives what a search comes to over the problem's formula of the form.
 fn give_finding<'f, S: Shelf, O: Sink, E: Sink>(
     finding: Result<Finding<'f>, Memory>,
-    problem: &Problem,
+    asked: &Asked,
     shelf: &mut S,
     out: &mut O,
     err: &mut E,
 ) -> Status
-    requires { IfOk finding (Stands problem.now) }
+    requires { IfOk finding (Stands asked.now) }
     ensures { (question : questions.Question) → IfOk finding.entry (λ found. IsAnswer question (seen_finding found)) → (end : End) × IsEndOf question
         (moment (shelf_moment (S.told shelf.old) (S.has_input shelf.old) (S.has_output shelf.old) (S.faults shelf.old)) (sink_moment (O.written out.old) (O.faults out.old)) (sink_moment (E.written err.old) (E.faults err.old)))
         (moment (shelf_moment (S.told shelf.new) (S.has_input shelf.new) (S.has_output shelf.new) (S.faults shelf.new)) (sink_moment (O.written out.new) (O.faults out.new)) (sink_moment (E.written err.new) (E.faults err.new)))
@@ -69,7 +68,7 @@ fn give_finding<'f, S: Shelf, O: Sink, E: Sink>(
 {
     match finding {
         Ok(Finding::Answered(answer)) => deliver(&answer, shelf, out, err),
-        Ok(Finding::Absent(proof, file)) => deliver_none(&proof, file, problem, shelf, out, err),
+        Ok(Finding::Absent(proof, file)) => deliver_none(&proof, file, asked, shelf, out, err),
         Err(Memory) => lack(err),
     }
 }
@@ -77,24 +76,24 @@ fn give_finding<'f, S: Shelf, O: Sink, E: Sink>(
 /// Searches a solution of a problem, and gives what comes of it.
 fn give_search<S: Shelf, O: Sink, E: Sink>(
     alloc: Global,
-    problem: &Problem,
+    asked: &Asked,
     effort: Effort,
     rle: bool,
     shelf: &mut S,
     out: &mut O,
     err: &mut E,
 ) -> Status
-    requires isotropic { IsIsotropic problem.now.rule }
+    requires isotropic { IsIsotropic asked.now.problem.rule }
     requires budget { effort.budget ≤ MOST_BUDGET }
-    ensures { (end : End) × IsEndOf (searches problem.now (seen_effort effort) rle)
+    ensures { (end : End) × IsEndOf (searches asked.now (seen_effort effort) rle)
         (moment (shelf_moment (S.told shelf.old) (S.has_input shelf.old) (S.has_output shelf.old) (S.faults shelf.old)) (sink_moment (O.written out.old) (O.faults out.old)) (sink_moment (E.written err.old) (E.faults err.old)))
         (moment (shelf_moment (S.told shelf.new) (S.has_input shelf.new) (S.has_output shelf.new) (S.faults shelf.new)) (sink_moment (O.written out.new) (O.faults out.new)) (sink_moment (E.written err.new) (E.faults err.new)))
         result end }
 {
-    match encode(alloc, problem) {
+    match encode(alloc, &asked.problem, asked.form) {
         Ok(formula) => {
-            let finding = search(alloc, problem, &formula, effort, rle);
-            give_finding(finding, problem, shelf, out, err)
+            let finding = search(alloc, asked, &formula, effort, rle);
+            give_finding(finding, asked, shelf, out, err)
         }
         Err(Memory) => lack(err),
     }
@@ -146,7 +145,7 @@ pub(crate) fn give_answer<S: Shelf, O: Sink, E: Sink>(
         (shelf_moment (S.told shelf.new) (S.has_input shelf.new) (S.has_output shelf.new) (S.faults shelf.new)) }
 {
     match question {
-        Question::Check { problem, proof } => give(check(alloc, &problem, &proof), shelf, out, err),
+        Question::Check { asked, proof } => give(check(alloc, &asked, &proof), shelf, out, err),
         Question::Refute { formula, proof } => give(
             refute(alloc, &formula, &proof),
             shelf,
@@ -159,18 +158,16 @@ pub(crate) fn give_answer<S: Shelf, O: Sink, E: Sink>(
             out,
             err,
         ),
-        Question::Search {
-            problem,
-            effort,
-            rle,
-        } => { give_search(alloc, &problem, effort, rle, shelf, out, err) }
+        Question::Search { asked, effort, rle } => {
+            give_search(alloc, &asked, effort, rle, shelf, out, err)
+        }
         Question::Decide { formula, effort } => give(
             decide(alloc, &formula, effort),
             shelf,
             out,
             err,
         ),
-        Question::Encode { problem } => give(print_formula(alloc, &problem), shelf, out, err),
+        Question::Encode { asked } => give(print_formula(alloc, &asked), shelf, out, err),
         Question::Print { rule } => give(print_line(alloc, &rule), shelf, out, err),
         Question::Make {
             seed,
