@@ -26,7 +26,7 @@ use Rattle.lls_cli.specs.declared.status.Status.{Status}
 use Rattle.lls_cli.specs.declared.status.Status.TheVariants as statuses
 use Rattle.lls_cli.specs.Fault.{status_of, words_status, posed_status, demand_status, dimacs_status, rle_status}
 use Rattle.lls_cli.specs.Evidence.{NamedFile}
-use Rattle.lls_cli.specs.Answer.{GivenAnswer, IsAnswer, Holds, YesHolds, NoHolds, IsThere, IsNowhere}
+use Rattle.lls_cli.specs.Answer.{GivenAnswer, IsAnswer, Holds, YesHolds, NoHolds, IsThere, IsNowhere, HasShortBudget}
 use Rattle.lls_cli.specs.Question.{Question, question_of, Asks}
 use Rattle.lls_cli.specs.Moment.{ShelfMoment, SinkMoment, Moment, with_shelf, files_at}
 use Rattle.lls_cli.specs.Ends.{LacksMemory, FileFailed, WroteFile, IsDecided, with_file, End, refused, lacked, input_failed, ahead_failed, answered, file_failed, output_failed, IsEndOf, IsEndBehind, Ends, ahead_of, IsEnd}
@@ -376,6 +376,10 @@ found_means job before after status ended is =
 pub none_means : (job : Result Job WordsError) (before after : Moment) (status : Status) → (end : End) × IsEnd job before after status end → status ≡ statuses.NoPattern → OfQuestion IsNowhere job (files_at before.shelf)
 none_means job before after status ended is =
     status_means IsNowhere job before after status ended (subst IsAnswered (sym is) tt) (λ question holds. subst (Holds question) is holds)
+
+pub short_means : (job : Result Job WordsError) (before after : Moment) (status : Status) → (end : End) × IsEnd job before after status end → status ≡ statuses.Undecided → OfQuestion HasShortBudget job (files_at before.shelf)
+short_means job before after status ended is =
+    status_means HasShortBudget job before after status ended (subst IsAnswered (sym is) tt) (λ question holds. subst (Holds question) is holds)
 
 same-≤ : (m n : ℕ) → n ≡ m → m ≤ n
 same-≤ m n e = omega (arith, e)

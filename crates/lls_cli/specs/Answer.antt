@@ -1,5 +1,5 @@
 -- Which answers to a question are right.
-use Rattle.std.specs.Prelude.{◌≡◌, ℕ, ◌++◌, Bool, List, codes, Option, None, Some, Result, Ok, Err}
+use Rattle.std.specs.Prelude.{◌≡◌, ◌<◌, ◌^◌, ℕ, ◌++◌, Bool, true, List, codes, Option, None, Some, Result, Ok, Err}
 use Rattle.lls_grid.specs.History.{History}
 use Rattle.lls_solver.specs.Searching.{IsModel}
 use Rattle.lls_hensel.specs.Printing.{rule_text}
@@ -127,12 +127,17 @@ IsNowhere (searches asked effort rle) = IsAbsent asked.problem
 IsNowhere (decides formula effort) = IsUnsatisfiable formula
 IsNowhere question = ⊥
 
--- the searches alone may be undecided
-abbrev pub IsSearch : Question → Type 0
-IsSearch (searches asked effort rle) = Unit {0}
-IsSearch (decides formula effort) = Unit {0}
-IsSearch (makes seed size name effort) = Unit {0}
-IsSearch question = ⊥
+-- a budget that needn't decide: it is less than 9 to the number of variables, and where no learnt clause is deleted than 3 to it
+pub record IsShort (formula : Cnf) (effort : Effort) : Type 0 where
+  pub deleting : effort.budget < 9 ^ formula.vars
+  pub keeping : effort.keep_all ≡ true → effort.budget < 3 ^ formula.vars
+
+-- what it says that a search is undecided: its budget was short
+abbrev pub HasShortBudget : Question → Type 0
+HasShortBudget (searches asked effort rle) = IsShort (formula_asked asked) effort
+HasShortBudget (decides formula effort) = IsShort formula effort
+HasShortBudget (makes seed size name effort) = IsShort (formula_of (made_problem seed size) Rows) effort
+HasShortBudget question = ⊥
 
 -- what a status says of a question
 abbrev pub Holds : Question → Status → Type 0
@@ -140,7 +145,7 @@ Holds question statuses.Done = YesHolds question
 Holds question statuses.Refused = NoHolds question
 Holds question statuses.Pattern = IsThere question
 Holds question statuses.NoPattern = IsNowhere question
-Holds question statuses.Undecided = IsSearch question
+Holds question statuses.Undecided = HasShortBudget question
 Holds question status = ⊥
 
 -- the status, the text and the file that answer a question

@@ -2,7 +2,7 @@
 ghost use Rattle.std.specs.Prelude.{◌≡◌, ◌≤◌, ◌⊎◌, map, string_bytes, IfOk, IsErr};
 ghost use Rattle.lls_base.specs.Shelf.{known_files};
 ghost use Rattle.lls_words.specs.Job.{job_of};
-ghost use Rattle.lls_cli.specs.Answer.{IsAnswer, IsNowhere, IsThere, NoHolds, YesHolds};
+ghost use Rattle.lls_cli.specs.Answer.{HasShortBudget, IsAnswer, IsNowhere, IsThere, NoHolds, YesHolds};
 ghost use Rattle.lls_cli.specs.Claims.{ChangesOnly, CountsNeverFall, HasCause, IsAnswered, IsComplete, IsFaultStatus, IsSilent, Leaves, LeavesBegun, NothingFailed, OfQuestion, Publishes, SaysWhy, StandsIn, outputs_of_words};
 ghost use Rattle.lls_cli.specs.Evidence.{HasProof, HasSpentLog};
 ghost use Rattle.lls_cli.specs.Ends.{End, Ends, IsEnd, IsEndOf, ahead_of};
@@ -233,7 +233,12 @@ pub fn run<S: Shelf, O: Sink, E: Sink>(
     ensures made { IsAnswered result → OfQuestion (λ question. StandsIn (known_files (S.told shelf.new)) (ahead_of question)) (job_of (map string_bytes words.now)) (known_files (S.told shelf.old)) }
     ensures published { result ≡ Status.NoPattern → Publishes (job_of (map string_bytes words.now)) (known_files (S.told shelf.old)) (known_files (S.told shelf.new)) }
 
-    // Where the inputs ask a question and nothing fails, it is answered, but for want of memory.
+    // A search is undecided only where its budget is below 9 to the number of the formula's variables, and below 3 to it where
+    // no learnt clause is deleted.
+    ensures undecided { result ≡ Status.Undecided → OfQuestion HasShortBudget (job_of (map string_bytes words.now)) (known_files (S.told shelf.old)) }
+
+    // Where the inputs ask a question and nothing fails, it is answered, but for want of memory; with a budget that isn't below
+    // these powers the answer is that there is something, or nothing.
     ensures complete { IsComplete (job_of (map string_bytes words.now)) (known_files (S.told shelf.old))
         (moment (shelf_moment (S.told shelf.old) (S.has_input shelf.old) (S.has_output shelf.old) (S.faults shelf.old)) (sink_moment (O.written out.old) (O.faults out.old)) (sink_moment (E.written err.old) (E.faults err.old)))
         (moment (shelf_moment (S.told shelf.new) (S.has_input shelf.new) (S.has_output shelf.new) (S.faults shelf.new)) (sink_moment (O.written out.new) (O.faults out.new)) (sink_moment (E.written err.new) (E.faults err.new)))
