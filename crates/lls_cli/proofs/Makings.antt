@@ -9,7 +9,7 @@ use Rattle.lls_gen.specs.Made.{made, made_problem}
 use Rattle.lls_encode.specs.Formula.{formula_of}
 use Rattle.lls_prooflog.specs.declared.step.Step.{Step}
 use Rattle.lls_prooflog.specs.Log.{log_text}
-use Rattle.lls_solver.specs.Searching.{IsExhausted}
+use Rattle.lls_solver.specs.Searching.{IsExhausted, KeepsAll}
 use Rattle.lls_cli.specs.declared.status.Status.TheVariants as statuses
 use Rattle.lls_cli.specs.Question.{Effort, makes}
 use Rattle.lls_cli.specs.Evidence.{NamedFile}
@@ -39,9 +39,9 @@ solved_answer seed size name effort pair formula answer is made_of solution give
 
 pub unsolved_answer : (seed size : ℕ) (name : List ℕ) (effort : Effort) (pair : Made) (formula : Cnf) (steps : List Step) (file : NamedFile) (answer : GivenAnswer) → pair ≡ made seed size
     → formula ≡ formula_of pair.problem → file ≡ record { name = effort.proof; bytes = log_text steps } → IsExhausted formula effort.budget steps
-    → answer ≡ summed_behind file statuses.Undecided (summary_of pair formula (codes "undecided")) → IsAnswer (makes seed size name effort) answer
-unsolved_answer seed size name effort pair formula steps file answer is made_of named exhausted given =
+    → KeepsAll effort.keep_all steps → answer ≡ summed_behind file statuses.Undecided (summary_of pair formula (codes "undecided")) → IsAnswer (makes seed size name effort) answer
+unsolved_answer seed size name effort pair formula steps file answer is made_of named exhausted kept given =
     let its : formula ≡ formula_of (made_problem seed size) = made_of ∙ ap (λ (m : Made). formula_of m.problem) is in
     let spent : IsExhausted (formula_of (made_problem seed size)) effort.budget steps = subst (λ (f : Cnf). IsExhausted f effort.budget steps) its exhausted in
     subst (IsAnswer (makes seed size name effort)) (sym (given ∙ ap (summed_behind file statuses.Undecided) (summary-made seed size pair formula (codes "undecided") is made_of)))
-    (record { answers = unsolved file (log_of (formula_of (made_problem seed size)) effort steps file named spent); holds = tt })
+    (record { answers = unsolved file (log_of (formula_of (made_problem seed size)) effort steps file named spent kept); holds = tt })

@@ -100,7 +100,7 @@ pub fn solve_made(alloc: Global, pair: &Made, effort: Effort) -> Result<Answer, 
 {
     let formula = encode(alloc, &pair.problem)?;
     let mut log = Log::new(alloc);
-    match solve(alloc, &formula, effort.budget, &mut log)? {
+    match solve(alloc, &formula, effort.budget, effort.keep_all, &mut log)? {
         Outcome::Sat(_) => Ok(Answer {
             status: Status::Pattern,
             text: summary(alloc, pair, &formula, "pattern")?,

@@ -48,7 +48,7 @@ pub fn search<'f>(
     let _posed = problem.posed();
     let _demands = problem.demands();
     let mut log = Log::new(alloc);
-    match solve(alloc, formula, effort.budget, &mut log)? {
+    match solve(alloc, formula, effort.budget, effort.keep_all, &mut log)? {
         Outcome::Sat(assignment) => {
             let history = decode(alloc, problem, &assignment)?;
             Ok(Finding::Answered(Answer {

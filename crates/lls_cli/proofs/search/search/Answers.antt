@@ -35,7 +35,7 @@ returns-in-Unsat-clause-right c =
     let accepted : verdict (formula_of problem) file.bytes ≡ Accepted =
     subst (λ (f : Cnf). verdict f file.bytes ≡ Accepted) c.requires.formula (checked.accepted file.bytes made.read_again) in
     let none : IsUnsatisfiable (formula_of problem) = subst IsUnsatisfiable c.requires.formula checked.unsatisfiable in
-    absent_answer problem (seen_effort c.args.effort) c.args.rle c.solve.new.log.steps file (same_file file _ _ made.name made.text) refutation accepted
+    absent_answer problem (seen_effort c.args.effort) c.args.rle c.solve.new.log.steps file (same_file file _ _ made.name made.text) refutation c.in_ok-assignment.ensures.all_kept accepted
     (absent_from problem c.posed-posed.ensures.kept c.demands-demands.ensures.kept none)
 
 pub returns-clause-right : goal.returns-clause-right
@@ -46,4 +46,4 @@ returns-clause-right c =
     let exhausted : IsExhausted (formula_of problem) c.args.effort.budget c.solve.new.log.steps =
     subst (λ (f : Cnf). IsExhausted f c.args.effort.budget c.solve.new.log.steps) c.requires.formula (c.in_ok-assignment.ensures.undecided (ap Ok c.in-Undecided.is)) in
     undecided_answer problem (seen_effort c.args.effort) c.args.rle c.solve.new.log.steps file (seen_answer c.in_ok-answer-in-Undecided.answer)
-    (same_file file _ _ made.name made.text) exhausted c.in_ok-answer-in-Undecided.ensures
+    (same_file file _ _ made.name made.text) exhausted c.in_ok-assignment.ensures.all_kept c.in_ok-answer-in-Undecided.ensures
