@@ -1,4 +1,4 @@
-use Rattle.std.proofs.Common.{◌≡◌, ◌≤◌, ℕ, List, [], false, take, drop, length, ap, refl, sym, subst, ◌∙◌, arith}
+use Rattle.std.proofs.Common.{◌≡◌, ◌≤◌, List, [], false, take, drop, length, ap, sym, subst, ◌∙◌, arith}
 use Rattle.std.specs.Prelude.{ℤ, filter, map}
 use Rattle.std.proofs.lemmas.List.{drop_all, length-drop, length-take, take-take, with_items_is}
 use Rattle.lls_arena.specs.Arena.{ArenaState, HeadState, unlinked}
@@ -36,8 +36,7 @@ invariant_of-self c =
     let counted_lits = ap length new_lits in
     let old_spans : length spans ≤ length a.spans.items = omega (arith, c.slide_live-kept.auto.spans, ap length c.deref_mut-2.ensures.value) in
     let old_edges : length edges ≤ length a.edges.items = omega (arith, c.slide_live-kept.auto.edges, ap length c.deref_mut.ensures.value) in
-    let old_lits : length lits ≤ length a.lits.items = omega (arith, c.slide_live-kept.auto.lits, ap length c.deref_mut-3.ensures.value) in
-    (
+    let old_lits : length lits ≤ length a.lits.items = omega (arith, c.slide_live-kept.auto.lits, ap length c.deref_mut-3.ensures.value) in (
       record {
         few = omega (arith, counted, fewer, old_spans, parts.few);
         in_order = rw new_spans slid.in_order;
