@@ -1,8 +1,8 @@
 -- Every solution has an assignment that satisfies the formula.
-use Rattle.std.proofs.Common.{◌≡◌, ◌<◌, ℕ, suc, ◌+◌, ◌-◌, ℤ, pos, ◌-ℤ◌, Bool, true, false, not, ◌&&◌, ◌||◌, cond, List, [], ◌∷◌, ◌++◌, length, refl, sym, ap, ◌∙◌, subst, arith, Option, None, Some, get_or, ◌==◌, add-one, append_assoc, length-append, take}
+use Rattle.std.proofs.Common.{◌≡◌, ◌<◌, ◌≤◌, ℕ, suc, ◌+◌, ◌-◌, ℤ, pos, ◌-ℤ◌, Bool, true, false, not, ◌&&◌, ◌||◌, cond, List, [], ◌∷◌, ◌++◌, length, refl, sym, ap, ◌∙◌, subst, arith, Option, None, Some, get_or, ◌==◌, add-one, append_assoc, length-append}
 use Rattle.std.specs.Option.{option_map_or}
 use Rattle.std.specs.List.{flat_map, position_from}
-use Rattle.std.proofs.lemmas.Bool.{and_from, eqb-true}
+use Rattle.std.proofs.lemmas.Bool.{and_parts, and_from, eqb-true}
 use Rattle.lls_lit.specs.Formula.{Clause, is_true, satisfies, IsUnsatisfiable}
 use Rattle.lls_grid.specs.History.{History, HasSizes, cells_of}
 use Rattle.lls_search_file.specs.declared.cell.Cell.{Cell}
@@ -17,8 +17,9 @@ use Rattle.lls_cube.specs.declared.cube.Cube.{Cube}
 use Rattle.lls_transition.specs.Transition.{ContainForbidden}
 use Rattle.lls_encode.specs.Place.{inputs_at}
 use Rattle.lls_encode.specs.History.{HasAssignment}
+use Rattle.lls_encode.specs.Parts.{MeetsBefore, MeetsAfter, HasExtension, after_part}
 use Rattle.std.proofs.Math.Seq.{take-append_seam}
-use Rattle.lls_encode.specs.Formula.{fixed_clauses, same, name_literal, has_name, tied_to, name_clauses, first_framed, framed_count, framed, cubes_of, clauses_at, place_clauses, line_clauses, generation_clauses, transitions_by, fixed_part, name_part, symmetry_part, period_part, front_part, transition_part, bounds_part, difference_base, difference_part, formula_of}
+use Rattle.lls_encode.specs.Formula.{fixed_clauses, same, name_literal, has_name, tied_to, name_clauses, first_framed, framed_count, framed, cubes_of, clauses_at, place_clauses, line_clauses, generation_clauses, transitions_by, fixed_part, name_part, symmetry_part, period_part, front_part, transition_part, bounds_part, bounds_vars, difference_base, difference_part, formula_of}
 use Rattle.lls_encode.proofs.Steps.{flat_map-map}
 use Rattle.lls_encode.proofs.Framed.{IsFramedLine, framed_place, framed_both}
 use Rattle.lls_encode.proofs.Parts.{satisfies-append}
@@ -26,7 +27,7 @@ use Rattle.lls_encode.proofs.Values.{HasCells, is_true-cell}
 use Rattle.lls_encode.proofs.Mirrored.{satisfies-symmetry_part}
 use Rattle.lls_encode.proofs.Returned.{satisfies-period_part}
 use Rattle.lls_encode.proofs.Differing.{marks_where, length-marks_where, count_of, HasCells-append, satisfies-difference_part}
-use Rattle.lls_encode.proofs.AllBounds.{AreBounds, AllCount, HasCounters, satisfies-bounds_clauses, AllCount-append, has_counters}
+use Rattle.lls_encode.proofs.AllBounds.{AreBounds, HasCounters, satisfies-bounds_clauses, AllCount-append, has_counters}
 use Rattle.lls_encode.proofs.Satisfied.{satisfies-range, is_true-negation, is_literal, or_left}
 use Rattle.lls_encode.proofs.Obeyed.{cubes_contain, satisfies-by_successor}
 
@@ -145,7 +146,7 @@ satisfies-generation_clauses p form cubes just h values has obeys t next_in =
     (λ x column. satisfies-place_clauses p form cubes just h values has obeys t y x next_in (framed_both p.demands.edge p.posed.height p.posed.width y x line column) (is_marked p.posed (t + 1) y x) refl))
 
 -- what stands before the transitions
-satisfies-front_part : (p : PosedProblem) (h : History) (values : List Bool) → HasCells p values h → AreFitting p.posed p.demands → IsSolution p h → satisfies values (front_part p) ≡ true
+pub satisfies-front_part : (p : PosedProblem) (h : History) (values : List Bool) → HasCells p values h → AreFitting p.posed p.demands → MeetsBefore p h → satisfies values (front_part p) ≡ true
 satisfies-front_part p h values has fitting s =
     let meets = MeetsCells-same p.posed.cells (cells_of h) values (λ k k_in. sym (has.cells k k_in)) s.cells in
     let fixed : satisfies values (fixed_part p) ≡ true =
@@ -166,74 +167,68 @@ satisfies-transitions_by p form cubes just h values has obeys =
 pub AreBounds-fitting : (p : PosedProblem) → AreFitting p.posed p.demands → AreBounds p p.demands.bounds
 AreBounds-fitting p fitting = record { bounded = fitting.bounded; ordered = fitting.ordered }
 
--- The values of a solution's assignment: the cells, those of the counters, and where generations have to differ, the cells
--- in which they do.
-abbrev values_before : (p : PosedProblem) (h : History) → HasCounters p (cells_of h) p.demands.bounds → List Bool
-values_before p h counters = cells_of h ++ counters.more
-
-abbrev values_of : (p : PosedProblem) (h : History) → HasCounters p (cells_of h) p.demands.bounds → List Bool
-values_of p h counters = values_before p h counters ++ marks_where p (values_before p h counters) p.demands.differ
+-- Behind any values whose first are the cells of a history that meets the demands behind the transitions, there are values
+-- of the counters, and where generations have to differ, the cells in which they do.
+pub has_extension : (p : PosedProblem) (h : History) (values : List Bool) → IsPosed p.posed → AreFitting p.posed p.demands → HasCells p values h → length p.posed.cells ≤ length values → MeetsAfter p h
+    → HasExtension p values
+has_extension p h values kept fitting has enough meets =
+    let fit = AreBounds-fitting p fitting in
+    let counters : HasCounters p values p.demands.bounds = has_counters p kept p.demands.bounds fit values enough in
+    let before : List Bool = values ++ counters.more in
+    let marks : List Bool = marks_where p before p.demands.differ in
+    let len : length before ≡ length values + bounds_vars p = omega (arith, length-append values counters.more, counters.count) in
+    let has_before : HasCells p before h = HasCells-append p h values counters.more has enough in
+    let has_all : HasCells p (before ++ marks) h = HasCells-append p h before marks has_before (omega (arith, len, enough)) in
+    let bounds : satisfies (before ++ marks) (bounds_part p (length values)) ≡ true =
+    satisfies-bounds_clauses p h (before ++ marks) has_all (length values) enough p.demands.bounds fit
+    (AllCount-append p kept before marks (omega (arith, len, enough)) (length values) p.demands.bounds fit (omega (arith, len)) counters.counts) meets.populated in
+    let difference : satisfies (before ++ marks) (difference_part p (length values + bounds_vars p)) ≡ true =
+    ap (λ base. satisfies (before ++ marks) (difference_part p base)) (sym len) ∙ satisfies-difference_part p h before has_before (omega (arith, len, enough)) fitting meets.differ in
+    record {
+      more = counters.more ++ marks;
+      count = length-append counters.more marks ∙ ap (λ n. n + length marks) counters.count ∙ ap (λ n. bounds_vars p + n) (length-marks_where p before);
+      satisfied = ap (λ vs. satisfies vs (after_part p (length values))) (sym (append_assoc values counters.more marks))
+          ∙ satisfies-append (before ++ marks) (bounds_part p (length values)) (difference_part p (length values + bounds_vars p)) ∙ and_from _ _ bounds difference;
+    }
 
 HasCells-cells_of : (p : PosedProblem) (h : History) → IsPosed p.posed → HasSizes p.posed.generations p.posed.height p.posed.width h → HasCells p (cells_of h) h
 HasCells-cells_of p h kept sizes = record { kept = kept; sizes = sizes; cells = λ k k_in. refl }
 
-length-values_before : (p : PosedProblem) (h : History) (counters : HasCounters p (cells_of h) p.demands.bounds) → IsPosed p.posed → HasSizes p.posed.generations p.posed.height p.posed.width h
-    → length (values_before p h counters) ≡ difference_base p
-length-values_before p h counters kept sizes = omega (arith, length-append (cells_of h) counters.more, count_of p h kept sizes, counters.count)
-
--- they satisfy the bounds
-satisfies-bounds_part : (p : PosedProblem) (h : History) (counters : HasCounters p (cells_of h) p.demands.bounds) (more : List Bool) → IsPosed p.posed → AreFitting p.posed p.demands → IsSolution p h
-    → HasCells p (values_before p h counters ++ more) h → satisfies (values_before p h counters ++ more) (bounds_part p (length p.posed.cells)) ≡ true
-satisfies-bounds_part p h counters more kept fitting s has =
-    let before : List Bool = values_before p h counters in
-    let fit = AreBounds-fitting p fitting in
-    let count : length (cells_of h) ≡ length p.posed.cells = count_of p h kept s.sizes in
-    let len : length before ≡ difference_base p = length-values_before p h counters kept s.sizes in
-    let counts : AllCount p before (length p.posed.cells) p.demands.bounds = subst (λ base. AllCount p before base p.demands.bounds) count counters.counts in
-    satisfies-bounds_clauses p h (before ++ more) has (length p.posed.cells) (omega arith) p.demands.bounds fit
-    (AllCount-append p kept before more (omega (arith, len)) (length p.posed.cells) p.demands.bounds fit (omega (arith, len)) counts) s.populated
-
 -- the theorem
-satisfies-formula_of : (p : PosedProblem) (form : Form) (h : History) (counters : HasCounters p (cells_of h) p.demands.bounds) → IsPosed p.posed → AreFitting p.posed p.demands → IsSolution p h
-    → satisfies (values_of p h counters) (formula_of p form).clauses ≡ true
+satisfies-formula_of : (p : PosedProblem) (form : Form) (h : History) → IsPosed p.posed → AreFitting p.posed p.demands → IsSolution p h → (after : HasExtension p (cells_of h))
+    → satisfies (cells_of h ++ after.more) (formula_of p form).clauses ≡ true
 unfolding formula_of
-satisfies-formula_of p form h counters kept fitting s =
-    let before : List Bool = values_before p h counters in
-    let values : List Bool = values_of p h counters in
+satisfies-formula_of p form h kept fitting s after =
+    let values : List Bool = cells_of h ++ after.more in
     let count : length (cells_of h) ≡ length p.posed.cells = count_of p h kept s.sizes in
-    let len : length before ≡ difference_base p = length-values_before p h counters kept s.sizes in
-    let has_before : HasCells p before h = HasCells-append p h (cells_of h) counters.more (HasCells-cells_of p h kept s.sizes) (omega (arith, count)) in
-    let has : HasCells p values h = HasCells-append p h before (marks_where p before p.demands.differ) has_before (omega (arith, len)) in
-    let difference : satisfies values (difference_part p (difference_base p)) ≡ true =
-    ap (λ base. satisfies values (difference_part p base)) (sym len) ∙ satisfies-difference_part p h before has_before (omega (arith, len)) fitting s.differ in
+    let has : HasCells p values h = HasCells-append p h (cells_of h) after.more (HasCells-cells_of p h kept s.sizes) (omega (arith, count)) in
+    let satisfied : satisfies values (after_part p (length p.posed.cells)) ≡ true = ap (λ base. satisfies values (after_part p base)) (sym count) ∙ after.satisfied in
+    let parts = and_parts _ _ (sym (satisfies-append values (bounds_part p (length p.posed.cells)) (difference_part p (difference_base p))) ∙ satisfied) in
     satisfies-append values (front_part p ++ transition_part p form ++ bounds_part p (length p.posed.cells)) (difference_part p (difference_base p))
     ∙ and_from _ _ (satisfies-append values (front_part p ++ transition_part p form) (bounds_part p (length p.posed.cells))
     ∙ and_from _ _ (satisfies-append values (front_part p) (transition_part p form)
-    ∙ and_from _ _ (satisfies-front_part p h values has fitting s) (satisfies-transitions_by p form (cubes_of form p.rule) (cubes_contain form p.rule) h values has s.rule))
-    (satisfies-bounds_part p h counters (marks_where p before p.demands.differ) kept fitting s has))
-    difference
+    ∙ and_from _ _ (satisfies-front_part p h values has fitting (record { cells = s.cells; symmetric = s.symmetric; moved = s.moved }))
+    (satisfies-transitions_by p form (cubes_of form p.rule) (cubes_contain form p.rule) h values has s.rule))
+    parts.0)
+    parts.1
 
 -- a value for each variable
-length-values_of : (p : PosedProblem) (form : Form) (h : History) (counters : HasCounters p (cells_of h) p.demands.bounds) → IsPosed p.posed → HasSizes p.posed.generations p.posed.height p.posed.width h
-    → length (values_of p h counters) ≡ (formula_of p form).vars
+length-values : (p : PosedProblem) (form : Form) (h : History) → IsPosed p.posed → HasSizes p.posed.generations p.posed.height p.posed.width h → (after : HasExtension p (cells_of h))
+    → length (cells_of h ++ after.more) ≡ (formula_of p form).vars
 unfolding formula_of
-length-values_of p form h counters kept sizes =
-    let before : List Bool = values_before p h counters in
-    length-append before (marks_where p before p.demands.differ)
-    ∙ ap (λ n. n + length (marks_where p before p.demands.differ)) (length-values_before p h counters kept sizes)
-    ∙ ap (λ n. difference_base p + n) (length-marks_where p before)
+length-values p form h kept sizes after = omega (arith, length-append (cells_of h) after.more, count_of p h kept sizes, after.count)
 
 pub HasAssignment-values_of : (p : PosedProblem) (form : Form) → IsPosed p.posed → AreFitting p.posed p.demands → (history : History) → IsSolution p history → HasAssignment (formula_of p form) history
 HasAssignment-values_of p form kept fitting history solution =
     let cells : List Bool = cells_of history in
     let count : length cells ≡ length p.posed.cells = count_of p history kept solution.sizes in
-    let counters : HasCounters p cells p.demands.bounds = has_counters p kept p.demands.bounds (AreBounds-fitting p fitting) cells (omega (arith, count)) in
-    let marks : List Bool = marks_where p (cells ++ counters.more) p.demands.differ in
+    let after : HasExtension p cells = has_extension p history cells kept fitting (HasCells-cells_of p history kept solution.sizes) (omega (arith, count))
+    (record { populated = solution.populated; differ = solution.differ }) in
     record {
-      values = values_of p history counters;
-      count = length-values_of p form history counters kept solution.sizes;
-      cells = ap (take (length cells)) (append_assoc cells counters.more marks) ∙ take-append_seam cells (counters.more ++ marks);
-      satisfied = satisfies-formula_of p form history counters kept fitting solution;
+      values = cells ++ after.more;
+      count = length-values p form history kept solution.sizes after;
+      cells = take-append_seam cells after.more;
+      satisfied = satisfies-formula_of p form history kept fitting solution after;
     }
 
 -- a formula that nothing satisfies has no solution

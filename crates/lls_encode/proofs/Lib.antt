@@ -21,3 +21,4 @@ pub mod OneBound
 pub mod AllBounds
 pub mod Counters
 pub mod Made
+pub mod Appended

@@ -10,6 +10,7 @@ use Rattle.lls_problem.specs.Problem.{PosedProblem, AreFitting}
 use Rattle.lls_problem.specs.Solution.{cell_number}
 use Rattle.lls_transition.specs.Clause.{with_clauses}
 use Rattle.lls_encode.specs.Formula.{fixed_clauses, name_clauses, cubes_of, generation_clauses, generation_size, period_clauses, difference_variable, cell_difference, differing_clauses, fixed_part, name_part, symmetry_part, period_part, front_part, transition_part, bounds_part, bounds_vars, difference_base, difference_part, difference_vars, formula_of}
+use Rattle.lls_encode.specs.Parts.{after_part, after_vars}
 use Rattle.lls_encode.specs.Room.{HasRoom, with_more}
 use Rattle.lls_encode.proofs.Steps.{length-flat_map_most, HasRoom-behind, with_clauses-append}
 use Rattle.lls_encode.proofs.Bounds.{length-fixed_clauses, length-cubes_of, length-generation_clauses, length-symmetry_part, length-period_clauses}
@@ -32,7 +33,7 @@ length-period p kept fitting (Some period) is = length-period_clauses p kept per
 length-period_part : (p : PosedProblem) → IsPosed p.posed → AreFitting p.posed p.demands → length (period_part p) ≤ 1032255
 length-period_part p kept fitting = length-period p kept fitting p.demands.period refl
 
-length-front_part : (p : PosedProblem) → IsPosed p.posed → AreFitting p.posed p.demands → length (front_part p) ≤ 2105407
+pub length-front_part : (p : PosedProblem) → IsPosed p.posed → AreFitting p.posed p.demands → length (front_part p) ≤ 2105407
 length-front_part p kept fitting =
     omega (
       arith,
@@ -66,6 +67,23 @@ length-difference_part p kept base = length-difference p kept base p.demands.dif
 
 length-bounds_part : (p : PosedProblem) → IsPosed p.posed → AreFitting p.posed p.demands → (base : ℕ) → length (bounds_part p base) ≤ 6000000
 length-bounds_part p kept fitting base = omega (arith, length-bounds_clauses p kept base p.demands.bounds, fitting.counters)
+
+pub length-after_part : (p : PosedProblem) → IsPosed p.posed → AreFitting p.posed p.demands → (base : ℕ) → length (after_part p base) ≤ 6008193
+length-after_part p kept fitting base =
+    omega (
+      arith,
+      length-append (bounds_part p base) (difference_part p (base + bounds_vars p)),
+      length-bounds_part p kept fitting base,
+      length-difference_part p kept (base + bounds_vars p),
+    )
+
+-- and the variables behind those of the cells
+few_where : (p : PosedProblem) → IsPosed p.posed → (asked : Option (ℕ × ℕ)) → option_map_or (λ pair. generation_size p) asked 0 ≤ 4096
+few_where p kept None = omega arith
+few_where p kept (Some pair) = generation_few p kept
+
+pub few_after_vars : (p : PosedProblem) → IsPosed p.posed → AreFitting p.posed p.demands → after_vars p ≤ 1004096
+few_after_vars p kept fitting = omega (arith, fitting.counters, few_where p kept p.demands.differ)
 
 -- all clauses together are few
 pub few_clauses : (p : PosedProblem) (form : Form) → IsPosed p.posed → AreFitting p.posed p.demands → length (formula_of p form).clauses < 200000000

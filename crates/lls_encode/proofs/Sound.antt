@@ -1,7 +1,7 @@
 -- The history of every assignment that satisfies the formula is a solution.
 use Rattle.std.proofs.Common.{◌≡◌, ◌<◌, ◌≤◌, take, ℕ, ◌+◌, ◌-◌, ◌*◌, Bool, true, false, cond, List, [], ◌∷◌, ◌++◌, length, get_or, refl, sym, ap, ◌∙◌, arith}
 use Rattle.std.specs.List.{flat_map}
-use Rattle.std.proofs.lemmas.Bool.{and_parts, false_from_ne_true}
+use Rattle.std.proofs.lemmas.Bool.{and_parts, and_from, false_from_ne_true}
 use Rattle.std.proofs.lemmas.List.{take_all, length-take-le, get_or-take}
 use Rattle.std.proofs.lemmas.Grind.{flat_map-append}
 use Rattle.lls_lit.specs.Formula.{Clause, satisfies, IsUnsatisfiable}
@@ -15,8 +15,9 @@ use Rattle.lls_problem.specs.Problem.{PosedProblem, AreFitting}
 use Rattle.lls_problem.specs.Solution.{is_marked, Obeys, IsSolution, IsAbsent}
 use Rattle.lls_cube.specs.declared.cube.Cube.{Cube}
 use Rattle.lls_transition.specs.Transition.{ContainForbidden}
-use Rattle.lls_encode.specs.Formula.{cubes_of, transitions_by, place_clauses, line_clauses, generation_clauses, fixed_part, name_part, symmetry_part, period_part, front_part, transition_part, bounds_part, difference_base, difference_part, formula_of}
+use Rattle.lls_encode.specs.Formula.{cubes_of, transitions_by, place_clauses, line_clauses, generation_clauses, fixed_part, name_part, symmetry_part, period_part, front_part, transition_part, bounds_part, bounds_vars, difference_base, difference_part, formula_of}
 use Rattle.lls_encode.specs.History.{history_of}
+use Rattle.lls_encode.specs.Parts.{MeetsBefore, MeetsAfter, after_part}
 use Rattle.lls_encode.proofs.Framed.{framed_row, framed_column}
 use Rattle.lls_encode.proofs.Values.{HasCells}
 use Rattle.lls_encode.proofs.Complete.{MeetsCells-same, AreBounds-fitting}
@@ -82,26 +83,48 @@ Obeys-by_clauses p form cubes just h values has satisfied = λ t y x next_in fra
     let place = satisfied_framed values (place_clauses p form cubes t y) edge p.posed.width x line (framed_column edge p.posed.height p.posed.width y x framed) in
     successor-by_clauses p form cubes just h values has t y x next_in (unmarked values (is_marked p.posed (t + 1) y x) _ free place)
 
+-- what the clauses before the transitions say of the history that values write
+pub MeetsBefore-by_clauses : (p : PosedProblem) (values : List Bool) → IsPosed p.posed → AreFitting p.posed p.demands → length p.posed.cells ≤ length values → satisfies values (front_part p) ≡ true
+    → MeetsBefore p (history_of p values)
+MeetsBefore-by_clauses p values kept fitting enough satisfied =
+    let h : History = history_of p values in
+    let has : HasCells p values h = HasCells-history_of p values kept enough in
+    let front = and_parts _ _ (sym (satisfies-append values (fixed_part p ++ name_part p ++ symmetry_part p) (period_part p)) ∙ satisfied) in
+    let still = and_parts _ _ (sym (satisfies-append values (fixed_part p ++ name_part p) (symmetry_part p)) ∙ front.0) in
+    let cells = and_parts _ _ (sym (satisfies-append values (fixed_part p) (name_part p)) ∙ still.0) in
+    record {
+      cells = MeetsCells-same p.posed.cells values (cells_of h) has.cells (MeetsCells-by_clauses values p.posed.cells cells.0 cells.1);
+      symmetric = AreSymmetric-by_clauses p h values has fitting still.1;
+      moved = Returns-by_clauses p h values has front.1;
+    }
+
+-- and those behind them
+pub MeetsAfter-by_clauses : (p : PosedProblem) (values : List Bool) (base : ℕ) → IsPosed p.posed → AreFitting p.posed p.demands → length p.posed.cells ≤ length values → length p.posed.cells ≤ base
+    → satisfies values (after_part p base) ≡ true → MeetsAfter p (history_of p values)
+MeetsAfter-by_clauses p values base kept fitting enough behind satisfied =
+    let h : History = history_of p values in
+    let has : HasCells p values h = HasCells-history_of p values kept enough in
+    let parts = and_parts _ _ (sym (satisfies-append values (bounds_part p base) (difference_part p (base + bounds_vars p))) ∙ satisfied) in
+    record {
+      populated = All-by_clauses p h values has base behind p.demands.bounds (AreBounds-fitting p fitting) parts.0;
+      differ = Differs-by_clauses p h values has fitting (base + bounds_vars p) parts.1;
+    }
+
 -- each part of the formula is satisfied
 record SatisfiesParts (p : PosedProblem) (form : Form) (values : List Bool) : Type 0 where
-  fixed : satisfies values (fixed_part p) ≡ true
-  names : satisfies values (name_part p) ≡ true
-  symmetry : satisfies values (symmetry_part p) ≡ true
-  period : satisfies values (period_part p) ≡ true
+  front : satisfies values (front_part p) ≡ true
   transitions : satisfies values (transition_part p form) ≡ true
-  bounds : satisfies values (bounds_part p (length p.posed.cells)) ≡ true
-  difference : satisfies values (difference_part p (difference_base p)) ≡ true
+  after : satisfies values (after_part p (length p.posed.cells)) ≡ true
 
 parts_of : (p : PosedProblem) (form : Form) (values : List Bool) → satisfies values (formula_of p form).clauses ≡ true → SatisfiesParts p form values
 unfolding formula_of
 parts_of p form values satisfied =
-    let all = and_parts _ _ (sym (satisfies-append values (front_part p ++ transition_part p form ++ bounds_part p (length p.posed.cells)) (difference_part p (difference_base p))) ∙ satisfied) in
-    let most = and_parts _ _ (sym (satisfies-append values (front_part p ++ transition_part p form) (bounds_part p (length p.posed.cells))) ∙ all.0) in
+    let bounds = bounds_part p (length p.posed.cells) in
+    let difference = difference_part p (difference_base p) in
+    let all = and_parts _ _ (sym (satisfies-append values (front_part p ++ transition_part p form ++ bounds) difference) ∙ satisfied) in
+    let most = and_parts _ _ (sym (satisfies-append values (front_part p ++ transition_part p form) bounds) ∙ all.0) in
     let body = and_parts _ _ (sym (satisfies-append values (front_part p) (transition_part p form)) ∙ most.0) in
-    let front = and_parts _ _ (sym (satisfies-append values (fixed_part p ++ name_part p ++ symmetry_part p) (period_part p)) ∙ body.0) in
-    let still = and_parts _ _ (sym (satisfies-append values (fixed_part p ++ name_part p) (symmetry_part p)) ∙ front.0) in
-    let cells = and_parts _ _ (sym (satisfies-append values (fixed_part p) (name_part p)) ∙ still.0) in
-    record { fixed = cells.0; names = cells.1; symmetry = still.1; period = front.1; transitions = body.1; bounds = most.1; difference = all.1 }
+    record { front = body.0; transitions = body.1; after = satisfies-append values bounds difference ∙ and_from _ _ most.1 all.1 }
 
 -- a value for each variable is one for each cell at least
 enough_values : (p : PosedProblem) (form : Form) (values : List Bool) → length values ≡ (formula_of p form).vars → length p.posed.cells ≤ length values
@@ -115,14 +138,16 @@ IsSolution-history_of p form kept fitting values enough satisfied =
     let parts = parts_of p form values satisfied in
     let h : History = history_of p values in
     let has : HasCells p values h = HasCells-history_of p values kept enough in
+    let before = MeetsBefore-by_clauses p values kept fitting enough parts.front in
+    let after = MeetsAfter-by_clauses p values (length p.posed.cells) kept fitting enough (omega arith) parts.after in
     record {
       sizes = has.sizes;
-      cells = MeetsCells-same p.posed.cells values (cells_of h) has.cells (MeetsCells-by_clauses values p.posed.cells parts.fixed parts.names);
-      symmetric = AreSymmetric-by_clauses p h values has fitting parts.symmetry;
-      moved = Returns-by_clauses p h values has parts.period;
+      cells = before.cells;
+      symmetric = before.symmetric;
+      moved = before.moved;
       rule = Obeys-by_clauses p form (cubes_of form p.rule) (cubes_contain form p.rule) h values has parts.transitions;
-      populated = All-by_clauses p h values has (length p.posed.cells) (omega arith) p.demands.bounds (AreBounds-fitting p fitting) parts.bounds;
-      differ = Differs-by_clauses p h values has fitting (difference_base p) parts.difference;
+      populated = after.populated;
+      differ = after.differ;
     }
 
 -- so where there is no solution nothing satisfies the formula

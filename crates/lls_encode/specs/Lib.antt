@@ -3,3 +3,4 @@ pub mod Formula
 pub mod Names
 pub mod Room
 pub mod History
+pub mod Parts

@@ -45,7 +45,7 @@ fn push_differing(
     requires first { first < problem.now.posed.generations }
     requires second { second < problem.now.posed.generations }
     requires vars { length problem.now.posed.cells ≤ formula.old.vars }
-    requires most { formula.old.vars + History.MOST_CELLS ≤ Var.MOST }
+    requires most { formula.old.vars + generation_size problem.now ≤ Var.MOST }
     requires room { HasRoom formula.old MOST_CLAUSES_DIFFERENCE }
     ensures { OnOk result (formula.new ≡ with_more formula.old (generation_size problem.now)
         (differing_clauses problem.now formula.old.vars (first, second))) }
@@ -72,7 +72,7 @@ pub fn push_difference(
     problem: &Problem,
 ) -> Result<(), Memory>
     requires vars { length problem.now.posed.cells ≤ formula.old.vars }
-    requires most { formula.old.vars + History.MOST_CELLS ≤ Var.MOST }
+    requires most { formula.old.vars + difference_vars problem.now ≤ Var.MOST }
     requires room { HasRoom formula.old MOST_CLAUSES_DIFFERENCE }
     ensures { OnOk result (formula.new ≡ with_more formula.old (difference_vars problem.now)
         (difference_part problem.now formula.old.vars)) }

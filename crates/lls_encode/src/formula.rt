@@ -29,7 +29,11 @@ const MOST_CLAUSES_FRONT: usize = 3 * History::MOST_CELLS as usize
     + MOST_CLAUSES_PERIOD;
 
 /// Pushes what stands before the transitions.
-fn push_front(alloc: Global, formula: &mut Formula, problem: &Problem) -> Result<(), Memory>
+pub(crate) fn push_front(
+    alloc: Global,
+    formula: &mut Formula,
+    problem: &Problem,
+) -> Result<(), Memory>
     requires vars { formula.old.vars ≡ length problem.now.posed.cells }
     requires room { HasRoom formula.old MOST_CLAUSES_FRONT }
     ensures { OnOk result (formula.new ≡ with_clauses formula.old (front_part problem.now)) }

@@ -1,12 +1,14 @@
 //! The formula of a problem: an assignment that satisfies it begins with a solution's cells in their order.
 #![tactic(auto)]
 
+mod append;
 mod cells;
 mod decoding;
 mod difference;
 mod equal;
 mod formula;
 mod generation;
+mod outer;
 mod period;
 mod place;
 mod population;
@@ -17,4 +19,5 @@ mod transition;
 
 pub use decoding::decode;
 pub use formula::{CLAUSES_BELOW, encode};
+pub use outer::{push_after, push_before};
 pub use place::inputs;

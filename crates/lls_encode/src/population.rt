@@ -82,7 +82,7 @@ fn push_bound(
 /// Pushes the clauses of all bounds, and their counters' variables.
 pub fn push_bounds(alloc: Global, formula: &mut Formula, problem: &Problem) -> Result<(), Memory>
     requires cells { length problem.now.posed.cells ≤ formula.old.vars }
-    requires vars { formula.old.vars + Bounds.MOST_COUNTERS ≤ Var.MOST }
+    requires vars { formula.old.vars + bounds_vars problem.now ≤ Var.MOST }
     requires room { HasRoom formula.old MOST_CLAUSES_BOUNDS }
     ensures { OnOk result (formula.new ≡ with_more formula.old (bounds_vars problem.now)
         (bounds_part problem.now formula.old.vars)) }
