@@ -6,9 +6,9 @@ _lls_problem='--rule --edge --symmetry --period --live --differ'
 # The options that a command takes.
 _lls_options() {
     case $1 in
-    check | cnf) echo "$_lls_problem" ;;
+    check | cnf) echo "$_lls_problem --formula" ;;
     judge) echo "$_lls_problem --as" ;;
-    search) echo "$_lls_problem --budget --keep --as" ;;
+    search) echo "$_lls_problem --budget --keep --as --formula" ;;
     sat) echo '--budget --keep' ;;
     esac
 }
@@ -20,6 +20,7 @@ _lls_values() {
     --symmetry) echo 'C1 C2 C4 D2- D2| D2\ D2/ D4+ D4x D8' ;;
     --keep) echo 'all half' ;;
     --as) echo 'rows rle' ;;
+    --formula) echo '1 2' ;;
     --rule) echo 'B3/S23 B36/S23 B2/S B368/S245' ;;
     esac
 }

@@ -293,11 +293,14 @@ class Building(unittest.TestCase):
         path = self.write("crates/lls_cli/out/lls_cli", "#!/bin/bash\nprintf '%s\\n' \"$@\"\nexit 3\n")
         os.utime(path, (2**31, 2**31))
         self.write("q.lls", "# a ship\n#! --period 4,1,1 --live=0:1- --rule B2-a/S12\n* *\n")
+        self.write("form.lls", "#! --formula 1 --edge open\n* *\n")
         taken = ["--period", "4,1,1", "--live", "0:1-", "--rule", "B2-a/S12"]
         for words, ran_with in [
             (["search", "q.lls", "p"], ["search", "q.lls", "p", *taken]),
             (["check", "--period", "4,1,1", "q.lls", "p"], ["check", "--period", "4,1,1", "q.lls", "p", *taken[2:]]),
             (["search", "--budget", "9", "q.lls", "p", "--live=0:1-"], ["search", "--budget", "9", "q.lls", "p", "--live=0:1-", *taken[:2], *taken[4:]]),
+            (["check", "form.lls", "p"], ["check", "form.lls", "p", "--formula", "1", "--edge", "open"]),
+            (["judge", "form.lls", "p"], ["judge", "form.lls", "p", "--edge", "open"]),
         ]:
             said = f"lls: {' '.join(ran_with)}\n"
             self.assertEqual(self.lls("exit 9", "--posed", *words), (3, "\n".join(ran_with) + "\n", said), words)
