@@ -503,4 +503,6 @@ class Terminal(Case):
 
 
 if __name__ == "__main__":
+    # A gate that runs in the background has Ctrl-C ignored, and so would all that is started here.
+    signal.signal(signal.SIGINT, signal.default_int_handler)
     sys.exit(not unittest.main(exit=False, verbosity=0).result.wasSuccessful())
