@@ -1,11 +1,12 @@
 -- Lists of entries, grown by one at the end and without their last.
-use Rattle.std.proofs.Common.{◌≡◌, ◌≢◌, ℕ, ◌+◌, ◌<◌, Bool, true, false, cond, eqb, eq-eqb, List, [], ◌∷◌, ◌++◌, length, map, Some, None, refl, sym, ap, ◌∙◌, inl, inr, arith, zero-add}
-use Rattle.std.specs.Prelude.{Option, is_none}
+use Rattle.std.proofs.Common.{◌≡◌, ◌≢◌, ℕ, zero, suc, ◌+◌, ◌<◌, Bool, true, false, cond, eqb, eq-eqb, List, [], ◌∷◌, ◌++◌, length, get_or, map, Some, None, refl, sym, ap, ◌∙◌, inl, inr, arith, zero-add}
+use Rattle.std.specs.Prelude.{ℤ, Option, is_none, option_map, slice_get}
 use Rattle.std.specs.Option.{option_or}
 use Rattle.std.specs.Cmp.Derive.{both_true}
 use Rattle.std.proofs.lemmas.List.{map_push, length_push, same_from_push}
 use Rattle.std.proofs.lemmas.List.Folds.{find-append, list_all-append}
 use Rattle.std.proofs.lemmas.List.Sums.{sum_by_push, sum_by-append}
+use Rattle.std.proofs.lemmas.Option.{same_Some, slice_get-get_or, slice_get-map}
 use Rattle.std.proofs.lemmas.Bool.{and_parts}
 use Rattle.std.proofs.lemmas.Bool.Decides.{eqb_tells}
 use Rattle.lls_lit.specs.Literal.{variable_of}
@@ -139,3 +140,24 @@ level_of_last vars current es e h =
     (same_from_push (map (λ (x : Entry). x.level) es) (levels_after 0 es) e.level (0 + decisions (es ++ e ∷ [])) (sym (map_push (λ (x : Entry). x.level) es e) ∙ h.levels ∙ levels_push 0 es e)).1
     ∙ zero-add (decisions (es ++ e ∷ []))
     ∙ sym h.current
+
+-- an entry is that of its variable
+pub entry_of-at : (es : List Entry) (k : ℕ) (d : Entry) → has_variables_once es ≡ true → k < length es → entry_of es (variable_of (get_or es k d).lit) ≡ Some (get_or es k d)
+entry_of-at [] k d once lt = absurd (omega arith)
+entry_of-at (x ∷ xs) zero d once lt = entry_of-cons_same x xs (variable_of x.lit) refl
+entry_of-at (x ∷ xs) (suc k) d once lt =
+    let parts = and_parts (is_none (entry_of xs (variable_of x.lit))) (has_variables_once xs) once in
+    let e = get_or xs k d in
+    let rest : entry_of xs (variable_of e.lit) ≡ Some e = entry_of-at xs k d parts.1 (omega arith) in
+    let other : variable_of x.lit ≢ variable_of e.lit = λ same. found_none (entry_of xs (variable_of x.lit)) e parts.0 (ap (entry_of xs) same ∙ rest) in
+    entry_of-cons_other x xs (variable_of e.lit) other ∙ rest where
+      found_none : (o : Option Entry) (e : Entry) → is_none o ≡ true → o ≡ Some e → ⊥
+      found_none None e none some = cc
+      found_none (Some y) e none some = absurd cc
+
+-- a literal that was read has its entry there
+pub entry_read : (es : List Entry) (k v : ℕ) (l : ℤ) (d : Entry) → has_variables_once es ≡ true → k < length es → slice_get (literals_of es) k ≡ Some l → v ≡ variable_of l → entry_of es v ≡ Some (get_or es k d)
+entry_read es k v l d once lt read of_lit =
+    let e = get_or es k d in
+    let same : e.lit ≡ l = same_Some e.lit l (ap (option_map (λ (x : Entry). x.lit)) (sym (slice_get-get_or es k d lt)) ∙ sym (slice_get-map (λ (x : Entry). x.lit) es k) ∙ read) in
+    ap (entry_of es) (of_lit ∙ ap variable_of (sym same)) ∙ entry_of-at es k d once lt

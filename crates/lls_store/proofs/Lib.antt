@@ -9,6 +9,9 @@ pub mod Points
 pub mod WorkedTrail
 pub mod Buffer
 pub mod Numbered
+pub mod Removing
+pub mod Compacting
+pub mod Renaming
 pub mod Sets
 pub mod SoundChanges
 pub mod Live

@@ -6,6 +6,7 @@ pub mod Closed
 pub mod Sound
 pub mod Uip
 pub mod Store
+pub mod Removal
 pub mod Standing
 pub mod Flat
 pub mod Scan

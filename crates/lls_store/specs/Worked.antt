@@ -1,5 +1,5 @@
 -- A worked trail over worked clauses, and what tests keep of a store.
-use Rattle.std.specs.Prelude.{◌≡◌, ◌≤◌, ℤ, pos, negsuc, List, [], ◌∷◌, All, Some, None}
+use Rattle.std.specs.Prelude.{◌≡◌, ◌≤◌, ℕ, ℤ, pos, negsuc, List, [], ◌∷◌, All, Some, None}
 use Rattle.std.specs.FinSet as set
 use Rattle.lls_store.specs.Trail.{TrailState}
 use Rattle.lls_store.specs.Clauses.{Literals, LiveClause}
@@ -39,3 +39,8 @@ worked_trail = record {
 pub record IsAtRest (store : StoreState) : Type 0 where
   pub no_tail : store.tail ≡ []
   pub ids : All (λ clause. clause.id ≤ store.count) store.live
+
+-- nothing is being built, and no id is above this one
+pub record IsResting (store : StoreState) (most : ℕ) : Type 0 where
+  pub no_tail : store.tail ≡ []
+  pub ids : All (λ clause. clause.id ≤ most) store.live

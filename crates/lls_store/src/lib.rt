@@ -6,6 +6,8 @@
 #![tactic(auto)]
 
 mod flat;
+#[cfg(test)]
+mod removal_tests;
 mod rows;
 mod scan_store;
 mod standing;

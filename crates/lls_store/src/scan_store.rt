@@ -1,10 +1,12 @@
 // A store that reads all its clauses, again and again, until no literal is forced: the plain body of the trait `Store`.
-ghost use Rattle.std.specs.Prelude.{◌≡◌, false, IfNone, IfSome, length};
+ghost use Rattle.std.specs.Prelude.{◌≡◌, ◌≤◌, false, IfNone, IfSome, length};
+ghost use Rattle.lls_store.specs.declared.store.TheConstants.{MOST_CLAUSES};
 ghost use Rattle.lls_store.specs.Changes.{empty_trail};
 ghost use Rattle.lls_store.specs.Closed.{IsClosed};
 ghost use Rattle.lls_store.specs.Sound.{IsSound};
 ghost use Rattle.lls_store.specs.Store.{GoesOn, IsConflict, empty_store};
-ghost use Rattle.lls_store.specs.Scan.{numbered, AreScannable};
+ghost use Rattle.lls_store.specs.Removal.{renamed};
+ghost use Rattle.lls_store.specs.Scan.{AreRising, AreScannable, live_in};
 
 use crate::flat::FlatClauses;
 use crate::standing::{Standing, standing_under};
@@ -18,6 +20,8 @@ use std::marker::Model;
 #[derive(Debug, Drop)]
 pub struct ScanStore {
     vars: u32,
+    // How many numbers were given.
+    count: u32,
     clauses: FlatClauses,
 }
 
@@ -26,9 +30,9 @@ impl Model for ScanStore {
 
     ghost Value = { ScanState };
 
-    ghost view = { λ s. record { vars = s.vars; flat = s.clauses } };
+    ghost view = { λ s. record { vars = s.vars; count = s.count; flat = s.clauses } };
 
-    ghost invariant = { λ s. IsScan (record { vars = s.vars; flat = s.clauses }) };
+    ghost invariant = { λ s. IsScan (record { vars = s.vars; count = s.count; flat = s.clauses }) };
 }
 
 impl ScanStore {
@@ -40,6 +44,7 @@ impl ScanStore {
     {
         ScanStore {
             vars,
+            count: 0,
             clauses: FlatClauses::new(alloc),
         }
     }
@@ -64,28 +69,35 @@ impl Store for ScanStore {
     ghost decided_tracked = { λ s t l h. h };
 
     fn add(&mut self, trail: &Trail, id: u64, lits: &[Lit]) -> Result<u32, Memory> {
-        let number = self.count();
+        let number = self.count;
         // One is for this clause, the other stays for a learnt one.
         self.clauses.reserve_heads(2)?;
         self.clauses.extend(lits, self.vars as usize)?;
-        self.clauses.seal(id);
+        self.count += 1;
+        self.clauses.seal(number, id);
         Ok(number)
     }
 
     fn count(&self) -> u32 {
-        self.clauses.len() as u32
+        self.count
     }
 
     fn live(&self, c: u32) -> bool {
-        (c as usize) < self.clauses.len()
+        self.clauses.place(c).is_some()
     }
 
     fn id(&self, c: u32) -> u64 {
-        self.clauses.id(c as usize)
+        match self.clauses.place(c) {
+            Some(k) => self.clauses.id(k),
+            None => 0,
+        }
     }
 
     fn lits(&self, c: u32) -> &[Lit] {
-        self.clauses.lits(c as usize)
+        match self.clauses.place(c) {
+            Some(k) => self.clauses.lits(k),
+            None => &[],
+        }
     }
 
     fn reserve_learnt(&mut self) -> Result<(), Memory> {
@@ -114,20 +126,50 @@ impl Store for ScanStore {
     }
 
     fn seal_learnt(&mut self, trail: &Trail, id: u64) -> u32 {
-        let number = self.count();
-        self.clauses.seal(id);
+        let number = self.count;
+        self.count += 1;
+        self.clauses.seal(number, id);
         number
+    }
+
+    fn remove(&mut self, trail: &Trail, c: u32) {
+        if let Some(k) = self.clauses.place(c) {
+            self.clauses.remove(k);
+        }
+    }
+
+    fn compact(&mut self, trail: &mut Trail) {
+        rename_reasons(&self.clauses, trail);
+        self.count = self.clauses.len() as u32;
+        self.clauses.renumber();
+    }
+}
+
+// Changes each reason of the trail to the place where its clause stands.
+fn rename_reasons(clauses: &FlatClauses, trail: &mut Trail)
+    requires rising { AreRising (live_in clauses.now.clauses) }
+    requires few { length clauses.now.clauses ≤ MOST_CLAUSES }
+    requires sound { IsSound (live_in clauses.now.clauses) trail.old }
+    ensures { trail.new ≡ renamed (live_in clauses.now.clauses) trail.old }
+{
+    for k in 0..trail.len() {
+        let var = trail.lit(k).var();
+        if let Some(reason) = trail.known_reason(var) {
+            if let Some(place) = clauses.place(reason) {
+                trail.set_reason(var, place as u32);
+            }
+        }
     }
 }
 
 // Reads the clauses until none is false and none forces a literal.
 fn propagate(clauses: &FlatClauses, trail: &mut Trail) -> Option<u32>
     requires scannable { AreScannable trail.old.vars clauses.now.clauses }
-    requires sound { IsSound (numbered 0 clauses.now.clauses) trail.old }
-    ensures conflict { IfSome result (IsConflict (numbered 0 clauses.now.clauses) trail.new) }
-    ensures closed { IfNone result (IsClosed (numbered 0 clauses.now.clauses) trail.new) }
+    requires sound { IsSound (live_in clauses.now.clauses) trail.old }
+    ensures conflict { IfSome result (IsConflict (live_in clauses.now.clauses) trail.new) }
+    ensures closed { IfNone result (IsClosed (live_in clauses.now.clauses) trail.new) }
     ensures grown { GoesOn trail.old trail.new }
-    ensures sound { IsSound (numbered 0 clauses.now.clauses) trail.new }
+    ensures sound { IsSound (live_in clauses.now.clauses) trail.new }
 {
     loop {
         let before = trail.len();
@@ -141,17 +183,18 @@ fn propagate(clauses: &FlatClauses, trail: &mut Trail) -> Option<u32>
 // Reads each clause once, and forces the literals that are left in some, up to a clause that is false.
 fn pass(clauses: &FlatClauses, trail: &mut Trail) -> Option<u32>
     requires scannable { AreScannable trail.old.vars clauses.now.clauses }
-    requires sound { IsSound (numbered 0 clauses.now.clauses) trail.old }
-    ensures conflict { IfSome result (IsConflict (numbered 0 clauses.now.clauses) trail.new) }
-    ensures closed { IfNone result (length trail.new.entries ≡ length trail.old.entries → IsClosed (numbered 0 clauses.now.clauses) trail.new) }
+    requires sound { IsSound (live_in clauses.now.clauses) trail.old }
+    ensures conflict { IfSome result (IsConflict (live_in clauses.now.clauses) trail.new) }
+    ensures closed { IfNone result (length trail.new.entries ≡ length trail.old.entries → IsClosed (live_in clauses.now.clauses) trail.new) }
     ensures grown { GoesOn trail.old trail.new }
-    ensures sound { IsSound (numbered 0 clauses.now.clauses) trail.new }
+    ensures sound { IsSound (live_in clauses.now.clauses) trail.new }
 {
-    for c in 0..clauses.len() {
-        match standing_under(trail, clauses.lits(c)) {
+    for k in 0..clauses.len() {
+        let number = clauses.number(k);
+        match standing_under(trail, clauses.lits(k)) {
             Standing::Settled => {}
-            Standing::Forces(lit) => trail.force(lit, c as u32),
-            Standing::Falsified => return Some(c as u32),
+            Standing::Forces(lit) => trail.force(lit, number),
+            Standing::Falsified => return Some(number),
         }
     }
     None

@@ -1,5 +1,5 @@
 // A store of clauses, which keeps a trail closed under unit propagation.
-ghost use Rattle.std.specs.Prelude.{◌≡◌, ◌<◌, ◌≤◌, ℤ, [], ◌∷◌, ◌++◌, Bool, true, take, is_some, IfOk, IfSome, IfNone, IsTrue, OnErr, OnOk};
+ghost use Rattle.std.specs.Prelude.{◌≡◌, ◌<◌, ◌≤◌, ℤ, [], ◌∷◌, ◌++◌, Bool, true, take, is_some, IfOk, IfSome, IfNone, IsSome, IsTrue, OnErr, OnOk};
 ghost use Rattle.std.specs.FinSet as set;
 ghost use Rattle.lls_lit.specs.Formula.{is_literal_of, is_within};
 ghost use Rattle.lls_store.specs.Trail.{TrailState};
@@ -7,6 +7,7 @@ ghost use Rattle.lls_store.specs.Changes.{cut_to, decided};
 ghost use Rattle.lls_store.specs.Clauses.{clause_numbered};
 ghost use Rattle.lls_store.specs.Closed.{IsClosed};
 ghost use Rattle.lls_store.specs.Sound.{IsSound};
+ghost use Rattle.lls_store.specs.Removal.{IsNoReason, compacted, renamed, without_clause};
 ghost use Rattle.lls_store.specs.Store.{StoreState, AreLive, GoesOn, IsConflict, IsLearnt, IsNewId, IsNewVariable, sealed, with_clause};
 
 use crate::Trail;
@@ -142,15 +143,27 @@ pub trait Store {
         ensures tracked { tracks self.new trail.now }
         ensures sound { IsSound (state self.new).live trail.now };
 
-    // Two calls come later, with these clauses, and change nothing of the others.
-    //
-    // fn remove(&mut self, trail: &Trail, c: u32): takes a live clause out. Conditions: c is live, no entry of the trail has it as
-    // its reason, the trail is tracked and sound. The live clauses are the others, in their order; count, tail and room stay; at
-    // exit the trail is tracked and sound.
-    //
-    // fn compact(&mut self, trail: &mut Trail): numbers the live clauses from 0 in their order. Conditions: the tail is empty, the
-    // trail is tracked and sound. Each clause keeps its id and its literals; count is the number of live clauses; each reason of
-    // the trail is its clause's new number; at exit the trail is tracked and sound.
+    /// Takes a live clause out, which is no literal's reason.
+    fn remove(&mut self, trail: &Trail, c: u32)
+        requires live { IsSome (clause_numbered (state self.old).live c) }
+        requires no_reason { IsNoReason trail.now.entries c }
+        requires tracked { tracks self.old trail.now }
+        requires sound { IsSound (state self.old).live trail.now }
+        ensures state { state self.new ≡ without_clause (state self.old) c }
+        ensures room { IsTrue (room self.old) → IsTrue (room self.new) }
+        ensures tracked { tracks self.new trail.now }
+        ensures sound { IsSound (state self.new).live trail.now };
+
+    /// Numbers the live clauses from 0 in their order, and changes each reason of the trail to its clause's new number.
+    fn compact(&mut self, trail: &mut Trail)
+        requires tail { (state self.old).tail ≡ [] }
+        requires tracked { tracks self.old trail.old }
+        requires sound { IsSound (state self.old).live trail.old }
+        ensures state { state self.new ≡ compacted (state self.old) }
+        ensures renamed { trail.new ≡ renamed (state self.old).live trail.old }
+        ensures room { IsTrue (room self.old) → IsTrue (room self.new) }
+        ensures tracked { tracks self.new trail.new }
+        ensures sound { IsSound (state self.new).live trail.new };
 
     ghost settled_tracks: { (s : Self) (t : TrailState) → settled s t → tracks s t };
 

@@ -168,7 +168,7 @@ fn literal(number: i32) -> Result<Lit, Fail>
     Ok(lit)
 }
 
-fn literals(alloc: Global, numbers: &[i32]) -> Result<Vec<Lit>, Fail>
+pub(crate) fn literals(alloc: Global, numbers: &[i32]) -> Result<Vec<Lit>, Fail>
     ensures { IfOk result (λ lits. is_within VARS lits.items ≡ true) }
 {
     let mut lits = Vec::new(alloc);

@@ -1,6 +1,6 @@
 use Rattle.std.proofs.Common.{◌≡◌, ℕ, true, Option, Some, None, is_some, IfNone, length, sym, ◌∙◌, arith}
 use Rattle.lls_store.specs.Closed.{IsClosed}
-use Rattle.lls_store.specs.Scan.{numbered}
+use Rattle.lls_store.specs.Scan.{live_in}
 use Rattle.lls_store.proofs.Passes.{GoesOn-further, IsPassed-start}
 use Rattle.lls_store.proofs.scan_store.propagate.Goals as goal
 use Rattle.lls_store.proofs.scan_store.propagate.Goals.{then-is_some-via-then-is_some, then-is_some-via-else-is_some+then-len-before}
@@ -15,7 +15,7 @@ where_none (Some n) P Q weaker h = tt
 
 pub returns-then-is_some-clause-closed : goal.returns-then-is_some-clause-closed
 returns-then-is_some-clause-closed c =
-    let live = numbered 0 c.args.clauses.now.clauses in
+    let live = live_in c.args.clauses.now.clauses in
     let new = c.pass-conflict.new.trail in
     elim c.then-is_some.branch [
       | then-is_some-via-then-is_some w ↦ where_some c.pass-conflict.result (IsClosed live new) (sym c.is_some.ensures ∙ w.if-is_some.true)

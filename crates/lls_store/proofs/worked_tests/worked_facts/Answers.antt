@@ -1,3 +1,4 @@
+use Rattle.lls_store.proofs.Compacting.{compacting_says_the_same}
 use Rattle.lls_store.proofs.Points.{has_one_point}
 use Rattle.lls_store.proofs.WorkedTrail as worked
 use Rattle.lls_store.proofs.worked_tests.worked_facts.Goals as goal
@@ -25,3 +26,6 @@ returns-clause-not_decisions c = worked.not_decisions
 
 pub returns-clause-one_point : goal.returns-clause-one_point
 returns-clause-one_point c = has_one_point
+
+pub returns-clause-compacting : goal.returns-clause-compacting
+returns-clause-compacting c = compacting_says_the_same

@@ -1,4 +1,4 @@
-use Rattle.std.proofs.Common.{List, ◌++◌, sym, ap, subst, ◌∙◌}
+use Rattle.std.proofs.Common.{◌+◌, ◌-◌, [], ◌∷◌, length, List, ◌++◌, sym, ap, subst, ◌∙◌}
 use Rattle.std.specs.Prelude.{ℤ}
 use Rattle.lls_store.specs.Flat.{FlatState}
 use Rattle.lls_store.specs.Store.{with_clause}
@@ -19,13 +19,14 @@ returns-in_err-extend-clause-sound c =
     (ap (λ (f : FlatState). f.clauses) c.in_err-extend.ensures.err ∙ ap (λ (f : FlatState). f.clauses) c.in_ok-reserve_heads.ensures.same ∙ ap (λ (s : ScanState). s.flat.clauses) c.self.view_is)
     c.requires.sound
 
-has_more : (c : goal.After-seal) → HasMore c.args.self.now (record { vars = c.self.inside.vars; flat = c.seal.new.self }) c.args.id c.args.lits.now
+has_more : (c : goal.After-seal) → HasMore c.args.self.now (record { vars = c.self.inside.vars; count = c.self.inside.count + 1; flat = c.seal.new.self }) c.args.id c.args.lits.now
 has_more c =
-    HasMore-sealed c.args.self.now c.self.inside.vars c.extend.new.self c.seal.new.self c.args.id c.args.lits.now
+    HasMore-sealed c.args.self.now c.self.inside.vars (c.self.inside.count + 1) c.extend.new.self c.seal.new.self c.args.id c.args.lits.now
     (ap (λ (s : ScanState). s.vars) c.self.view_is)
+    (ap (λ (s : ScanState). s.count + 1) c.self.view_is)
     (ap (λ (f : FlatState). f.clauses) c.in_ok-extend.ensures.ok ∙ ap (λ (f : FlatState). f.clauses) c.in_ok-reserve_heads.ensures.same ∙ ap (λ (s : ScanState). s.flat.clauses) c.self.view_is)
     (ap (λ (f : FlatState). f.tail) c.in_ok-extend.ensures.ok ∙ ap (λ (tail : List ℤ). tail ++ c.args.lits.now) (ap (λ (f : FlatState). f.tail) c.in_ok-reserve_heads.ensures.same ∙ ap (λ (s : ScanState). s.flat.tail) c.self.view_is ∙ c.requires.tail))
-    c.seal.ensures
+    (c.seal.ensures ∙ ap (λ n. record c.extend.new.self { clauses = c.extend.new.self.clauses ++ record { number = n; id = c.args.id; lits = c.extend.new.self.tail } ∷ []; tail = []; spare_heads = c.extend.new.self.spare_heads - 1; tail_room = c.extend.new.self.tail_room - length c.extend.new.self.tail }) (ap (λ (s : ScanState). s.count) c.self.view_is))
 
 pub invariant_of-self-2 : goal.invariant_of-self-2
 invariant_of-self-2 c =

@@ -1,5 +1,8 @@
-use Rattle.lls_store.proofs.Numbered.{id-numbered}
+use Rattle.lls_store.proofs.Numbered.{id-numbered, unless_numbered}
 use Rattle.lls_store.proofs.scan_store.ScanStoreStore.id.Goals as goal
 
-pub returns : goal.returns
-returns c = rw (← c.self.view_is) (id-numbered c.self.inside.clauses.clauses c.args.c c.id.result c.id.ensures)
+pub returns-in-Some : goal.returns-in-Some
+returns-in-Some c = rw (← c.self.view_is) (id-numbered c.self.inside.clauses.clauses c.in-Some.k c.args.c c.self.invariant.are_live.numbers c.in-Some.ensures.found c.id.result c.id.ensures)
+
+pub returns-in-None : goal.returns-in-None
+returns-in-None c = rw (← c.self.view_is) (unless_numbered c.self.inside.clauses.clauses c.args.c _ c.in-None.ensures.none)

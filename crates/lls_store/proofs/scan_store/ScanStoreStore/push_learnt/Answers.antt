@@ -20,6 +20,6 @@ pub invariant_of-self : goal.invariant_of-self
 invariant_of-self c =
     let s = c.args.self.now in
     let scan : IsScan s = subst IsScan c.self.view_is c.self.invariant in
-    IsScan-tail s _ (ap (λ (x : ScanState). x.vars) c.self.view_is) (ap (λ (f : FlatState). f.clauses) c.push.ensures ∙ ap (λ (x : ScanState). x.flat.clauses) c.self.view_is)
+    IsScan-tail s _ (ap (λ (x : ScanState). x.vars) c.self.view_is) (ap (λ (x : ScanState). x.count) c.self.view_is) (ap (λ (f : FlatState). f.clauses) c.push.ensures ∙ ap (λ (x : ScanState). x.flat.clauses) c.self.view_is)
     (subst (IsTail s.vars) (sym (ap (λ (f : FlatState). f.tail) c.push.ensures ∙ ap (λ (x : ScanState). x.flat.tail ++ c.args.lit ∷ []) c.self.view_is)) (IsTail-push s.vars s.flat.tail c.args.lit scan.is_tail c.requires.within c.requires.new))
     scan

@@ -1,16 +1,17 @@
-use Rattle.std.proofs.Common.{ap, subst}
+use Rattle.std.proofs.Common.{◌∙◌, ◌+◌, ◌-◌, [], ◌∷◌, length, ◌++◌, ap, subst}
 use Rattle.lls_store.specs.Scan.{ScanState, IsScan}
 use Rattle.lls_store.proofs.Sets.{AreWithin-from_list}
 use Rattle.lls_store.proofs.Scanned.{HasMore, HasMore-sealed, IsScan-more, IsSound-more, store_of-more}
 use Rattle.lls_store.proofs.scan_store.ScanStoreStore.seal_learnt.Goals as goal
 
-has_more : (c : goal.After-seal) → HasMore c.args.self.now (record { vars = c.self.inside.vars; flat = c.seal.new.self }) c.args.id c.args.self.now.flat.tail
+has_more : (c : goal.After-seal) → HasMore c.args.self.now (record { vars = c.self.inside.vars; count = c.self.inside.count + 1; flat = c.seal.new.self }) c.args.id c.args.self.now.flat.tail
 has_more c =
-    HasMore-sealed c.args.self.now c.self.inside.vars c.self.inside.clauses c.seal.new.self c.args.id c.args.self.now.flat.tail
+    HasMore-sealed c.args.self.now c.self.inside.vars (c.self.inside.count + 1) c.self.inside.clauses c.seal.new.self c.args.id c.args.self.now.flat.tail
     (ap (λ (s : ScanState). s.vars) c.self.view_is)
+    (ap (λ (s : ScanState). s.count + 1) c.self.view_is)
     (ap (λ (s : ScanState). s.flat.clauses) c.self.view_is)
     (ap (λ (s : ScanState). s.flat.tail) c.self.view_is)
-    c.seal.ensures
+    (c.seal.ensures ∙ ap (λ n. record c.self.inside.clauses { clauses = c.self.inside.clauses.clauses ++ record { number = n; id = c.args.id; lits = c.self.inside.clauses.tail } ∷ []; tail = []; spare_heads = c.self.inside.clauses.spare_heads - 1; tail_room = c.self.inside.clauses.tail_room - length c.self.inside.clauses.tail }) (ap (λ (s : ScanState). s.count) c.self.view_is))
 
 pub invariant_of-self : goal.invariant_of-self
 invariant_of-self c =

@@ -1,0 +1,4 @@
+pub mod Buffer
+pub mod Heads
+pub mod Changed
+pub mod Pieces

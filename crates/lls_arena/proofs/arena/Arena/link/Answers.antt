@@ -1,0 +1,17 @@
+use Rattle.std.proofs.Common.{◌<◌, length, ap, ◌∙◌, sym, arith}
+use Rattle.std.proofs.Common.{Some}
+use Rattle.lls_arena.specs.Arena.{ArenaState}
+use Rattle.lls_arena.proofs.Heads.{inside, link_at, same_length}
+use Rattle.lls_arena.proofs.arena.Arena.link.Goals as goal
+
+pub index-requires : goal.index-requires
+index-requires c =
+    let a = c.self.inside in
+    let lt : c.args.c < length a.spans.items = inside c.args.self.now a.lits.items a.edges.items a.spans.items c.args.c (ap (λ (x : ArenaState). x.heads) c.self.view_is) c.self.invariant.0.watched c.requires in
+    omega (arith, lt, same_length a.lits.items a.edges.items a.spans.items c.self.invariant.0.watched)
+
+pub returns : goal.returns
+returns c =
+    let a = c.self.inside in
+    rw (← c.self.view_is, c.next.ensures)
+    (link_at a.lits.items a.edges.items a.spans.items c.args.c c.args.w c.index.result.now c.edge.result c.self.invariant.0.watched (inside c.args.self.now a.lits.items a.edges.items a.spans.items c.args.c (ap (λ (x : ArenaState). x.heads) c.self.view_is) c.self.invariant.0.watched c.requires) c.index.ensures c.edge.ensures)

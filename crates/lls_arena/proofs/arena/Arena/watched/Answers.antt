@@ -1,0 +1,16 @@
+use Rattle.std.proofs.Common.{◌<◌, length, ap, arith}
+use Rattle.lls_arena.specs.Arena.{ArenaState}
+use Rattle.lls_arena.proofs.Heads.{inside, same_length, watched_literal}
+use Rattle.lls_arena.proofs.arena.Arena.watched.Goals as goal
+
+pub index-requires : goal.index-requires
+index-requires c =
+    let a = c.self.inside in
+    let lt : c.args.c < length a.spans.items = inside c.args.self.now a.lits.items a.edges.items a.spans.items c.args.c (ap (λ (x : ArenaState). x.heads) c.self.view_is) c.self.invariant.0.watched c.requires.count in
+    omega (arith, lt, same_length a.lits.items a.edges.items a.spans.items c.self.invariant.0.watched)
+
+pub returns : goal.returns
+returns c =
+    let a = c.self.inside in
+    rw (← c.self.view_is)
+    (watched_literal a.lits.items a.edges.items a.spans.items c.args.c c.args.w c.index.result.now c.edge.result c.self.invariant.0.watched (inside c.args.self.now a.lits.items a.edges.items a.spans.items c.args.c (ap (λ (x : ArenaState). x.heads) c.self.view_is) c.self.invariant.0.watched c.requires.count) c.index.ensures c.edge.ensures (rw (← c.self.view_is) at c.requires.long))

@@ -1,0 +1,17 @@
+-- For private contracts alone: a link is kept as one more than the number that it leads to, and no link as 0.
+use Rattle.std.specs.Prelude.{ℕ, zero, suc, Bool, true, false, Option, Some, None}
+use Rattle.lls_arena.specs.declared.edges.Link.{Link}
+use Rattle.lls_arena.specs.declared.edges.Edge.{Edge}
+use Rattle.lls_arena.specs.declared.edges.Edges.{Edges}
+
+abbrev pub linked : ℕ → Option ℕ
+linked zero = None
+linked (suc n) = Some n
+
+abbrev pub link_in : Link → Option ℕ
+link_in link = linked link.after
+
+-- one of two edges has another link
+abbrev pub with_next : Bool → Link → Edges → Edges
+with_next false next edges = record edges { first = record edges.first { next = next } }
+with_next true next edges = record edges { second = record edges.second { next = next } }

@@ -1,0 +1,61 @@
+-- For private contracts alone: an arena is kept as a table of edges, a table of spans, and one buffer of literals.
+use Rattle.std.specs.Prelude.{◌≡◌, ◌≤◌, ◌<◌, ℕ, ◌+◌, ◌*◌, ◌-◌, ℤ, pos, Bool, true, List, [], ◌∷◌, All, drop, length, map, slice_get, slice_index_or, Some}
+use Rattle.std.specs.List.{slice_range}
+use Rattle.lls_arena.specs.declared.TheConstants.{MOST_HEADS}
+use Rattle.lls_arena.specs.declared.edges.Edges.{Edges}
+use Rattle.lls_arena.specs.declared.arena.Span.{Span}
+use Rattle.lls_arena.specs.Arena.{ArenaState, HeadState, live_before}
+use Rattle.lls_arena.specs.Links.{link_in}
+
+-- the clause of a span, with its edges
+abbrev pub head_at : List ℤ → Edges → Span → HeadState
+head_at lits edges span = record {
+  id = span.id;
+  live = span.live;
+  lits = slice_range lits span.start span.end;
+  first = link_in edges.first.next;
+  second = link_in edges.second.next;
+}
+
+abbrev pub heads_in : List ℤ → List Edges → List Span → List HeadState
+heads_in lits [] spans = []
+heads_in lits edges [] = []
+heads_in lits (e ∷ es) (s ∷ spans) = head_at lits e s ∷ heads_in lits es spans
+
+abbrev pub arena_in : List Edges → List Span → List ℤ → ℕ → ℕ → ℕ → Bool → ArenaState
+arena_in edges spans lits tail spare_heads spare_lits planned = record {
+  heads = heads_in lits edges spans;
+  tail = drop tail lits;
+  spare_heads = spare_heads;
+  spare_lits = spare_lits;
+  planned = planned;
+}
+
+-- the spans follow one another from a place on, and end by the tail
+abbrev pub AreInOrder : ℕ → List Span → ℕ → Type 0
+AreInOrder from [] tail = from ≤ tail
+AreInOrder from (s ∷ spans) tail = (from ≤ s.start) × (s.start ≤ s.end) × AreInOrder s.end spans tail
+
+-- the edges have the first two literals of the clause
+pub record AreWatched (lits : List ℤ) (edges : Edges) (span : Span) : Type 0 where
+  pub first : span.start < span.end → edges.first.lit ≡ slice_index_or lits span.start (pos 0)
+  pub second : span.start + 1 < span.end → edges.second.lit ≡ slice_index_or lits (span.start + 1) (pos 0)
+
+abbrev pub AreAllWatched : List ℤ → List Edges → List Span → Type 0
+AreAllWatched lits [] [] = Unit {0}
+AreAllWatched lits [] (s ∷ spans) = ⊥
+AreAllWatched lits (e ∷ es) [] = ⊥
+AreAllWatched lits (e ∷ es) (s ∷ spans) = AreWatched lits e s × AreAllWatched lits es spans
+
+-- the tables have room for so many more
+pub record HaveRoom (edges spans lits spare_heads spare_lits edges_room spans_room lits_room : ℕ) : Type 0 where
+  pub for_edges : edges + spare_heads ≤ edges_room
+  pub for_spans : spans + spare_heads ≤ spans_room
+  pub for_lits : lits + spare_lits ≤ lits_room
+
+-- what holds of the parts of an arena
+pub record AreParts (edges : List Edges) (spans : List Span) (lits : List ℤ) (tail : ℕ) : Type 0 where
+  pub few : length spans ≤ MOST_HEADS
+  pub in_order : AreInOrder 0 spans tail
+  pub tail_begins : tail ≤ length lits
+  pub watched : AreAllWatched lits edges spans

@@ -1,0 +1,228 @@
+// An arena of clauses.
+ghost use Rattle.std.specs.Prelude.{◌≡◌, ◌<◌, ◌≤◌, ◌+◌, ◌-◌, [], ◌∷◌, ◌++◌, false, length, map, slice_get, take, Some, IfSome, OnOk};
+ghost use Rattle.std.specs.List.{slice_range};
+ghost use Rattle.std.specs.Option.{ForSome};
+ghost use Rattle.lls_arena.specs.declared.TheConstants.{MOST_HEADS};
+ghost use Rattle.lls_arena.specs.Arena.{IsLive, changed_at, empty_arena, killed, link_of, place_of, sealed, swapped, with_link};
+
+use crate::edges::{Edges, Link};
+use lls_base::Memory;
+use lls_lit::Lit;
+use std::alloc::Global;
+use std::marker::Model;
+
+// Where a clause's literals stand in the buffer, its id, and whether it is live.
+#[derive(Clone, Copy, Debug)]
+struct Span {
+    start: usize,
+    end: usize,
+    id: u64,
+    live: bool,
+}
+
+/// Clauses in place, by number from 0, and one more that is being built at the tail.
+///
+/// A clause has two edges, for two lists of watches: each has the first or the second literal, and a link, which is whatever
+/// number was put there. A clause that is dead keeps its number until the arena is compacted.
+#[derive(Debug, Drop)]
+pub struct Arena {
+    edges: Vec<Edges>,
+    spans: Vec<Span>,
+    // The literals of the clauses, one clause after another, and behind them the tail.
+    lits: Vec<Lit>,
+    tail: usize,
+    // How many more clauses and literals fit without memory being taken.
+    spare_heads: usize,
+    spare_lits: usize,
+    planned: bool,
+}
+
+impl Model for Arena {
+    ghost use Rattle.std.specs.Prelude.{length, vec_capacity};
+    ghost use Rattle.lls_arena.specs.Arena.{ArenaState};
+    ghost use Rattle.lls_arena.specs.Parts.{arena_in, AreParts, HaveRoom};
+
+    ghost Value = { ArenaState };
+
+    ghost view = { λ a. arena_in a.edges.items a.spans.items a.lits.items a.tail a.spare_heads a.spare_lits a.planned };
+
+    ghost invariant = { λ a. AreParts a.edges.items a.spans.items a.lits.items a.tail
+        × HaveRoom (length a.edges.items) (length a.spans.items) (length a.lits.items) a.spare_heads a.spare_lits (vec_capacity a.edges) (vec_capacity a.spans) (vec_capacity a.lits) };
+}
+
+impl Arena {
+    /// No clause. Takes no memory.
+    pub fn new(alloc: Global) -> Arena
+        ensures { result ≡ empty_arena }
+    {
+        Arena {
+            edges: Vec::new(alloc),
+            spans: Vec::new(alloc),
+            lits: Vec::new(alloc),
+            tail: 0,
+            spare_heads: 0,
+            spare_lits: 0,
+            planned: false,
+        }
+    }
+
+    /// Makes room for at least so many more clauses and literals. No other call takes memory. After `Memory` there may be
+    /// room for more than before.
+    pub fn reserve(&mut self, heads: u32, lits: usize) -> Result<(), Memory>
+        ensures ok_heads { OnOk result (heads ≤ self.new.spare_heads) }
+        ensures ok_lits { OnOk result (lits ≤ self.new.spare_lits) }
+        ensures same { self.new ≡ record self.old { spare_heads = self.new.spare_heads; spare_lits = self.new.spare_lits } }
+        ensures heads { self.old.spare_heads ≤ self.new.spare_heads }
+        ensures lits { self.old.spare_lits ≤ self.new.spare_lits }
+    {
+        let heads = self.spare_heads.max(heads as usize);
+        let lits = self.spare_lits.max(lits);
+        self.edges.reserve(heads)?;
+        self.spans.reserve(heads)?;
+        self.spare_heads = heads;
+        self.lits.reserve(lits)?;
+        self.spare_lits = lits;
+        Ok(())
+    }
+
+    /// How many clauses there are, dead ones too.
+    pub fn count(&self) -> u32
+        ensures { result ≡ length self.now.heads }
+    {
+        self.spans.len() as u32
+    }
+
+    /// Whether a clause is live.
+    #[inline]
+    pub fn live(&self, c: u32) -> bool
+        requires { c < length self.now.heads }
+        ensures { slice_get (map (λ head. head.live) self.now.heads) c ≡ Some result }
+    {
+        self.spans[c as usize].live
+    }
+
+    /// The id of a clause.
+    pub fn id(&self, c: u32) -> u64
+        requires { c < length self.now.heads }
+        ensures { slice_get (map (λ head. head.id) self.now.heads) c ≡ Some result }
+    {
+        self.spans[c as usize].id
+    }
+
+    /// The literals of a clause.
+    #[inline]
+    pub fn lits(&self, c: u32) -> &[Lit]
+        requires { c < length self.now.heads }
+        ensures { slice_get (map (λ head. head.lits) self.now.heads) c ≡ Some result.now }
+    {
+        let span = self.spans[c as usize];
+        piece(&self.lits, span.start, span.end)
+    }
+
+    /// The link of a clause's first edge, or of its second where `w`.
+    #[inline]
+    pub fn link(&self, c: u32, w: bool) -> Option<u32>
+        requires { c < length self.now.heads }
+        ensures { slice_get (map (link_of w) self.now.heads) c ≡ Some result }
+    {
+        self.edges[c as usize].edge(w).next.next()
+    }
+
+    /// The literal of a clause's first edge, or of its second where `w`: the first or second of its literals, read without
+    /// going to the buffer.
+    #[inline]
+    pub fn watched(&self, c: u32, w: bool) -> Lit
+        requires count { c < length self.now.heads }
+        requires long { ForSome (slice_get self.now.heads c) (λ head. place_of w < length head.lits) }
+        ensures { IfSome (slice_get self.now.heads c) (λ head. slice_get head.lits (place_of w) ≡ Some result) }
+    {
+        self.edges[c as usize].edge(w).lit
+    }
+
+    /// Gives one edge of a live clause another link.
+    #[inline]
+    pub fn set_link(&mut self, c: u32, w: bool, next: Option<u32>)
+        requires live { IsLive self.old.heads c }
+        requires next { ForSome next (λ n. n < MOST_HEADS) }
+        ensures { self.new ≡ record self.old { heads = changed_at (with_link w next) c self.old.heads; planned = false } }
+    {
+        self.edges[c as usize].set_next(w, Link::new(next));
+        self.planned = false;
+    }
+
+    /// Puts two literals of a live clause in each other's place. The edges watch the first two as before.
+    #[inline]
+    pub fn swap(&mut self, c: u32, i: usize, j: usize)
+        requires live { IsLive self.old.heads c }
+        requires first { ForSome (slice_get self.old.heads c) (λ head. i < length head.lits) }
+        requires second { ForSome (slice_get self.old.heads c) (λ head. j < length head.lits) }
+        ensures { self.new ≡ record self.old { heads = changed_at (swapped i j) c self.old.heads } }
+    {
+        let span = self.spans[c as usize];
+        self.lits.swap(span.start + i, span.start + j);
+        self.edges[c as usize].watch(piece(&self.lits, span.start, span.end));
+    }
+
+    /// Makes a live clause dead.
+    pub fn kill(&mut self, c: u32)
+        requires { IsLive self.old.heads c }
+        ensures { self.new ≡ record self.old { heads = changed_at killed c self.old.heads; planned = false } }
+    {
+        self.spans[c as usize].live = false;
+        self.planned = false;
+    }
+
+    /// Puts a literal at the end of the tail.
+    #[inline]
+    pub fn append(&mut self, lit: Lit)
+        requires { 0 < self.old.spare_lits }
+        ensures { self.new ≡ record self.old { tail = self.old.tail ++ lit ∷ []; spare_lits = self.old.spare_lits - 1 } }
+    {
+        self.lits.push_reserved(lit);
+        self.spare_lits -= 1;
+    }
+
+    /// Keeps the first literals of the tail.
+    pub fn cut(&mut self, keep: usize)
+        ensures { self.new ≡ record self.old { tail = take keep self.old.tail; spare_lits = self.old.spare_lits + (length self.old.tail - keep) } }
+    {
+        let end = self.lits.len();
+        if keep < end - self.tail {
+            let kept = self.tail + keep;
+            self.lits.truncate(kept);
+            self.spare_lits += end - kept;
+        }
+    }
+
+    /// Makes the tail a live clause with no links, and answers its number.
+    pub fn seal(&mut self, id: u64) -> u32
+        requires spare { 0 < self.old.spare_heads }
+        requires most { length self.old.heads < MOST_HEADS }
+        ensures number { result ≡ length self.old.heads }
+        ensures state { self.new ≡ sealed self.old id }
+    {
+        let number = self.spans.len() as u32;
+        let end = self.lits.len();
+        self.edges
+            .push_reserved(Edges::of(piece(&self.lits, self.tail, end)));
+        self.spans.push_reserved(Span {
+            start: self.tail,
+            end,
+            id,
+            live: true,
+        });
+        self.tail = end;
+        self.spare_heads -= 1;
+        self.planned = false;
+        number
+    }
+}
+
+#[inline]
+fn piece(lits: &[Lit], start: usize, end: usize) -> &[Lit]
+    requires straight { start ≤ end }
+    requires within { end ≤ length lits.now }
+    ensures { result.now ≡ slice_range lits.now start end }
+{
+    &lits[start..end]
+}

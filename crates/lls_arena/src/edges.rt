@@ -1,0 +1,127 @@
+// The hot part of a clause.
+ghost use Rattle.std.specs.Prelude.{◌≡◌, ◌<◌, pos, if◌then◌else◌, length, slice_index_or, None};
+ghost use Rattle.std.specs.Option.{ForSome};
+ghost use Rattle.lls_arena.specs.declared.TheConstants.{MOST_HEADS};
+ghost use Rattle.lls_arena.specs.Links.{link_in, with_next};
+
+use lls_lit::Lit;
+
+// Where an edge leads, if anywhere: one more than the number, so that it takes the room of a number alone.
+#[derive(Clone, Copy, Debug)]
+pub(crate) struct Link {
+    after: u32,
+}
+
+// An edge: the literal that it watches, and where the next one of its list is.
+#[derive(Clone, Copy, Debug)]
+pub(crate) struct Edge {
+    pub(crate) next: Link,
+    pub(crate) lit: Lit,
+}
+
+// A clause's two edges, 16 bytes beside each other.
+#[derive(Clone, Copy, Debug)]
+pub(crate) struct Edges {
+    pub(crate) first: Edge,
+    pub(crate) second: Edge,
+}
+
+impl Link {
+    #[inline]
+    pub(crate) fn new(next: Option<u32>) -> Link
+        requires { ForSome next (λ n. n < MOST_HEADS) }
+        ensures { link_in result ≡ next }
+    {
+        match next {
+            Some(number) => Link { after: number + 1 },
+            None => Link { after: 0 },
+        }
+    }
+
+    #[inline]
+    pub(crate) fn next(self) -> Option<u32>
+        ensures { result ≡ link_in self }
+    {
+        if self.after == 0 {
+            None
+        } else {
+            Some(self.after - 1)
+        }
+    }
+}
+
+impl Edges {
+    // Edges that watch the first two of these literals, and lead nowhere. In place of one that isn't there stands any.
+    pub(crate) fn of(lits: &[Lit]) -> Edges
+        ensures first { 0 < length lits.now → result.first.lit ≡ slice_index_or lits.now 0 (pos 0) }
+        ensures second { 1 < length lits.now → result.second.lit ≡ slice_index_or lits.now 1 (pos 0) }
+        ensures first_link { link_in result.first.next ≡ None }
+        ensures second_link { link_in result.second.next ≡ None }
+    {
+        Edges {
+            first: Edge::at(lits, 0),
+            second: Edge::at(lits, 1),
+        }
+    }
+
+    #[inline]
+    pub(crate) fn edge(self, w: bool) -> Edge
+        ensures { result ≡ (if w then self.second else self.first) }
+    {
+        if w { self.second } else { self.first }
+    }
+
+    // Watches the first two of these literals, as far as they are there.
+    #[inline]
+    pub(crate) fn watch(&mut self, lits: &[Lit])
+        ensures first { 0 < length lits.now → self.new.first.lit ≡ slice_index_or lits.now 0 (pos 0) }
+        ensures second { 1 < length lits.now → self.new.second.lit ≡ slice_index_or lits.now 1 (pos 0) }
+        ensures first_link { self.new.first.next ≡ self.old.first.next }
+        ensures second_link { self.new.second.next ≡ self.old.second.next }
+    {
+        if lits.len() > 0 {
+            self.first.lit = lits[0];
+        }
+        if lits.len() > 1 {
+            self.second.lit = lits[1];
+        }
+    }
+
+    // Gives one edge another link.
+    #[inline]
+    pub(crate) fn set_next(&mut self, w: bool, next: Link)
+        ensures { self.new ≡ with_next w next self.old }
+    {
+        if w {
+            self.second.next = next;
+        } else {
+            self.first.next = next;
+        }
+    }
+}
+
+impl Edge {
+    // An edge that watches the k-th literal, if there is one, and leads nowhere.
+    fn at(lits: &[Lit], k: usize) -> Edge
+        ensures lit { k < length lits.now → result.lit ≡ slice_index_or lits.now k (pos 0) }
+        ensures link { link_in result.next ≡ None }
+    {
+        let lit = if k < lits.len() {
+            lits[k]
+        } else {
+            some_literal(lits)
+        };
+        Edge {
+            next: Link::new(None),
+            lit,
+        }
+    }
+}
+
+fn some_literal(lits: &[Lit]) -> Lit {
+    match Lit::from_number(1) {
+        Some(lit) => lit,
+        // 1 is a literal, so this never comes.
+        None => lits[0],
+    }
+}

@@ -1,0 +1,13 @@
+//! Clauses in place, for unit propagation over watched literals: all literals in one buffer, and for each clause two edges beside
+//! each other, each with a watched literal and a link, so that a visit reads both at once.
+//!
+//! Only `Arena::reserve` takes memory.
+#![tactic(auto)]
+
+mod arena;
+mod edges;
+
+pub use arena::Arena;
+
+/// How many clauses an arena may have.
+pub const MOST_HEADS: u32 = 4_294_967_295;
