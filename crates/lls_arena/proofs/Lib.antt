@@ -2,3 +2,5 @@ pub mod Buffer
 pub mod Heads
 pub mod Changed
 pub mod Pieces
+pub mod Told
+pub mod Sliding

@@ -8,7 +8,7 @@ use Rattle.lls_arena.specs.declared.edges.Edges.{Edges}
 use Rattle.lls_arena.specs.declared.arena.Span.{Span}
 use Rattle.lls_arena.specs.Arena.{HeadState, changed_at, swapped}
 use Rattle.lls_arena.specs.Links.{link_in}
-use Rattle.lls_arena.specs.Parts.{AreAllWatched, AreInOrder, AreWatched, head_at, heads_in}
+use Rattle.lls_arena.specs.Parts.{AreAllWatched, AreInOrder, AreWatched, DifferWithin, head_at, heads_in}
 use Rattle.lls_arena.proofs.Buffer.{AreInOrder-le}
 use Rattle.lls_arena.proofs.Heads.{between}
 
@@ -17,11 +17,6 @@ length-slice_range xs s e within = omega (arith, length-take (e - s) (drop s xs)
 
 pub get_or-slice_range : (xs : List ℤ) (s e k : ℕ) (d : ℤ) → k < e - s → get_or (slice_range xs s e) k d ≡ get_or xs (s + k) d
 get_or-slice_range xs s e k d lt = get_or-take (e - s) (drop s xs) k d lt ∙ get_or-drop s xs k d
-
--- the two differ in that span alone
-pub record DifferWithin (xs ys : List ℤ) (low high : ℕ) : Type 0 where
-  pub length_same : length ys ≡ length xs
-  pub outside : (k : ℕ) (d : ℤ) → (k < low) ⊎ (high ≤ k) → get_or ys k d ≡ get_or xs k d
 
 slice_range-outside : (xs ys : List ℤ) (low high s e : ℕ) → DifferWithin xs ys low high → e ≤ length xs → (e ≤ low) ⊎ (high ≤ s) → slice_range ys s e ≡ slice_range xs s e
 slice_range-outside xs ys low high s e differ within beside =
@@ -41,7 +36,7 @@ AreWatched-outside xs ys low high e s differ beside watched =
     }
 
 -- the clauses behind the span
-heads_in-behind : (xs ys : List ℤ) (es : List Edges) (spans : List Span) (from tail low high : ℕ) → DifferWithin xs ys low high → high ≤ from → tail ≤ length xs → AreInOrder from spans tail → heads_in ys es spans ≡ heads_in xs es spans
+pub heads_in-behind : (xs ys : List ℤ) (es : List Edges) (spans : List Span) (from tail low high : ℕ) → DifferWithin xs ys low high → high ≤ from → tail ≤ length xs → AreInOrder from spans tail → heads_in ys es spans ≡ heads_in xs es spans
 heads_in-behind xs ys [] spans from tail low high differ behind within order = refl
 heads_in-behind xs ys (e ∷ es) [] from tail low high differ behind within order = refl
 heads_in-behind xs ys (e ∷ es) (s ∷ spans) from tail low high differ behind within order =
@@ -49,7 +44,7 @@ heads_in-behind xs ys (e ∷ es) (s ∷ spans) from tail low high differ behind 
     ap (λ (lits : List ℤ). record (head_at ys e s) { lits = lits } ∷ heads_in ys es spans) (slice_range-outside xs ys low high s.start s.end differ (omega arith) (inr (omega (arith, order.0))))
     ∙ ap (λ (heads : List HeadState). head_at xs e s ∷ heads) (heads_in-behind xs ys es spans s.end tail low high differ (omega (arith, order.0, order.1)) within order.2)
 
-AreAllWatched-behind : (xs ys : List ℤ) (es : List Edges) (spans : List Span) (from tail low high : ℕ) → DifferWithin xs ys low high → high ≤ from → AreInOrder from spans tail → AreAllWatched xs es spans → AreAllWatched ys es spans
+pub AreAllWatched-behind : (xs ys : List ℤ) (es : List Edges) (spans : List Span) (from tail low high : ℕ) → DifferWithin xs ys low high → high ≤ from → AreInOrder from spans tail → AreAllWatched xs es spans → AreAllWatched ys es spans
 AreAllWatched-behind xs ys [] [] from tail low high differ behind order watched = tt
 AreAllWatched-behind xs ys [] (s ∷ spans) from tail low high differ behind order watched = watched
 AreAllWatched-behind xs ys (e ∷ es) [] from tail low high differ behind order watched = watched
@@ -146,3 +141,12 @@ drop-outside xs ys low high n differ behind =
     same_lists (drop n ys) (drop n xs)
     (omega (arith, length-drop n xs, length-drop n ys, differ.length_same))
     (λ k d lt. get_or-drop n ys k d ∙ differ.outside (n + k) d (inr (omega arith)) ∙ sym (get_or-drop n xs k d))
+
+-- what stands before the span
+pub take-outside : (xs ys : List ℤ) (low high : ℕ) → DifferWithin xs ys low high → take low ys ≡ take low xs
+take-outside xs ys low high differ =
+    same_lists (take low ys) (take low xs)
+    (omega (arith, length-take low xs, length-take low ys, differ.length_same))
+    (λ k d lt.
+    let before : k < low = omega (arith, length-take low ys) in
+    get_or-take low ys k d before ∙ differ.outside k d (inl before) ∙ sym (get_or-take low xs k d before))

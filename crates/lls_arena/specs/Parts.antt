@@ -1,10 +1,10 @@
 -- For private contracts alone: an arena is kept as a table of edges, a table of spans, and one buffer of literals.
-use Rattle.std.specs.Prelude.{◌≡◌, ◌≤◌, ◌<◌, ℕ, ◌+◌, ◌*◌, ◌-◌, ℤ, pos, Bool, true, List, [], ◌∷◌, All, drop, length, map, slice_get, slice_index_or, Some}
+use Rattle.std.specs.Prelude.{◌≡◌, ◌≤◌, ◌<◌, ℕ, ◌+◌, ◌*◌, ◌-◌, ℤ, pos, Bool, true, false, List, [], ◌∷◌, ◌⊎◌, All, count_by, drop, filter, length, map, slice_get, slice_index_or, take, Some}
 use Rattle.std.specs.List.{slice_range}
 use Rattle.lls_arena.specs.declared.TheConstants.{MOST_HEADS}
 use Rattle.lls_arena.specs.declared.edges.Edges.{Edges}
 use Rattle.lls_arena.specs.declared.arena.Span.{Span}
-use Rattle.lls_arena.specs.Arena.{ArenaState, HeadState, live_before}
+use Rattle.lls_arena.specs.Arena.{ArenaState, HeadState, unlinked}
 use Rattle.lls_arena.specs.Links.{link_in}
 
 -- the clause of a span, with its edges
@@ -59,3 +59,34 @@ pub record AreParts (edges : List Edges) (spans : List Span) (lits : List ℤ) (
   pub in_order : AreInOrder 0 spans tail
   pub tail_begins : tail ≤ length lits
   pub watched : AreAllWatched lits edges spans
+
+-- how many of the first spans are live
+abbrev pub live_spans : List Span → ℕ → ℕ
+live_spans spans k = count_by (λ span. span.live) (take k spans)
+
+abbrev pub is_live_at : List Span → ℕ → Bool
+is_live_at spans k = (slice_index_or spans k (record { start = 0; end = 0; id = 0; live = false })).live
+
+-- the first edge of each live clause leads to where it is to go
+abbrev pub SayWhereTo : List Edges → List Span → Type 0
+SayWhereTo edges spans = (k : ℕ) (d : Edges) → k < length spans → is_live_at spans k ≡ true → link_in (slice_index_or edges k d).first.next ≡ Some (live_spans spans k)
+
+-- the edges after the live ones were told where to go, and nothing else changed
+pub record AreTold (old new : List Edges) (spans : List Span) : Type 0 where
+  pub length_same : length new ≡ length old
+  pub told : SayWhereTo new spans
+  pub first : (k : ℕ) (d : Edges) → (slice_index_or new k d).first.lit ≡ (slice_index_or old k d).first.lit
+  pub second : (k : ℕ) (d : Edges) → (slice_index_or new k d).second ≡ (slice_index_or old k d).second
+
+-- the two differ between those places alone
+pub record DifferWithin (xs ys : List ℤ) (low high : ℕ) : Type 0 where
+  pub length_same : length ys ≡ length xs
+  pub outside : (k : ℕ) (d : ℤ) → (k < low) ⊎ (high ≤ k) → slice_index_or ys k d ≡ slice_index_or xs k d
+
+-- the first clauses and the front of the buffer are what is left of these clauses without the dead ones and the links
+pub record AreSlid (heads : List HeadState) (edges : List Edges) (spans : List Span) (lits : List ℤ) (kept end : ℕ) : Type 0 where
+  pub fewer : kept ≤ length spans
+  pub shorter : end ≤ length lits
+  pub live : heads_in lits (take kept edges) (take kept spans) ≡ map unlinked (filter (λ head. head.live) heads)
+  pub in_order : AreInOrder 0 (take kept spans) end
+  pub watched : AreAllWatched lits (take kept edges) (take kept spans)

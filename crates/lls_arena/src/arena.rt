@@ -1,9 +1,10 @@
 // An arena of clauses.
-ghost use Rattle.std.specs.Prelude.{◌≡◌, ◌<◌, ◌≤◌, ◌+◌, ◌-◌, [], ◌∷◌, ◌++◌, false, length, map, slice_get, take, Some, IfSome, OnOk};
+ghost use Rattle.std.specs.Prelude.{◌≡◌, ◌<◌, ◌≤◌, ◌+◌, ◌-◌, [], ◌∷◌, ◌++◌, false, true, length, map, slice_get, take, Some, IfSome, OnOk};
 ghost use Rattle.std.specs.List.{slice_range};
 ghost use Rattle.std.specs.Option.{ForSome};
 ghost use Rattle.lls_arena.specs.declared.TheConstants.{MOST_HEADS};
-ghost use Rattle.lls_arena.specs.Arena.{IsLive, changed_at, empty_arena, killed, link_of, place_of, sealed, swapped, with_link};
+ghost use Rattle.lls_arena.specs.Arena.{IsLive, changed_at, compacted, empty_arena, killed, link_of, live_before, place_of, sealed, swapped, unlinked, with_link};
+ghost use Rattle.lls_arena.specs.Parts.{AreAllWatched, AreInOrder, AreSlid, AreTold, DifferWithin, heads_in};
 
 use crate::edges::{Edges, Link};
 use lls_base::Memory;
@@ -38,16 +39,17 @@ pub struct Arena {
 }
 
 impl Model for Arena {
-    ghost use Rattle.std.specs.Prelude.{length, vec_capacity};
+    ghost use Rattle.std.specs.Prelude.{◌≡◌, true, length, vec_capacity};
     ghost use Rattle.lls_arena.specs.Arena.{ArenaState};
-    ghost use Rattle.lls_arena.specs.Parts.{arena_in, AreParts, HaveRoom};
+    ghost use Rattle.lls_arena.specs.Parts.{arena_in, AreParts, HaveRoom, SayWhereTo};
 
     ghost Value = { ArenaState };
 
     ghost view = { λ a. arena_in a.edges.items a.spans.items a.lits.items a.tail a.spare_heads a.spare_lits a.planned };
 
     ghost invariant = { λ a. AreParts a.edges.items a.spans.items a.lits.items a.tail
-        × HaveRoom (length a.edges.items) (length a.spans.items) (length a.lits.items) a.spare_heads a.spare_lits (vec_capacity a.edges) (vec_capacity a.spans) (vec_capacity a.lits) };
+        × HaveRoom (length a.edges.items) (length a.spans.items) (length a.lits.items) a.spare_heads a.spare_lits (vec_capacity a.edges) (vec_capacity a.spans) (vec_capacity a.lits)
+        × (a.planned ≡ true → SayWhereTo a.edges.items a.spans.items) };
 }
 
 impl Arena {
@@ -215,6 +217,97 @@ impl Arena {
         self.spare_heads -= 1;
         self.planned = false;
         number
+    }
+
+    /// Settles where each live clause is to go, for which links may be lost.
+    pub fn plan_compact(&mut self)
+        requires { self.old.tail ≡ [] }
+        ensures heads { map unlinked self.new.heads ≡ map unlinked self.old.heads }
+        ensures same { self.new ≡ record self.old { heads = self.new.heads; planned = true } }
+    {
+        tell_where_to(&mut self.edges, &self.spans);
+        self.planned = true;
+    }
+
+    /// Where a live clause is to go: so many live ones are before it.
+    #[inline]
+    pub fn moved_to(&self, c: u32) -> u32
+        requires planned { self.now.planned ≡ true }
+        requires live { IsLive self.now.heads c }
+        ensures { result ≡ live_before self.now.heads c }
+    {
+        // A live clause has been told, so its own number is never the answer of want of one.
+        self.edges[c as usize].first.next.next().unwrap_or(c)
+    }
+
+    /// Takes the dead clauses away, and all links: the live ones slide down in place, in their order.
+    pub fn finish_compact(&mut self)
+        requires planned { self.old.planned ≡ true }
+        requires tail { self.old.tail ≡ [] }
+        ensures { self.new ≡ compacted self.old }
+    {
+        let (kept, end) = slide_live(&mut self.edges, &mut self.spans, &mut self.lits);
+        self.edges.truncate(kept);
+        self.spans.truncate(kept);
+        self.lits.truncate(end);
+        self.tail = end;
+        self.planned = false;
+    }
+}
+
+// Slides the live clauses down over the dead ones: how many there are, and where their literals end.
+fn slide_live(edges: &mut [Edges], spans: &mut [Span], lits: &mut [Lit]) -> (usize, usize)
+    requires in_order { AreInOrder 0 spans.old (length lits.old) }
+    requires watched { AreAllWatched lits.old edges.old spans.old }
+    ensures { AreSlid (heads_in lits.old edges.old spans.old) edges.new spans.new lits.new result.0 result.1 }
+{
+    let mut kept = 0;
+    let mut end = 0;
+    for k in 0..spans.len() {
+        let span = spans[k];
+        if span.live {
+            let start = end;
+            end = start + (span.end - span.start);
+            slide(lits, span.start, span.end, start);
+            edges[kept] = edges[k].unlinked();
+            spans[kept] = Span {
+                start,
+                end,
+                id: span.id,
+                live: true,
+            };
+            kept += 1;
+        }
+    }
+    (kept, end)
+}
+
+// Copies a piece to where it may overlap itself from before.
+#[inline]
+fn slide(lits: &mut [Lit], start: usize, end: usize, to: usize)
+    requires down { to ≤ start }
+    requires straight { start ≤ end }
+    requires within { end ≤ length lits.old }
+    ensures moved { slice_range lits.new to (to + (end - start)) ≡ slice_range lits.old start end }
+    ensures outside { DifferWithin lits.old lits.new to (to + (end - start)) }
+{
+    for k in 0..end - start {
+        lits[to + k] = lits[start + k];
+    }
+}
+
+// Puts at the first edge of each live clause how many live ones are before it.
+fn tell_where_to(edges: &mut [Edges], spans: &[Span])
+    requires each { length edges.old ≡ length spans.now }
+    requires few { length spans.now ≤ MOST_HEADS }
+    ensures { AreTold edges.old edges.new spans.now }
+{
+    let mut before = 0;
+    for k in 0..spans.len() {
+        if spans[k].live {
+            edges[k].first.next = Link::new(Some(before));
+            before += 1;
+        }
     }
 }
 

@@ -87,6 +87,20 @@ impl Edges {
         }
     }
 
+    // Leads nowhere.
+    #[inline]
+    pub(crate) fn unlinked(self) -> Edges
+        ensures first { result.first.lit ≡ self.first.lit }
+        ensures second { result.second.lit ≡ self.second.lit }
+        ensures first_link { link_in result.first.next ≡ None }
+        ensures second_link { link_in result.second.next ≡ None }
+    {
+        Edges {
+            first: self.first.unlinked(),
+            second: self.second.unlinked(),
+        }
+    }
+
     // Gives one edge another link.
     #[inline]
     pub(crate) fn set_next(&mut self, w: bool, next: Link)
@@ -101,6 +115,16 @@ impl Edges {
 }
 
 impl Edge {
+    fn unlinked(self) -> Edge
+        ensures lit { result.lit ≡ self.lit }
+        ensures link { link_in result.next ≡ None }
+    {
+        Edge {
+            next: Link::new(None),
+            lit: self.lit,
+        }
+    }
+
     // An edge that watches the k-th literal, if there is one, and leads nowhere.
     fn at(lits: &[Lit], k: usize) -> Edge
         ensures lit { k < length lits.now → result.lit ≡ slice_index_or lits.now k (pos 0) }

@@ -3,6 +3,7 @@ ghost use Rattle.std.specs.Prelude.{◌≡◌, ◌≤◌, true, false, Some, Non
 ghost use Rattle.lls_lit.specs.Formula.{is_within, IsUnsatisfiable};
 ghost use Rattle.lls_prooflog.specs.Range.{IsInRange};
 ghost use Rattle.lls_prooflog.specs.Steps.{numbered};
+ghost use Rattle.lls_prooflog.specs.Lent.{hints_of};
 ghost use Rattle.lls_prooflog.specs.Log.{step_of_ref};
 ghost use Rattle.lls_prooflog.specs.Wrapped.{GivesWrapped};
 ghost use Rattle.lls_prooflog.specs.declared.step.Step.TheVariants.{Add};
@@ -15,7 +16,7 @@ use crate::walk::follow_hints;
 use lls_base::Memory;
 use lls_cnf::Formula;
 use lls_lit::{Lit, Marks, Var};
-use lls_prooflog::{Step, StepFault, StepRef};
+use lls_prooflog::{HintsRef, Step, StepFault, StepRef};
 use std::alloc::Global;
 use std::marker::Model;
 
@@ -128,10 +129,10 @@ impl<'f> Checker<'f> {
     }
 
     // The step that adds a clause, where the empty clause wasn't added yet.
-    fn add(&mut self, id: u64, lits: &[Lit], hints: &[i64]) -> Result<Progress, Refusal>
+    fn add(&mut self, id: u64, lits: &[Lit], hints: HintsRef) -> Result<Progress, Refusal>
         requires { self.old.done ≡ false }
         ensures stepped { GivesWrapped Refusal.Fault (λ _. self.new) result
-            (stepped self.old (Add id lits.now hints.now)) }
+            (stepped self.old (Add id lits.now (hints_of hints.entry))) }
         ensures progress { IfOk result (λ p. p ≡ progress_of self.new.done) }
         ensures err { OnErr result (self.new ≡ self.old) }
         ensures sound { result ≡ Ok Progress.Done → IsUnsatisfiable self.new.formula }

@@ -2,6 +2,7 @@
 ghost use Rattle.std.specs.Prelude.{◌≡◌, not, [], ◌∷◌, ◌++◌, OnOk, OnErr, IfOk, None, filter, ◌==◌};
 ghost use Rattle.std.specs.List.{list_any};
 ghost use Rattle.std.specs.Option.{option_copied};
+ghost use Rattle.lls_prooflog.specs.Lent.{ids_of};
 ghost use Rattle.lls_prooflog.specs.UnitWalk.{numbered, find_clause};
 
 use crate::added::Added;
@@ -9,6 +10,7 @@ use crate::given::Given;
 use lls_base::Memory;
 use lls_cnf::Formula;
 use lls_lit::Lit;
+use lls_prooflog::IdsRef;
 use std::alloc::Global;
 use std::marker::Model;
 
@@ -57,20 +59,21 @@ impl<'f> LiveClauses<'f> {
     }
 
     /// Takes the clauses of these ids out.
-    pub(crate) fn delete(&mut self, ids: &[u64])
-        ensures { self.new ≡ filter (λ pair. not (list_any (λ id. id == pair.0) ids.now)) self.old }
+    pub(crate) fn delete(&mut self, ids: IdsRef)
+        ensures { self.new ≡ filter (λ pair. not (list_any (λ id. id == pair.0) (ids_of ids.entry))) self.old }
     {
         remove_all(&mut self.given, &mut self.added, ids);
         self.added.tidy();
     }
 }
 
-fn remove_all(given: &mut Given, added: &mut Added, ids: &[u64])
-    ensures given { given.new ≡ filter (λ pair. not (list_any (λ id. id == pair.0) ids.now)) given.old }
-    ensures added { added.new ≡ filter (λ pair. not (list_any (λ id. id == pair.0) ids.now)) added.old }
+fn remove_all(given: &mut Given, added: &mut Added, ids: IdsRef)
+    ensures given { given.new ≡ filter (λ pair. not (list_any (λ id. id == pair.0) (ids_of ids.entry))) given.old }
+    ensures added { added.new ≡ filter (λ pair. not (list_any (λ id. id == pair.0) (ids_of ids.entry))) added.old }
 {
-    for id in ids {
-        given.remove(*id);
-        added.remove(*id);
+    for k in 0..ids.len() {
+        let id = ids.get(k);
+        given.remove(id);
+        added.remove(id);
     }
 }

@@ -4,12 +4,13 @@ ghost use Rattle.std.specs.List.{list_all};
 ghost use Rattle.std.specs.FinSet as set;
 ghost use Rattle.lls_lit.specs.Formula.{is_within};
 ghost use Rattle.lls_prooflog.specs.UnitWalk.{unit_walk};
+ghost use Rattle.lls_prooflog.specs.Lent.{hints_of};
 ghost use Rattle.lls_lrat.specs.Left.{left_in, IsOneWithin};
 ghost use Rattle.lls_lrat.specs.Hinted.{are_within, hinted_clause, unless_fault};
 
 use crate::live::LiveClauses;
 use lls_lit::{Lit, Marks};
-use lls_prooflog::StepFault;
+use lls_prooflog::{HintsRef, StepFault};
 
 /// The different literals of a clause that aren't marked.
 #[derive(Clone, Copy, Debug)]
@@ -24,20 +25,21 @@ pub(crate) fn follow_hints(
     live: &LiveClauses,
     marks: &mut Marks,
     lits: &[Lit],
-    hints: &[i64],
+    hints: HintsRef,
 ) -> Result<(), StepFault>
     requires lits { is_within marks.old.vars lits.now ≡ true }
     requires live { are_within marks.old.vars live.now ≡ true }
-    ensures exact { result ≡ unless_fault (unit_walk live.now lits.now hints.now) }
+    ensures exact { result ≡ unless_fault (unit_walk live.now lits.now (hints_of hints.entry)) }
     ensures vars { marks.new.vars ≡ marks.old.vars }
 {
     mark_all(marks, lits);
-    for hint in hints {
-        let clause = hinted(live, hint)?;
+    for k in 0..hints.len() {
+        let hint = hints.get(k);
+        let clause = hinted(live, &hint)?;
         match unmarked(clause, marks) {
             Left::Nothing => return Ok(()),
             Left::One(lit) => marks.put(lit.negated()),
-            Left::More => return Err(not_unit(hint)),
+            Left::More => return Err(not_unit(&hint)),
         }
     }
     Err(StepFault::NoConflict)

@@ -13,5 +13,6 @@ pub mod PrintedSteps
 pub mod FreshClauses
 pub mod WorkedLogs
 pub mod StepLines
+pub mod Pieces
 pub mod Logged
 pub mod PrintedLogs

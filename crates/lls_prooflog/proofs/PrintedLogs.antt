@@ -1,6 +1,7 @@
 -- The lines of a printed log are read again.
 use Rattle.std.proofs.Common.{◌≡◌, ℕ, zero, suc, ◌+◌, List, [], ◌∷◌, ◌++◌, All, take, Some, refl, sym, ap, ◌∙◌, arith, append_assoc, subst}
 use Rattle.std.specs.Prelude.{slice_get, codes}
+use Rattle.std.specs.List.{flat_map}
 use Rattle.std.proofs.lemmas.Option.{same_Some}
 use Rattle.std.proofs.lemmas.List.{flat_map_more}
 use Rattle.std.proofs.lemmas.List.Elements.{All-append, All-from_recursion, recursion_from_All}
@@ -40,5 +41,17 @@ take-next (y ∷ ys) (suc k) x e =
 pub readable_next : (steps : List Step) (k : ℕ) (step : Step) → slice_get steps k ≡ Some step → IsReadable step → All IsReadable (take k steps) → All IsReadable (take (k + 1) steps)
 readable_next steps k step e h all = subst (All IsReadable) (sym (take-next steps k step e)) (All-append IsReadable (take k steps) (step ∷ []) all (All-from_recursion IsReadable (step ∷ []) (h, tt)))
 
+text_more : {X : Type 0} (text : X → List ℕ) (xs : List X) (k : ℕ) (x : X) → slice_get xs k ≡ Some x → flat_map text (take k xs) ++ text x ≡ flat_map text (take (k + 1) xs)
+text_more text xs k x e = flat_map_more text [] (take k xs) x ∙ ap (flat_map text) (sym (take-next xs k x e))
+
 pub text_next : (steps : List Step) (k : ℕ) (step : Step) → slice_get steps k ≡ Some step → log_text (take k steps) ++ step_text step ≡ log_text (take (k + 1) steps)
-text_next steps k step e = flat_map_more step_text [] (take k steps) step ∙ ap log_text (sym (take-next steps k step e))
+text_next steps k step e = text_more step_text steps k step e
+
+-- one more number of a list, and the blank behind it
+pub number_next : {X : Type 0} (decimal : X → List ℕ) (before : List ℕ) (xs : List X) (k : ℕ) (x : X) → slice_get xs k ≡ Some x
+    → ((before ++ flat_map (λ n. decimal n ++ codes " ") (take k xs)) ++ decimal x) ++ codes " " ≡ before ++ flat_map (λ n. decimal n ++ codes " ") (take (k + 1) xs)
+number_next decimal before xs k x e =
+    let done = flat_map (λ n. decimal n ++ codes " ") (take k xs) in
+    append_assoc (before ++ done) (decimal x) (codes " ")
+    ∙ append_assoc before done (decimal x ++ codes " ")
+    ∙ ap (λ (text : List ℕ). before ++ text) (text_more (λ n. decimal n ++ codes " ") xs k x e)

@@ -1,5 +1,5 @@
 -- Printed numbers are words, and are read again.
-use Rattle.std.proofs.Common.{◌≡◌, ℕ, suc, ◌+◌, ◌^◌, ◌<◌, Bool, true, false, not, ◌&&◌, eqb, leb, leb-true, List, [], ◌∷◌, length, get_or, Some, refl, ◌∙◌, arith}
+use Rattle.std.proofs.Common.{◌≡◌, ℕ, w64, suc, ◌+◌, ◌^◌, ◌<◌, Bool, true, false, not, ◌&&◌, eqb, leb, leb-true, List, [], ◌∷◌, length, get_or, Some, refl, ◌∙◌, arith}
 use Rattle.std.specs.Prelude.{ℤ, pos, negsuc, Ok, codes}
 use Rattle.std.specs.List.{list_all}
 use Rattle.std.specs.Char.{is_ascii_digit}
@@ -8,6 +8,9 @@ use Rattle.std.specs.Fmt.{decimal, signed_decimal}
 use Rattle.std.proofs.lemmas.Bool.{and_parts}
 use Rattle.std.proofs.lemmas.Bool.Decides.{nat_tests}
 use Rattle.std.proofs.lemmas.Fmt.{decimal_is_IsNumeral, first_decimal}
+use Rattle.std.proofs.lemmas.Int.{to_z-of_z, to_z_pos, ints}
+use mir.Val.{to_z, of_z}
+use lib.Signed.{mag}
 use Rattle.lls_text.proofs.Printed.{passes-apart}
 use Rattle.lls_text.proofs.NumberBytes.{is_number_byte, digits_are_digits, digit_no_minus, natural_bytes}
 use Rattle.lls_lit.specs.Literal.{variable_of}
@@ -96,3 +99,8 @@ lit_word column (negsuc n) e =
 pub no_d : (word : List ℕ) → list_all is_number_byte word ≡ true → bytes_eq word (codes "d") ≡ false
 no_d [] bytes = refl
 no_d (b ∷ bs) bytes = rw (passes-apart is_number_byte b 100 (and_parts (is_number_byte b) (list_all is_number_byte bs) bytes).0 refl) refl
+
+-- a number of 64 bits with a sign is the one that its bits write
+pub same_number : (r : ℤ) → mag r < 2 ^ 63 → to_z w64 (of_z w64 r) ≡ r
+same_number (pos n) fits = to_z_pos w64 n (omega (arith, fits))
+same_number (negsuc n) fits = to_z-of_z w64 (negsuc n) (omega (arith, ints, fits))

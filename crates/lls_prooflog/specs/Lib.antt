@@ -11,5 +11,7 @@ pub mod Numeral
 pub mod StepText
 pub mod Fresh
 pub mod Spent
+pub mod Lent
 pub mod Log
+pub mod Pieces
 pub mod Heads

@@ -8,6 +8,7 @@ use Rattle.lls_prooflog.specs.declared.line_fault.LineFault.{LineFault}
 use Rattle.lls_prooflog.specs.declared.log.Addition.{Addition}
 use Rattle.lls_prooflog.specs.declared.step_ref.StepRef.{StepRef}
 use Rattle.lls_prooflog.specs.declared.step_ref.StepRef.TheVariants as lent
+use Rattle.lls_prooflog.specs.Lent.{hints_of, ids_of}
 use Rattle.lls_prooflog.specs.Line.{step_of_line}
 use Rattle.lls_prooflog.specs.StepText.{step_text}
 
@@ -31,12 +32,12 @@ pub record Widens (old new : Logged) : Type 0 where
 
 -- a lent addition is this step
 abbrev pub step_of_addition : Addition → Step
-step_of_addition a = Add a.id a.lits.now a.hints.now
+step_of_addition a = Add a.id a.lits.now (hints_of a.hints)
 
 -- a lent step is this step
 abbrev pub step_of_ref : StepRef → Step
 step_of_ref (lent.Add addition) = step_of_addition addition
-step_of_ref (lent.Del ids) = Del ids.now
+step_of_ref (lent.Del ids) = Del (ids_of ids)
 
 -- a line for each step
 abbrev pub log_text : List Step → List ℕ

@@ -4,8 +4,12 @@
 #![tactic(auto)]
 
 mod fronts;
+mod hint_buffers;
 mod hints;
+mod hints_ref;
+mod id_buffers;
 mod ids;
+mod ids_ref;
 mod line_error;
 mod line_fault;
 mod lits;
@@ -16,12 +20,15 @@ mod numerals;
 mod print;
 mod read;
 mod short;
+mod spans;
 mod step;
 mod step_fault;
 mod step_ref;
 
 pub use hints::Hints;
+pub use hints_ref::HintsRef;
 pub use ids::Ids;
+pub use ids_ref::IdsRef;
 pub use line_error::LineError;
 pub use line_fault::LineFault;
 pub use lits::Lits;

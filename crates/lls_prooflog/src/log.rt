@@ -1,13 +1,15 @@
 // A log: the steps of a proof, as a search writes them down.
-ghost use Rattle.std.specs.Prelude.{◌≡◌, ◌≤◌, ◌<◌, ◌+◌, ◌-◌, ◌∷◌, ◌++◌, [], length, slice_get, count_by, max, vec_capacity, IfOk, OnOk, OnErr};
+ghost use Rattle.std.specs.Prelude.{◌≡◌, ◌≤◌, ◌<◌, ◌+◌, ◌-◌, ◌∷◌, ◌++◌, [], length, slice_get, count_by, IfOk, OnOk};
 ghost use Rattle.lls_prooflog.specs.declared.step.Step.TheVariants.{Add, Del};
 ghost use Rattle.lls_prooflog.specs.Range.{IsInRange};
 ghost use Rattle.lls_prooflog.specs.Spent.{is_addition};
 ghost use Rattle.lls_prooflog.specs.Log.{HasSpare, Widens, step_of_ref};
-ghost use Rattle.std.specs.List.{between};
-ghost use Rattle.lls_prooflog.specs.Heads.{step_at, IsHead, IsSpan};
+ghost use Rattle.lls_prooflog.specs.Heads.{step_at, IsHead};
 
-use crate::{Step, StepRef};
+use crate::hint_buffers::HintBuffers;
+use crate::id_buffers::IdBuffers;
+use crate::spans::{Place, Span, filled, piece, widened};
+use crate::{HintsRef, Step, StepRef};
 use lls_base::Memory;
 use lls_lit::Lit;
 use std::alloc::Global;
@@ -18,34 +20,27 @@ use std::marker::Model;
 pub struct Addition<'l> {
     pub id: u64,
     pub lits: &'l [Lit],
-    pub hints: &'l [i64],
-}
-
-/// A piece of a buffer: the items from a place to before another.
-#[derive(Clone, Copy, Debug, Drop)]
-struct Span {
-    from: usize,
-    to: usize,
+    pub hints: HintsRef<'l>,
 }
 
 /// What a step is, and where its numbers stand.
 #[derive(Clone, Copy, Debug, Drop)]
 enum Head {
-    Add { id: u64, lits: Span, hints: Span },
-    Del { ids: Span },
+    Add { id: u64, lits: Span, hints: Place },
+    Del { ids: Place },
 }
 
 /// Steps of a proof, in the order in which they were written down.
 ///
-/// All literals stand in one buffer, all hints in another, and the ids of deletions in a third: a step takes 48 bytes, 4 for
-/// each literal and 8 for each hint or deleted id. `reserve` takes the memory, and a push none.
+/// A step takes 56 bytes, 4 for each literal, and 4 for each hint or deleted id, or 8 where one of the step's isn't from 1 to
+/// 2^32 - 1. `reserve` takes the memory, and a push none.
 #[derive(Drop)]
 pub struct Log {
     alloc: Global,
     heads: Vec<Head>,
     lits: Vec<Lit>,
-    hints: Vec<i64>,
-    ids: Vec<u64>,
+    hints: HintBuffers,
+    ids: IdBuffers,
     additions: u64,
     spare_steps: usize,
     spare_lits: usize,
@@ -60,17 +55,16 @@ impl Model for Log {
     ghost Value = { Logged };
 
     ghost view = { λ l. record {
-      steps = steps_in l.lits.items l.hints.items l.ids.items l.heads.items;
+      steps = steps_in l.lits.items l.hints l.ids l.heads.items;
       spare_steps = l.spare_steps;
       spare_lits = l.spare_lits;
       spare_hints = l.spare_hints;
     } };
 
-    ghost invariant = { λ l. IsLaid l.lits.items l.hints.items l.ids.items l.heads.items l.additions
+    ghost invariant = { λ l. IsLaid l.lits.items l.hints l.ids l.heads.items l.additions
         × ((length l.heads.items + l.spare_steps ≤ vec_capacity l.heads)
         × ((length l.lits.items + l.spare_lits ≤ vec_capacity l.lits)
-        × ((length l.hints.items + l.spare_hints ≤ vec_capacity l.hints)
-        × (length l.ids.items + l.spare_hints ≤ vec_capacity l.ids)))) };
+        × ((l.spare_hints ≤ l.hints.room) × (l.spare_hints ≤ l.ids.room)))) };
 }
 
 impl Log {
@@ -82,8 +76,8 @@ impl Log {
             alloc,
             heads: Vec::new(alloc),
             lits: Vec::new(alloc),
-            hints: Vec::new(alloc),
-            ids: Vec::new(alloc),
+            hints: HintBuffers::new(alloc),
+            ids: IdBuffers::new(alloc),
             additions: 0,
             spare_steps: 0,
             spare_lits: 0,
@@ -99,8 +93,9 @@ impl Log {
     {
         self.spare_steps = widened(&mut self.heads, self.spare_steps, steps)?;
         self.spare_lits = widened(&mut self.lits, self.spare_lits, lits)?;
-        let _ids = widened(&mut self.ids, self.spare_hints, hints)?;
-        self.spare_hints = widened(&mut self.hints, self.spare_hints, hints)?;
+        self.hints.reserve(hints)?;
+        self.ids.reserve(hints)?;
+        self.spare_hints = self.spare_hints.max(hints);
         Ok(())
     }
 
@@ -118,7 +113,7 @@ impl Log {
         let head = Head::Add {
             id,
             lits: filled(&mut self.lits, lits),
-            hints: filled(&mut self.hints, hints),
+            hints: self.hints.push(hints),
         };
         self.heads.push_reserved(head);
         self.additions += 1;
@@ -139,7 +134,7 @@ impl Log {
         } }
     {
         let head = Head::Del {
-            ids: filled(&mut self.ids, ids),
+            ids: self.ids.push(ids),
         };
         self.heads.push_reserved(head);
         self.spare_steps -= 1;
@@ -179,8 +174,8 @@ impl Log {
 }
 
 // The step of a head, cut from the buffers.
-fn cut<'l>(head: &Head, lits: &'l [Lit], hints: &'l [i64], ids: &'l [u64]) -> StepRef<'l>
-    requires { IsHead (length lits.now) (length hints.now) (length ids.now) head.now }
+fn cut<'l>(head: &Head, lits: &'l [Lit], hints: &'l HintBuffers, ids: &'l IdBuffers) -> StepRef<'l>
+    requires { IsHead (length lits.now) hints.now ids.now head.now }
     ensures { step_of_ref result ≡ step_at lits.now hints.now ids.now head.now }
 {
     match head {
@@ -191,42 +186,8 @@ fn cut<'l>(head: &Head, lits: &'l [Lit], hints: &'l [i64], ids: &'l [u64]) -> St
         } => StepRef::Add(Addition {
             id: *id,
             lits: piece(lits, clause),
-            hints: piece(hints, chain),
+            hints: hints.lend(chain),
         }),
-        Head::Del { ids: named } => StepRef::Del(piece(ids, named)),
+        Head::Del { ids: named } => StepRef::Del(ids.lend(named)),
     }
-}
-
-// Makes room for so many items more beside those that there are, and says for how many there is room.
-fn widened<T>(items: &mut Vec<T>, spare: usize, more: usize) -> Result<usize, Memory>
-    requires { length items.old.items + spare ≤ vec_capacity items.old }
-    ensures items { items.new.items ≡ items.old.items }
-    ensures spare { IfOk result (λ s. s ≡ max spare more) }
-    ensures ok { IfOk result (λ s. length items.new.items + s ≤ vec_capacity items.new) }
-    ensures err { OnErr result (length items.new.items + spare ≤ vec_capacity items.new) }
-{
-    items.reserve(more)?;
-    Ok(spare.max(more))
-}
-
-// Puts items at the end, where there is room for them, and says where they stand.
-fn filled<T: Copy>(items: &mut Vec<T>, more: &[T]) -> Span
-    requires { length items.old.items + length more.now ≤ vec_capacity items.old }
-    ensures items { items.new.items ≡ items.old.items ++ more.now }
-    ensures capacity { vec_capacity items.old ≤ vec_capacity items.new }
-    ensures span { result ≡ record { from = length items.old.items; to = length items.old.items + length more.now } }
-{
-    let from = items.len();
-    items.extend_from_slice(more).unwrap();
-    Span {
-        from,
-        to: items.len(),
-    }
-}
-
-fn piece<'l, T>(items: &'l [T], span: &Span) -> &'l [T]
-    requires { IsSpan (length items.now) span.now }
-    ensures { result.now ≡ between span.now.from span.now.to items.now }
-{
-    &items[span.from..span.to]
 }

@@ -6,9 +6,10 @@ ghost use Rattle.lls_prooflog.specs.declared.step.Step.TheVariants.{Add, Del};
 ghost use Rattle.lls_prooflog.specs.Range.{IsInRange};
 ghost use Rattle.lls_prooflog.specs.Line.{step_of_line};
 ghost use Rattle.lls_prooflog.specs.StepText.{signed_list_text, id_list_text, step_line, step_text, AreLiterals};
+ghost use Rattle.lls_prooflog.specs.Lent.{hints_of, ids_of};
 ghost use Rattle.lls_prooflog.specs.Log.{log_text, step_of_ref, ReadsAs};
 
-use crate::{Addition, Log, Step, StepRef};
+use crate::{Addition, HintsRef, IdsRef, Log, Step, StepRef};
 use itoa::Buffer;
 use lls_base::Memory;
 use lls_lit::{Lit, Var};
@@ -62,17 +63,18 @@ fn addition_len(addition: Addition) -> usize {
     for lit in addition.lits {
         len = len.saturating_add(word_len(u64::from(lit.var().number()), lit.number() < 0));
     }
-    for hint in addition.hints {
-        len = len.saturating_add(word_len(hint.unsigned_abs(), *hint < 0));
+    for k in 0..addition.hints.len() {
+        let hint = addition.hints.get(k);
+        len = len.saturating_add(word_len(hint.unsigned_abs(), hint < 0));
     }
     len
 }
 
 // The length of a deletion's line. The d takes as much as the 0 before it.
-fn deletion_len(ids: &[u64]) -> usize {
+fn deletion_len(ids: IdsRef) -> usize {
     let mut len = 3 * word_len(0, false);
-    for id in ids {
-        len = len.saturating_add(word_len(*id, false));
+    for k in 0..ids.len() {
+        len = len.saturating_add(word_len(ids.get(k), false));
     }
     len
 }
@@ -97,8 +99,8 @@ fn push_step(text: &mut Vec<u8>, step: StepRef) -> Result<(), Memory>
     }
 }
 
-fn push_addition(text: &mut Vec<u8>, id: u64, lits: &[Lit], hints: &[i64]) -> Result<(), Memory>
-    ensures text { OnOk result (text.new.items ≡ text.old.items ++ step_text (Add id lits.now hints.now)) }
+fn push_addition(text: &mut Vec<u8>, id: u64, lits: &[Lit], hints: HintsRef) -> Result<(), Memory>
+    ensures text { OnOk result (text.new.items ≡ text.old.items ++ step_text (Add id lits.now (hints_of hints.entry))) }
     ensures within { OnOk result (is_within Var.MOST lits.now ≡ true) }
 {
     let mut digits = Buffer::new();
@@ -111,8 +113,8 @@ fn push_addition(text: &mut Vec<u8>, id: u64, lits: &[Lit], hints: &[i64]) -> Re
     Ok(())
 }
 
-fn push_deletion(text: &mut Vec<u8>, ids: &[u64]) -> Result<(), Memory>
-    ensures { OnOk result (text.new.items ≡ text.old.items ++ step_text (Del ids.now)) }
+fn push_deletion(text: &mut Vec<u8>, ids: IdsRef) -> Result<(), Memory>
+    ensures { OnOk result (text.new.items ≡ text.old.items ++ step_text (Del (ids_of ids.entry))) }
 {
     text.extend_from_slice(b"0 d ")?;
     push_ids(text, ids)?;
@@ -133,24 +135,24 @@ fn push_lits(text: &mut Vec<u8>, lits: &[Lit]) -> Result<(), Memory>
     Ok(())
 }
 
-fn push_hints(text: &mut Vec<u8>, hints: &[i64]) -> Result<(), Memory>
-    ensures { OnOk result (text.new.items ≡ text.old.items ++ signed_list_text hints.now) }
+fn push_hints(text: &mut Vec<u8>, hints: HintsRef) -> Result<(), Memory>
+    ensures { OnOk result (text.new.items ≡ text.old.items ++ signed_list_text (hints_of hints.entry)) }
 {
     let mut digits = Buffer::new();
-    for hint in hints {
-        text.extend_from_slice(digits.format(*hint).as_bytes())?;
+    for k in 0..hints.len() {
+        text.extend_from_slice(digits.format(hints.get(k)).as_bytes())?;
         text.extend_from_slice(b" ")?;
     }
     text.extend_from_slice(b"0")?;
     Ok(())
 }
 
-fn push_ids(text: &mut Vec<u8>, ids: &[u64]) -> Result<(), Memory>
-    ensures { OnOk result (text.new.items ≡ text.old.items ++ id_list_text ids.now) }
+fn push_ids(text: &mut Vec<u8>, ids: IdsRef) -> Result<(), Memory>
+    ensures { OnOk result (text.new.items ≡ text.old.items ++ id_list_text (ids_of ids.entry)) }
 {
     let mut digits = Buffer::new();
-    for id in ids {
-        text.extend_from_slice(digits.format(*id).as_bytes())?;
+    for k in 0..ids.len() {
+        text.extend_from_slice(digits.format(ids.get(k)).as_bytes())?;
         text.extend_from_slice(b" ")?;
     }
     text.extend_from_slice(b"0")?;

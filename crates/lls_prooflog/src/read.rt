@@ -11,7 +11,7 @@ ghost use Rattle.lls_prooflog.specs.Log.{step_of_ref};
 
 use crate::numeral::Numeral;
 use crate::numerals::Numerals;
-use crate::{Addition, LineError, LineFault, Step, StepRef};
+use crate::{Addition, HintsRef, IdsRef, LineError, LineFault, Step, StepRef};
 use lls_lit::Lit;
 use lls_text::begins_with;
 use std::alloc::Global;
@@ -67,13 +67,13 @@ impl LineReader {
         };
         if numerals.take_d() {
             read_deletion(&first, numerals, &mut self.ids)?;
-            return Ok(Some(StepRef::Del(&self.ids)));
+            return Ok(Some(StepRef::Del(IdsRef::Wide(&self.ids))));
         }
         let id = read_addition(&first, numerals, &mut self.lits, &mut self.hints)?;
         Ok(Some(StepRef::Add(Addition {
             id,
             lits: &self.lits,
-            hints: &self.hints,
+            hints: HintsRef::Wide(&self.hints),
         })))
     }
 }

@@ -4,7 +4,7 @@ ghost use Rattle.std.specs.List.{list_all};
 ghost use Rattle.lls_prooflog.specs.Log.{step_of_ref};
 ghost use Rattle.lls_prooflog.specs.Range.{is_id, is_hint, is_in_range};
 
-use crate::{Addition, Hints, Ids, Lits, StepRef};
+use crate::{Addition, Hints, HintsRef, Ids, IdsRef, Lits, StepRef};
 
 /// A step of an LRAT proof.
 #[derive(Debug, Drop)]
@@ -27,9 +27,9 @@ impl Step {
             Step::Add { id, lits, hints } => StepRef::Add(Addition {
                 id: *id,
                 lits: lits.items(),
-                hints: hints.items(),
+                hints: HintsRef::Wide(hints.items()),
             }),
-            Step::Del { ids } => StepRef::Del(ids.items()),
+            Step::Del { ids } => StepRef::Del(IdsRef::Wide(ids.items())),
         }
     }
 

@@ -2,7 +2,7 @@
 ghost use Rattle.std.specs.Prelude.{◌≡◌, IfOk};
 ghost use Rattle.lls_prooflog.specs.Log.{step_of_addition, step_of_ref};
 
-use crate::{Addition, Hints, Ids, Lits, Step};
+use crate::{Addition, IdsRef, Lits, Step};
 use lls_base::Memory;
 use std::alloc::Global;
 
@@ -11,7 +11,7 @@ use std::alloc::Global;
 pub enum StepRef<'s> {
     Add(Addition<'s>),
     /// Takes the clauses of these ids out.
-    Del(&'s [u64]),
+    Del(IdsRef<'s>),
 }
 
 impl<'s> StepRef<'s> {
@@ -23,10 +23,10 @@ impl<'s> StepRef<'s> {
             StepRef::Add(addition) => Ok(Step::Add {
                 id: addition.id,
                 lits: Lits::new(Vec::from_slice(alloc, addition.lits)?),
-                hints: Hints::new(Vec::from_slice(alloc, addition.hints)?),
+                hints: addition.hints.to_hints(alloc)?,
             }),
             StepRef::Del(ids) => Ok(Step::Del {
-                ids: Ids::new(Vec::from_slice(alloc, ids)?),
+                ids: ids.to_ids(alloc)?,
             }),
         }
     }

@@ -1,6 +1,6 @@
 -- The entries of a trail that stand above a level: the last ones.
-use Rattle.std.proofs.Common.{◌≡◌, ◌≢◌, ℕ, zero, suc, ◌+◌, ◌<◌, ◌≤◌, Bool, true, false, cond, List, [], ◌∷◌, ◌++◌, length, take, drop, get_or, Some, None, is_none, sym, ap, subst, ◌∙◌, arith}
-use Rattle.std.specs.Prelude.{ℤ, nat_le, nat_lt, slice_get, option_map}
+use Rattle.std.proofs.Common.{◌≡◌, ◌≢◌, ℕ, zero, suc, ◌+◌, ◌<◌, ◌≤◌, Bool, true, false, cond, List, [], ◌∷◌, ◌++◌, length, take, drop, get_or, Option, Some, None, is_none, refl, sym, ap, subst, ◌∙◌, arith}
+use Rattle.std.specs.Prelude.{ℤ, nat_le, nat_lt, slice_get, option_map, IsSome}
 use Rattle.std.specs.Option.{option_map_or}
 use Rattle.std.proofs.lemmas.Bool.{and_parts}
 use Rattle.std.proofs.lemmas.Bool.Decides.{nat_tests}
@@ -116,6 +116,11 @@ pub variable_read : (t : TrailState) (k : ℕ) (l : ℤ) → IsTrail t → slice
 variable_read t k l h is = (variable_bounds t.vars (variable_of l) (passes_read (is_literal_of t.vars) (literals_of t.entries) k l h.within is)).1
 
 -- what a test of a level tells
+-- a variable that has a level has a value
+pub known_at_level : (o : Option Entry) (level : ℕ) → option_map (λ (e : Entry). e.level) o ≡ Some level → IsSome o
+known_at_level None level is = absurd cc
+known_at_level (Some e) level is = refl
+
 pub test_told : (t now : TrailState) (k level : ℕ) (l : ℤ) (test : Bool) → (read : IsRead t k l) → now ≡ t → test ≡ option_map_or (nat_lt level) (level_of now.entries (variable_of l)) false → test ≡ nat_lt level read.entry.level
 test_told t now k level l test read same is =
     is ∙ ap (λ (s : TrailState). option_map_or (nat_lt level) (level_of s.entries (variable_of l)) false) same ∙ ap (λ o. option_map_or (nat_lt level) o false) read.level

@@ -1,9 +1,9 @@
 // What is decided next, and what is undone.
-ghost use Rattle.std.specs.Prelude.{◌≡◌, ◌<◌, ◌≤◌, ◌+◌, ℤ, pos, length, true, false, IfOk, IfSome, IfNone, IsTrue, nat_lt};
+ghost use Rattle.std.specs.Prelude.{◌≡◌, ◌<◌, ◌≤◌, ◌+◌, ℤ, pos, length, true, false, IfOk, IfSome, IfNone, IsSome, IsTrue, nat_lt};
 ghost use Rattle.std.specs.Option.{option_map_or};
 ghost use Rattle.lls_lit.specs.Literal.{variable_of};
 ghost use Rattle.lls_lit.specs.Formula.{is_literal_of, is_within};
-ghost use Rattle.lls_store.specs.Trail.{level_of};
+ghost use Rattle.lls_store.specs.Trail.{entry_of, level_of};
 ghost use Rattle.lls_store.specs.Closed.{IsClosed};
 ghost use Rattle.lls_store.specs.Sound.{IsSound};
 ghost use Rattle.lls_store.specs.Store.{IsConflict};
@@ -73,7 +73,7 @@ impl Course {
         ensures none { IfNone result ((self.new.trail ≡ self.old.trail) × AllSet self.old.trail.vars self.old.trail.entries) }
     {
         let lit = next_without_value(&mut self.order, &self.trail)?;
-        let phase = self.phases[lit.var().number() as usize - 1];
+        let phase = self.phases[lit.var().index()];
         self.trail.decide(with_sign(lit, phase));
         Some(self.trail.current())
     }
@@ -141,19 +141,16 @@ impl Course {
         ensures phases { length self.new.phases.items ≡ length self.old.phases.items }
     {
         self.order.put_back(lit.var());
-        self.phases[lit.var().number() as usize - 1] = lit.number() > 0;
+        self.phases[lit.var().index()] = lit.is_positive();
     }
 }
 
 // Whether a literal of the trail is of a level above this one.
 fn is_above(trail: &Trail, lit: Lit, level: u32) -> bool
-    requires { variable_of lit ≤ trail.now.vars }
+    requires { IsSome (entry_of trail.now.entries (variable_of lit)) }
     ensures { result ≡ option_map_or (nat_lt level) (level_of trail.now.entries (variable_of lit)) false }
 {
-    match trail.level(lit.var()) {
-        Some(of_lit) => of_lit > level,
-        None => false,
-    }
+    trail.known_level(lit.var()) > level
 }
 
 // The literal of a variable.

@@ -1,46 +1,55 @@
-use Rattle.std.proofs.Common.{◌≡◌, [], ◌∷◌, ◌++◌, get_or, refl, sym, ap, ◌∙◌, arith}
+use Rattle.std.proofs.Common.{◌≡◌, ℕ, ◌<◌, ◌^◌, w64, Some, List, [], ◌∷◌, ◌++◌, get_or, refl, sym, ap, ◌∙◌, arith}
+use Rattle.std.proofs.lemmas.Option.{get_or_from_slice_get}
+use Rattle.lls_prooflog.specs.Lent.{hints_of}
+use Rattle.lls_prooflog.proofs.PrintedNumbers.{same_number}
 use Rattle.std.proofs.lemmas.Grind.{common_steps}
-use Rattle.std.specs.Prelude.{pos, Err}
+use Rattle.std.specs.Prelude.{ℤ, pos, Err, slice_get}
+use mir.Val.{to_z, of_z}
+use lib.Signed.{mag}
 use Rattle.lls_lit.specs.Literal.{negation}
 use Rattle.lls_lit.specs.Marked.{Marked}
 use Rattle.lls_lrat.proofs.Walked.{ends_without_clause, ends_in_conflict, ends_not_unit, goes_on, ends_with_no_conflict}
 use Rattle.lls_lrat.proofs.Within.{hinted_within, variable_of-negation}
 use Rattle.lls_lrat.proofs.walk.follow_hints.Goals as goal
 
-pub loop-hint-init : goal.loop-hint-init
-loop-hint-init c = (refl, (c.args.lits.now, record { same = ap (λ (m : Marked). m.lits) c.mark_all.ensures; walk = refl }))
+-- the hint of that number, as it is handed on
+hint_at : (hints : List ℤ) (k : ℕ) (hint : ℤ) → mag hint < 2 ^ 63 → slice_get hints k ≡ Some hint → to_z w64 (of_z w64 hint) ≡ get_or hints k (pos 0)
+hint_at hints k hint fits at = same_number hint fits ∙ sym (get_or_from_slice_get hints k hint (pos 0) at)
+
+pub loop-k-init : goal.loop-k-init
+loop-k-init c = (refl, (c.args.lits.now, record { same = ap (λ (m : Marked). m.lits) c.mark_all.ensures; walk = refl }))
 
 pub unmarked-requires : goal.unmarked-requires
 unmarked-requires c =
-    let vars : c.loop-hint.marks.vars ≡ c.args.marks.now.vars = c.loop-hint.invariant.0 ∙ ap (λ (m : Marked). m.vars) c.mark_all.ensures in
-    rw vars (hinted_within c.args.marks.now.vars c.args.live.now (get_or c.args.hints.now c.loop-hint.hint-index (pos 0)) c.in_ok-clause.clause.now c.requires.live c.in_ok-clause.ensures.clause)
+    let vars : c.loop-k.marks.vars ≡ c.args.marks.now.vars = c.loop-k.invariant.0 ∙ ap (λ (m : Marked). m.vars) c.mark_all.ensures in
+    rw vars (hinted_within c.args.marks.now.vars c.args.live.now (to_z w64 (of_z w64 c.get-hint.result)) c.in_ok-clause.clause.now c.requires.live c.in_ok-clause.ensures.clause)
 
 pub put-requires : goal.put-requires
 put-requires c = rw (c.negated.ensures, variable_of-negation c.in-One.lit) c.in-One.ensures.within
 
 pub returns-in_err-clause-clause-exact : goal.returns-in_err-clause-clause-exact
 returns-in_err-clause-clause-exact c =
-    let w = c.loop-hint.invariant.1 in
-    let refused = ends_without_clause c.args.live.now c.args.lits.now c.args.hints.now c.loop-hint.marks w.0 c.loop-hint.hint-index (get_or c.args.hints.now c.loop-hint.hint-index (pos 0)) c.in_err-clause.field-0.0 c.loop-hint-test.true refl w.1 c.in_err-clause.ensures.fault in
+    let w = c.loop-k.invariant.1 in
+    let refused = ends_without_clause c.args.live.now c.args.lits.now (hints_of c.args.hints) c.loop-k.marks w.0 c.loop-k.k (to_z w64 (of_z w64 c.get-hint.result)) c.in_err-clause.field-0.0 (omega (arith, c.loop-k-test.true, c.len-k-end.ensures)) (hint_at (hints_of c.args.hints) c.loop-k.k c.get-hint.result c.get-hint.type_inv c.get-hint.ensures) w.1 c.in_err-clause.ensures.fault in
     grind (arith, common_steps, refused)
 
 pub returns-in-Nothing-clause-exact : goal.returns-in-Nothing-clause-exact
 returns-in-Nothing-clause-exact c =
-    let w = c.loop-hint.invariant.1 in
-    sym (ends_in_conflict c.args.live.now c.args.lits.now c.args.hints.now c.loop-hint.marks w.0 c.loop-hint.hint-index (get_or c.args.hints.now c.loop-hint.hint-index (pos 0)) c.in_ok-clause.clause.now c.loop-hint-test.true refl w.1 c.in_ok-clause.ensures.clause c.in-Nothing.ensures.left)
+    let w = c.loop-k.invariant.1 in
+    sym (ends_in_conflict c.args.live.now c.args.lits.now (hints_of c.args.hints) c.loop-k.marks w.0 c.loop-k.k (to_z w64 (of_z w64 c.get-hint.result)) c.in_ok-clause.clause.now (omega (arith, c.loop-k-test.true, c.len-k-end.ensures)) (hint_at (hints_of c.args.hints) c.loop-k.k c.get-hint.result c.get-hint.type_inv c.get-hint.ensures) w.1 c.in_ok-clause.ensures.clause c.in-Nothing.ensures.left)
 
 pub returns-in-More-clause-exact : goal.returns-in-More-clause-exact
 returns-in-More-clause-exact c =
-    let w = c.loop-hint.invariant.1 in
-    ap (λ r. Err r) c.not_unit.ensures ∙ sym (ends_not_unit c.args.live.now c.args.lits.now c.args.hints.now c.loop-hint.marks w.0 c.loop-hint.hint-index (get_or c.args.hints.now c.loop-hint.hint-index (pos 0)) c.in_ok-clause.clause.now c.loop-hint-test.true refl w.1 c.in_ok-clause.ensures.clause c.in-More.ensures.left)
+    let w = c.loop-k.invariant.1 in
+    ap (λ r. Err r) c.not_unit.ensures ∙ sym (ends_not_unit c.args.live.now c.args.lits.now (hints_of c.args.hints) c.loop-k.marks w.0 c.loop-k.k (to_z w64 (of_z w64 c.get-hint.result)) c.in_ok-clause.clause.now (omega (arith, c.loop-k-test.true, c.len-k-end.ensures)) (hint_at (hints_of c.args.hints) c.loop-k.k c.get-hint.result c.get-hint.type_inv c.get-hint.ensures) w.1 c.in_ok-clause.ensures.clause c.in-More.ensures.left)
 
-pub loop-hint-preserved : goal.loop-hint-preserved
-loop-hint-preserved c =
-    let w = c.loop-hint.invariant.1 in
+pub loop-k-preserved : goal.loop-k-preserved
+loop-k-preserved c =
+    let w = c.loop-k.invariant.1 in
     rw (c.put.ensures, c.negated.ensures)
-    (c.loop-hint.invariant.0, (w.0 ++ negation c.in-One.lit ∷ [], goes_on c.args.live.now c.args.lits.now c.args.hints.now c.loop-hint.marks w.0 c.loop-hint.hint-index (get_or c.args.hints.now c.loop-hint.hint-index (pos 0)) c.in_ok-clause.clause.now c.in-One.lit c.loop-hint-test.true refl w.1 c.in_ok-clause.ensures.clause c.in-One.ensures.left))
+    (c.loop-k.invariant.0, (w.0 ++ negation c.in-One.lit ∷ [], goes_on c.args.live.now c.args.lits.now (hints_of c.args.hints) c.loop-k.marks w.0 c.loop-k.k (to_z w64 (of_z w64 c.get-hint.result)) c.in_ok-clause.clause.now c.in-One.lit (omega (arith, c.loop-k-test.true, c.len-k-end.ensures)) (hint_at (hints_of c.args.hints) c.loop-k.k c.get-hint.result c.get-hint.type_inv c.get-hint.ensures) w.1 c.in_ok-clause.ensures.clause c.in-One.ensures.left))
 
 pub returns-clause-exact : goal.returns-clause-exact
 returns-clause-exact c =
-    let w = c.loop-hint.invariant.1 in
-    sym (ends_with_no_conflict c.args.live.now c.args.lits.now c.args.hints.now c.loop-hint.marks w.0 c.loop-hint.hint-index (pos 0) c.loop-hint-test.false w.1)
+    let w = c.loop-k.invariant.1 in
+    sym (ends_with_no_conflict c.args.live.now c.args.lits.now (hints_of c.args.hints) c.loop-k.marks w.0 c.loop-k.k (pos 0) (omega (arith, c.loop-k-test.false, c.len-k-end.ensures)) w.1)

@@ -22,6 +22,7 @@ invariant_of-self c =
         for_spans = c.self.invariant.1.for_spans;
         for_lits = omega (arith, longer, grown, c.self.invariant.1.for_lits, c.push_reserved.ensures.capacity, ap (λ (x : ArenaState). x.spare_lits) c.self.view_is, c.requires);
       },
+      c.self.invariant.2,
     )
 
 pub returns : goal.returns

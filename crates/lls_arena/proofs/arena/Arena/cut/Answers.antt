@@ -21,6 +21,7 @@ invariant_of-self c =
         for_spans = c.self.invariant.1.for_spans;
         for_lits = omega (arith, shorter, cut, c.len-end.ensures, c.if-keep-end.true, c.self.invariant.1.for_lits, c.truncate.ensures.capacity);
       },
+      c.self.invariant.2,
     )
 
 pub returns-then-keep-end : goal.returns-then-keep-end

@@ -3,6 +3,7 @@ use Rattle.std.proofs.lemmas.List.{length-set}
 use Rattle.lls_arena.specs.Arena.{ArenaState, HeadState}
 use Rattle.lls_arena.proofs.Heads.{live_inside}
 use Rattle.lls_arena.proofs.Changed.{AreAllWatched-killed, AreInOrder-killed, heads_in-killed}
+use Rattle.lls_arena.proofs.Told.{no_plan}
 use Rattle.lls_arena.proofs.arena.Arena.kill.Goals as goal
 
 pub index_mut-requires : goal.index_mut-requires
@@ -27,6 +28,7 @@ invariant_of-self c =
         for_spans = omega (arith, longer, c.self.invariant.1.for_spans);
         for_lits = c.self.invariant.1.for_lits;
       },
+      no_plan _,
     )
 
 pub returns : goal.returns

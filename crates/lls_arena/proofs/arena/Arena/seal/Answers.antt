@@ -6,6 +6,7 @@ use Rattle.lls_arena.specs.declared.arena.Span.{Span}
 use Rattle.lls_arena.specs.Arena.{ArenaState, HeadState, sealed}
 use Rattle.lls_arena.specs.Parts.{arena_in, heads_in}
 use Rattle.lls_arena.proofs.Heads.{AreAllWatched-push, AreInOrder-push, AreWatched-of, head_at-sealed, heads_in-push, length-heads_in}
+use Rattle.lls_arena.proofs.Told.{no_plan}
 use Rattle.lls_arena.proofs.arena.Arena.seal.Goals as goal
 
 pub invariant_of-self : goal.invariant_of-self
@@ -33,6 +34,7 @@ invariant_of-self c =
         for_spans = omega (arith, more_spans, span_pushed, spare, c.requires.spare, c.push_reserved-2.ensures.capacity, c.self.invariant.1.for_spans);
         for_lits = c.self.invariant.1.for_lits;
       },
+      no_plan _,
     )
 
 pub returns-clause-number : goal.returns-clause-number

@@ -6,6 +6,7 @@ use Rattle.lls_arena.specs.Arena.{ArenaState, HeadState, changed_at, with_link}
 use Rattle.lls_arena.specs.Parts.{AreAllWatched, heads_in}
 use Rattle.lls_arena.proofs.Heads.{live_inside, same_length}
 use Rattle.lls_arena.proofs.Changed.{AreAllWatched-linked, heads_in-linked}
+use Rattle.lls_arena.proofs.Told.{no_plan}
 use Rattle.lls_arena.proofs.arena.Arena.set_link.Goals as goal
 
 pub index_mut-requires : goal.index_mut-requires
@@ -29,6 +30,7 @@ invariant_of-self c =
         for_spans = c.self.invariant.1.for_spans;
         for_lits = c.self.invariant.1.for_lits;
       },
+      no_plan _,
     )
 
 pub returns : goal.returns

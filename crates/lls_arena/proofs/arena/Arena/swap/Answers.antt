@@ -3,9 +3,10 @@ use Rattle.std.specs.Prelude.{ℤ}
 use Rattle.std.specs.List.{slice_range}
 use Rattle.std.proofs.lemmas.List.{length-set}
 use Rattle.lls_arena.specs.Arena.{ArenaState, HeadState, changed_at, swapped}
-use Rattle.lls_arena.specs.Parts.{AreWatched, head_at, heads_in}
+use Rattle.lls_arena.specs.Parts.{AreWatched, DifferWithin, head_at, heads_in}
 use Rattle.lls_arena.proofs.Heads.{literal_inside, live_inside, same_length, span_at}
-use Rattle.lls_arena.proofs.Pieces.{AreAllWatched-changed, AreWatched-piece, DifferWithin, DifferWithin-swapped, drop-outside, head_at-swapped, heads_in-changed, slice_range-swapped}
+use Rattle.lls_arena.proofs.Pieces.{AreAllWatched-changed, AreWatched-piece, DifferWithin-swapped, drop-outside, head_at-swapped, heads_in-changed, slice_range-swapped}
+use Rattle.lls_arena.proofs.Told.{SayWhereTo-set}
 use Rattle.lls_arena.proofs.arena.Arena.swap.Goals as goal
 
 pub index-span-requires : goal.index-span-requires
@@ -94,8 +95,7 @@ invariant_of-self c =
     let same : length lits ≡ length a.lits.items = omega (arith, c.swap.ensures.len) in
     let differ : DifferWithin a.lits.items lits s.start s.end = DifferWithin-swapped a.lits.items lits s.start s.end c.args.i c.args.j c.swap.ensures.by_index same first second in
     let handed : c.piece.result.now ≡ slice_range lits s.start s.end = c.piece.ensures ∙ ap (λ (ls : List ℤ). slice_range ls s.start s.end) c.deref.ensures.value in
-    let watches : AreWatched lits c.watch.new.self s = AreWatched-piece lits c.piece.result.now c.watch.new.self s handed (omega (arith, at.ends, parts.tail_begins, same)) c.watch.ensures.first c.watch.ensures.second in
-    (
+    let watches : AreWatched lits c.watch.new.self s = AreWatched-piece lits c.piece.result.now c.watch.new.self s handed (omega (arith, at.ends, parts.tail_begins, same)) c.watch.ensures.first c.watch.ensures.second in (
       record {
         few = parts.few;
         in_order = parts.in_order;
@@ -107,6 +107,7 @@ invariant_of-self c =
         for_spans = c.self.invariant.1.for_spans;
         for_lits = omega (arith, same, c.swap.ensures.capacity, c.self.invariant.1.for_lits);
       },
+      λ planned. SayWhereTo-set a.edges.items a.spans.items c.args.c c.index_mut.result.now c.watch.new.self (omega (arith, lt, same_length a.lits.items a.edges.items a.spans.items parts.watched)) c.index_mut.ensures.value c.watch.ensures.first_link (c.self.invariant.2 planned),
     )
 
 pub returns : goal.returns

@@ -2,6 +2,7 @@ use Rattle.std.proofs.Common.{◌≡◌, true, false, refl, sym, ap, ◌∙◌}
 use Rattle.std.specs.Prelude.{is_some}
 use Rattle.lls_prooflog.specs.Steps.{find_clause}
 use Rattle.lls_lrat.specs.Checking.{Checking, IsChecking}
+use Rattle.lls_prooflog.specs.Lent.{hints_of}
 use Rattle.lls_lrat.proofs.Checks.{IsChecking-reach, IsChecking-add, good_addition, is_empty_addition-Add, is_some-copied}
 use Rattle.lls_lrat.proofs.checker.Checker.add.Goals as goal
 
@@ -31,9 +32,9 @@ invariant_of-self-then-is_empty c =
     let before : IsChecking k.formula.now k.live k.marks.vars false = rw (ap (λ (v : Checking). v.done) c.self.view_is ∙ c.requires) at c.self.invariant in
     let reached = IsChecking-reach k.formula.now k.live k.marks.vars c.reach.new.marks.vars false c.reach.ensures.grown before in
     let free : is_some (find_clause k.live c.args.id) ≡ false = ap is_some (sym c.find.ensures) ∙ is_some-copied c.find.result ∙ sym c.if-is_some.ensures in
-    let good = good_addition k.live c.args.id c.args.lits.now c.args.hints.now free (sym c.in_ok-follow_hints.ensures.exact) in
-    let empty = is_empty_addition-Add c.args.id c.args.lits.now c.args.hints.now ∙ sym c.if-is_empty.ensures in
-    rw (c.follow_hints.ensures.vars, c.in_ok-push.ensures.ok) (IsChecking-add k.formula.now k.live c.reach.new.marks.vars c.args.id c.args.lits.now c.args.hints.now true reached c.in_ok-reach.ensures.ok good empty)
+    let good = good_addition k.live c.args.id c.args.lits.now (hints_of c.args.hints) free (sym c.in_ok-follow_hints.ensures.exact) in
+    let empty = is_empty_addition-Add c.args.id c.args.lits.now (hints_of c.args.hints) ∙ sym c.if-is_empty.ensures in
+    rw (c.follow_hints.ensures.vars, c.in_ok-push.ensures.ok) (IsChecking-add k.formula.now k.live c.reach.new.marks.vars c.args.id c.args.lits.now (hints_of c.args.hints) true reached c.in_ok-reach.ensures.ok good empty)
 
 pub returns-then-is_empty-clause-sound : goal.returns-then-is_empty-clause-sound
 returns-then-is_empty-clause-sound c =
@@ -41,9 +42,9 @@ returns-then-is_empty-clause-sound c =
     let before : IsChecking k.formula.now k.live k.marks.vars false = rw (ap (λ (v : Checking). v.done) c.self.view_is ∙ c.requires) at c.self.invariant in
     let reached = IsChecking-reach k.formula.now k.live k.marks.vars c.reach.new.marks.vars false c.reach.ensures.grown before in
     let free : is_some (find_clause k.live c.args.id) ≡ false = ap is_some (sym c.find.ensures) ∙ is_some-copied c.find.result ∙ sym c.if-is_some.ensures in
-    let good = good_addition k.live c.args.id c.args.lits.now c.args.hints.now free (sym c.in_ok-follow_hints.ensures.exact) in
-    let empty = is_empty_addition-Add c.args.id c.args.lits.now c.args.hints.now ∙ sym c.if-is_empty.ensures in
-    λ _. (IsChecking-add k.formula.now k.live c.reach.new.marks.vars c.args.id c.args.lits.now c.args.hints.now true reached c.in_ok-reach.ensures.ok good empty).refuted refl
+    let good = good_addition k.live c.args.id c.args.lits.now (hints_of c.args.hints) free (sym c.in_ok-follow_hints.ensures.exact) in
+    let empty = is_empty_addition-Add c.args.id c.args.lits.now (hints_of c.args.hints) ∙ sym c.if-is_empty.ensures in
+    λ _. (IsChecking-add k.formula.now k.live c.reach.new.marks.vars c.args.id c.args.lits.now (hints_of c.args.hints) true reached c.in_ok-reach.ensures.ok good empty).refuted refl
 
 pub invariant_of-self-else-is_empty : goal.invariant_of-self-else-is_empty
 invariant_of-self-else-is_empty c =
@@ -51,6 +52,6 @@ invariant_of-self-else-is_empty c =
     let before : IsChecking k.formula.now k.live k.marks.vars false = rw (ap (λ (v : Checking). v.done) c.self.view_is ∙ c.requires) at c.self.invariant in
     let reached = IsChecking-reach k.formula.now k.live k.marks.vars c.reach.new.marks.vars false c.reach.ensures.grown before in
     let free : is_some (find_clause k.live c.args.id) ≡ false = ap is_some (sym c.find.ensures) ∙ is_some-copied c.find.result ∙ sym c.if-is_some.ensures in
-    let good = good_addition k.live c.args.id c.args.lits.now c.args.hints.now free (sym c.in_ok-follow_hints.ensures.exact) in
-    let empty = is_empty_addition-Add c.args.id c.args.lits.now c.args.hints.now ∙ sym c.if-is_empty.ensures in
-    rw (c.follow_hints.ensures.vars, c.in_ok-push.ensures.ok, ap (λ (v : Checking). v.done) c.self.view_is ∙ c.requires) (IsChecking-add k.formula.now k.live c.reach.new.marks.vars c.args.id c.args.lits.now c.args.hints.now false reached c.in_ok-reach.ensures.ok good empty)
+    let good = good_addition k.live c.args.id c.args.lits.now (hints_of c.args.hints) free (sym c.in_ok-follow_hints.ensures.exact) in
+    let empty = is_empty_addition-Add c.args.id c.args.lits.now (hints_of c.args.hints) ∙ sym c.if-is_empty.ensures in
+    rw (c.follow_hints.ensures.vars, c.in_ok-push.ensures.ok, ap (λ (v : Checking). v.done) c.self.view_is ∙ c.requires) (IsChecking-add k.formula.now k.live c.reach.new.marks.vars c.args.id c.args.lits.now (hints_of c.args.hints) false reached c.in_ok-reach.ensures.ok good empty)

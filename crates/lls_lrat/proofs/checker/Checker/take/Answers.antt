@@ -1,4 +1,5 @@
 use Rattle.std.proofs.Common.{false}
+use Rattle.lls_prooflog.specs.Lent.{ids_of}
 use Rattle.lls_lrat.specs.Checking.{IsChecking}
 use Rattle.lls_lrat.proofs.Checks.{IsChecking-delete}
 use Rattle.lls_lrat.proofs.checker.Checker.take.Goals as goal
@@ -7,4 +8,4 @@ pub invariant_of-self : goal.invariant_of-self
 invariant_of-self c =
     let k = c.self.inside in
     let before : IsChecking k.formula.now k.live k.marks.vars false = rw c.if-self.false at c.self.invariant in
-    rw (c.delete.ensures, c.if-self.false) (IsChecking-delete k.formula.now k.live k.marks.vars c.in-Del.ids.now before)
+    rw (c.delete.ensures, c.if-self.false) (IsChecking-delete k.formula.now k.live k.marks.vars (ids_of c.in-Del.ids) before)

@@ -1,11 +1,11 @@
 use Rattle.std.proofs.Common.{◌≡◌, ◌+◌, ◌-◌, ℕ, true, Some, sym, ap, ◌∙◌, subst, arith}
 use Rattle.std.specs.Prelude.{ℤ, slice_get}
 use Rattle.lls_lit.specs.Literal.{variable_of}
-use Rattle.lls_store.specs.Trail.{TrailState, literals_of}
+use Rattle.lls_store.specs.Trail.{TrailState, entry_of, level_of, literals_of}
 use Rattle.lls_order.specs.Order.{OrderState, is_in}
 use Rattle.lls_order.specs.Changes.{put_in}
 use Rattle.lls_solver.specs.Released.{AreReleased}
-use Rattle.lls_solver.proofs.Levels.{is_read, variable_read, IsAbove, above_next, above_end, above_none, test_told, above_told, below_told}
+use Rattle.lls_solver.proofs.Levels.{known_at_level, is_read, variable_read, IsAbove, above_next, above_end, above_none, test_told, above_told, below_told}
 use Rattle.lls_solver.proofs.Waiting.{waiting_put, waiting_front, released_next}
 use Rattle.lls_solver.proofs.course.Course.release.Goals as goal
 
@@ -16,7 +16,8 @@ pub is_above-requires : goal.is_above-requires
 is_above-requires c =
     let t = c.args.self.now.trail in
     let at = at_initial t c.loop-k.self.trail (c.loop-k.k - 1) c.lit-lit.result c.loop-k.invariant.trail c.lit-lit.ensures in
-    omega (arith, variable_read t (c.loop-k.k - 1) c.lit-lit.result c.requires.course.is_trail at, ap (λ (s : TrailState). s.vars) c.loop-k.invariant.trail)
+    let read = is_read t (c.loop-k.k - 1) c.lit-lit.result c.requires.course.is_trail at in
+    known_at_level (entry_of c.loop-k.self.trail.entries (variable_of c.lit-lit.result)) read.entry.level (ap (λ (s : TrailState). level_of s.entries (variable_of c.lit-lit.result)) c.loop-k.invariant.trail ∙ read.level)
 
 pub returns-then-not-is_above-clause-waiting : goal.returns-then-not-is_above-clause-waiting
 returns-then-not-is_above-clause-waiting c =

@@ -1,0 +1,6 @@
+use Rattle.lls_arena.specs.Parts.{heads_in}
+use Rattle.lls_arena.proofs.Sliding.{AreSliding}
+use Rattle.lls_arena.proofs.arena.slide_live.Given as goal
+
+abbrev pub invariant-loop-k : goal.invariant-loop-k
+invariant-loop-k l = AreSliding (heads_in l.initial.lits l.initial.edges l.initial.spans) l.edges l.spans l.lits l.k l.kept l.end

@@ -1,0 +1,32 @@
+use Rattle.std.proofs.Common.{◌<◌, length, ap, sym, ◌∙◌, refl, arith}
+use Rattle.std.proofs.lemmas.List.{get_or_default}
+use Rattle.lls_arena.specs.declared.edges.Edges.{Edges}
+use Rattle.lls_arena.proofs.Told.{IsTelling-dead, IsTelling-live, IsTelling-start}
+use Rattle.lls_arena.proofs.arena.tell_where_to.Goals as goal
+use Rattle.lls_arena.proofs.arena.tell_where_to.Goals.{then-spans-k, else-spans-k}
+
+pub loop-k-init : goal.loop-k-init
+loop-k-init c = IsTelling-start c.args.edges.now c.args.spans.now
+
+pub loop-k-preserved : goal.loop-k-preserved
+loop-k-preserved c =
+    let k = c.loop-k.k in
+    let lt : k < length c.args.spans.now = c.loop-k-test.true in
+    let among : k < length c.loop-k.edges = omega (arith, c.loop-k.auto.edges, c.requires.each, lt) in
+    elim c.if-spans-k.branch [
+      | then-spans-k w ↦
+          let e = w.index-edges-k.result in
+          rw (w.edges-is, w.before-is)
+          (IsTelling-live c.args.edges.now c.loop-k.edges c.args.spans.now k c.loop-k.before e _ c.loop-k.invariant among lt w.if-spans-k.true w.index-edges-k.is w.new.ensures
+          (ap (λ (x : Edges). x.first.lit) (get_or_default c.loop-k.edges k _ e among ∙ sym w.index-edges-k.is))
+          (ap (λ (x : Edges). x.second) (get_or_default c.loop-k.edges k _ e among ∙ sym w.index-edges-k.is)))
+      | else-spans-k w ↦ rw (w.edges-is, w.before-is) (IsTelling-dead c.args.edges.now c.loop-k.edges c.args.spans.now k c.loop-k.before c.loop-k.invariant lt w.if-spans-k.false)
+    ]
+
+pub returns : goal.returns
+returns c = record {
+  length_same = c.loop-k.auto.edges;
+  told = λ k d lt live. c.loop-k.invariant.told k d (omega (arith, lt, c.loop-k-test.false)) live;
+  first = c.loop-k.invariant.first;
+  second = c.loop-k.invariant.second;
+}
