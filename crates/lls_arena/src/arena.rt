@@ -141,10 +141,10 @@ impl Arena {
         self.edges[c as usize].edge(w).lit
     }
 
-    /// Gives one edge of a live clause another link.
+    /// Gives one edge of a clause another link. A dead clause's too, since a list leads through it until it is dropped there.
     #[inline]
     pub fn set_link(&mut self, c: u32, w: bool, next: Option<u32>)
-        requires live { IsLive self.old.heads c }
+        requires clause { c < length self.old.heads }
         requires next { ForSome next (λ n. n < MOST_HEADS) }
         ensures { self.new ≡ record self.old { heads = changed_at (with_link w next) c self.old.heads; planned = false } }
     {

@@ -4,7 +4,7 @@ use Rattle.std.proofs.lemmas.List.{length-set}
 use Rattle.lls_arena.specs.declared.edges.Edges.{Edges}
 use Rattle.lls_arena.specs.Arena.{ArenaState, HeadState, changed_at, with_link}
 use Rattle.lls_arena.specs.Parts.{AreAllWatched, heads_in}
-use Rattle.lls_arena.proofs.Heads.{live_inside, same_length}
+use Rattle.lls_arena.proofs.Heads.{inside, same_length}
 use Rattle.lls_arena.proofs.Changed.{AreAllWatched-linked, heads_in-linked}
 use Rattle.lls_arena.proofs.Told.{no_plan}
 use Rattle.lls_arena.proofs.arena.Arena.set_link.Goals as goal
@@ -12,7 +12,7 @@ use Rattle.lls_arena.proofs.arena.Arena.set_link.Goals as goal
 pub index_mut-requires : goal.index_mut-requires
 index_mut-requires c =
     let a = c.self.inside in
-    let lt : c.args.c < length a.spans.items = live_inside c.args.self.now a.lits.items a.edges.items a.spans.items c.args.c (ap (λ (x : ArenaState). x.heads) c.self.view_is) c.self.invariant.0.watched c.requires.live in
+    let lt : c.args.c < length a.spans.items = inside c.args.self.now a.lits.items a.edges.items a.spans.items c.args.c (ap (λ (x : ArenaState). x.heads) c.self.view_is) c.self.invariant.0.watched c.requires.clause in
     omega (arith, lt, same_length a.lits.items a.edges.items a.spans.items c.self.invariant.0.watched)
 
 pub invariant_of-self : goal.invariant_of-self
@@ -36,7 +36,7 @@ invariant_of-self c =
 pub returns : goal.returns
 returns c =
     let a = c.self.inside in
-    let lt : c.args.c < length a.spans.items = live_inside c.args.self.now a.lits.items a.edges.items a.spans.items c.args.c (ap (λ (x : ArenaState). x.heads) c.self.view_is) c.self.invariant.0.watched c.requires.live in
+    let lt : c.args.c < length a.spans.items = inside c.args.self.now a.lits.items a.edges.items a.spans.items c.args.c (ap (λ (x : ArenaState). x.heads) c.self.view_is) c.self.invariant.0.watched c.requires.clause in
     let known : c.args.c < length a.edges.items = omega (arith, lt, same_length a.lits.items a.edges.items a.spans.items c.self.invariant.0.watched) in
     rw (← c.self.view_is, c.set_next.ensures)
     (ap (λ (heads : List HeadState). record { heads = heads; tail = drop a.tail a.lits.items; spare_heads = a.spare_heads; spare_lits = a.spare_lits; planned = false })
