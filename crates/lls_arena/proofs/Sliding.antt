@@ -141,10 +141,10 @@ head_at-slid lits new e moved s put end to slid live =
 AreWatched-slid : (lits new : List ℤ) (e moved : Edges) (s put : Span) (end to : ℕ) → HasSlid lits new e moved s put end to → s.start ≤ s.end → AreWatched lits e s → AreWatched new moved put
 AreWatched-slid lits new e moved s put end to slid straight watched =
     let at : (k : ℕ) → k < s.end - s.start → get_or lits (s.start + k) (pos 0) ≡ get_or new (put.start + k) (pos 0) = λ k lt.
-        sym (get_or-slice_range lits s.start s.end k (pos 0) lt)
-        ∙ ap (λ (ls : List ℤ). get_or ls k (pos 0)) (sym slid.piece)
-        ∙ get_or-slice_range new end to k (pos 0) (omega (arith, slid.long))
-        ∙ ap (λ n. get_or new (n + k) (pos 0)) (sym slid.starts)
+    sym (get_or-slice_range lits s.start s.end k (pos 0) lt)
+    ∙ ap (λ (ls : List ℤ). get_or ls k (pos 0)) (sym slid.piece)
+    ∙ get_or-slice_range new end to k (pos 0) (omega (arith, slid.long))
+    ∙ ap (λ n. get_or new (n + k) (pos 0)) (sym slid.starts)
     in
     record {
       first = λ lt.

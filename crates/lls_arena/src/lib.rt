@@ -6,6 +6,8 @@
 
 mod arena;
 mod edges;
+#[cfg(test)]
+mod tests;
 
 pub use arena::Arena;
 

@@ -36,8 +36,7 @@ invariant_of-self c =
     let counted_lits = ap length new_lits in
     let old_spans : length spans ≤ length a.spans.items = omega (arith, c.slide_live-kept.auto.spans, ap length c.deref_mut-2.ensures.value) in
     let old_edges : length edges ≤ length a.edges.items = omega (arith, c.slide_live-kept.auto.edges, ap length c.deref_mut.ensures.value) in
-    let old_lits : length lits ≤ length a.lits.items = omega (arith, c.slide_live-kept.auto.lits, ap length c.deref_mut-3.ensures.value) in
-    (
+    let old_lits : length lits ≤ length a.lits.items = omega (arith, c.slide_live-kept.auto.lits, ap length c.deref_mut-3.ensures.value) in (
       record {
         few = omega (arith, counted, fewer, old_spans, parts.few);
         in_order = rw new_spans slid.in_order;
