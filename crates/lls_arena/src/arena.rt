@@ -125,7 +125,8 @@ impl Arena {
     #[inline]
     pub fn link(&self, c: u32, w: bool) -> Option<u32>
         requires { c < length self.now.heads }
-        ensures { slice_get (map (link_of w) self.now.heads) c ≡ Some result }
+        ensures link { slice_get (map (link_of w) self.now.heads) c ≡ Some result }
+        ensures fits { ForSome result (λ n. n < MOST_HEADS) }
     {
         self.edges[c as usize].edge(w).next.next()
     }

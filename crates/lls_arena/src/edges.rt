@@ -40,7 +40,8 @@ impl Link {
 
     #[inline]
     pub(crate) fn next(self) -> Option<u32>
-        ensures { result ≡ link_in self }
+        ensures link { result ≡ link_in self }
+        ensures fits { ForSome result (λ n. n < MOST_HEADS) }
     {
         if self.after == 0 {
             None

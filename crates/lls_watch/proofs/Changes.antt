@@ -203,3 +203,8 @@ leads_on_rewatched heads c k n w lit next apart leads =
         let seen : watched (not w) new ≡ lit = is.other ∙ subst (λ b. watched b h ≡ lit) side watches in
         let new_side : side_of new lit ≡ not w = ap (side_of new) (sym seen) ∙ side_from new (not w) is.watching in
         (is.watching, (ap (λ b. watched b new) new_side ∙ seen, ap (λ b. link_of b new) new_side ∙ link_swapped (not w) (place_of w) n h ∙ ap (λ b. link_of b h) (sym side)))
+
+pub read_some : (xs : List ℤ) (k : ℕ) (x : ℤ) → slice_get xs k ≡ Some x → slice_index_or xs k (pos 0) ≡ x
+read_some [] k x e = absurd cc
+read_some (y ∷ ys) zero x e = cc
+read_some (y ∷ ys) (suc k) x e = read_some ys k x e

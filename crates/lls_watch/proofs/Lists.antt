@@ -1,6 +1,6 @@
 -- The lists of all literals: what each change of a link or of a first clause makes of them.
 use Rattle.std.proofs.Common.{◌≡◌, ◌<◌, zero, suc, ℕ, Bool, true, false, not, ◌||◌, cond, List, [], ◌∷◌, ◌++◌, Option, Some, None, refl, sym, ap, ◌∙◌, subst, arith, length}
-use Rattle.std.specs.Prelude.{◌≢◌, ℤ, slice_get, ◌==◌, slice_set, slice_index_or}
+use Rattle.std.specs.Prelude.{◌≢◌, ℤ, pos, slice_get, ◌==◌, slice_set, slice_index_or}
 use Rattle.std.specs.List.{list_any}
 use Rattle.std.proofs.Math.Dec.{eqb}
 use Rattle.std.proofs.lemmas.List.{get_or-set_same, get_or-set_other, length-set, append_assoc}
@@ -8,7 +8,8 @@ use Rattle.std.proofs.lemmas.Bool.{eq-eqb, eqb-true, eqb-false}
 use Rattle.lls_lit.specs.Literal.{index_of, literal_at}
 use Rattle.lls_lit.specs.Indices.{index_of-literal_at}
 use Rattle.lls_arena.specs.Arena.{HeadState, changed_at, with_link, link_of}
-use Rattle.lls_watch.specs.Watches.{WatchState, Lists, LeadsOn, IsWatching, IsSegment, IsOnce, IsThreaded, has, watched, side_of, with_list, with_link_at, with_first}
+use Rattle.lls_watch.specs.Watches.{WatchState, Lists, LeadsOn, IsWatching, IsSegment, IsOnce, IsThreaded, has, watched, side_of, with_list, with_link_at, with_first, WatchesAt, IsNotIn, list_of, with_attached}
+use Rattle.std.specs.Option.{option_map_or}
 use Rattle.lls_watch.proofs.Changes.{leads_on_kept, leads_on_changed}
 use Rattle.lls_watch.proofs.Chains.{segment_kept, segment_append, segment_split, leads_to_one, once_split, once_without}
 
@@ -155,3 +156,12 @@ lists_kept state new lists each threaded = record {
     chained = λ k k_in. segment_kept state.arena.heads new (literal_at k) (start_of state k) (lists k) None (λ c next among leads. each k c next k_in among leads) (threaded.chained k k_in);
     once = threaded.once;
   }
+
+-- the same by the clause's number and its edge
+pub attached_at : (state : WatchState) (lists : Lists) (c : ℕ) (w : Bool) (known : WatchesAt state c w) → literal_at (index_of (watched w known.head)) ≡ watched w known.head
+    → IsThreaded state lists → IsNotIn lists state c w
+    → IsThreaded (with_first (list_of state c w) (Some c) (with_link_at c w (slice_index_or state.first (list_of state c w) None) state)) (with_attached lists state c w)
+attached_at state lists c w known literal threaded absent =
+    let at : list_of state c w ≡ index_of (watched w known.head) = ap (λ o. index_of (option_map_or (watched w) o (pos 0))) known.is_head in
+    subst (λ i. has (lists i) c ≡ false → IsThreaded (with_first i (Some c) (with_link_at c w (slice_index_or state.first i None) state)) (with_list i (c ∷ lists i) lists)) (sym at)
+        (λ out. attached state lists c w (index_of (watched w known.head)) known.head known.is_head known.watching (sym literal) known.within out threaded) absent

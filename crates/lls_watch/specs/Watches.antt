@@ -1,6 +1,7 @@
 -- Lists of the clauses that watch each literal, threaded through the links of an arena.
 use Rattle.std.specs.Prelude.{◌≡◌, ◌≢◌, ◌<◌, ◌≤◌, ◌+◌, ◌*◌, ℕ, ℤ, pos, Bool, true, false, not, List, [], ◌∷◌, ◌++◌, All, length, slice_get, slice_index_or, slice_set, Option, Some, None, if◌then◌else◌, ◌==◌, ⊤}
 use Rattle.std.specs.List.{list_any}
+use Rattle.std.specs.Option.{option_map_or}
 use Rattle.std.specs.Ordering.{int_eq}
 use Rattle.lls_lit.specs.Literal.{index_of, literal_at}
 use Rattle.lls_arena.specs.Arena.{ArenaState, HeadState, link_of, with_link, changed_at, swapped, place_of}
@@ -65,3 +66,25 @@ with_link_at c w next state = record state { arena = record state.arena { heads 
 -- a literal's list begins with that clause
 abbrev pub with_first : ℕ → Option ℕ → WatchState → WatchState
 with_first i start state = record state { first = slice_set state.first i start }
+
+-- the clause of that number is there and watches two literals; the one of this edge has a list
+pub record WatchesAt (state : WatchState) (c : ℕ) (w : Bool) : Type 0 where
+  pub head : HeadState
+  pub is_head : slice_get state.arena.heads c ≡ Some head
+  pub watching : IsWatching head
+  pub within : index_of (watched w head) < length state.first
+
+-- which list the edge belongs to
+abbrev pub list_of : WatchState → ℕ → Bool → ℕ
+list_of state c w = index_of (option_map_or (watched w) (slice_get state.arena.heads c) (pos 0))
+
+-- the clause is put before its edge's list
+abbrev pub AttachedAt : ℕ → Bool → WatchState → WatchState → Type 0
+AttachedAt c w old new = new ≡ with_first (list_of old c w) (Some c) (with_link_at c w (slice_index_or old.first (list_of old c w) None) old)
+
+-- the clause isn't in that list
+abbrev pub IsNotIn : Lists → WatchState → ℕ → Bool → Type 0
+IsNotIn lists state c w = has (lists (list_of state c w)) c ≡ false
+
+abbrev pub with_attached : Lists → WatchState → ℕ → Bool → Lists
+with_attached lists state c w = with_list (list_of state c w) (c ∷ lists (list_of state c w)) lists

@@ -1,10 +1,13 @@
 // Lists of the clauses that watch each literal.
-ghost use Rattle.std.specs.Prelude.{◌≡◌, ◌<◌};
+ghost use Rattle.std.specs.Prelude.{◌≡◌, ◌≢◌, ◌<◌, ◌≤◌, ◌*◌, ◌∷◌, ◌++◌, ℕ, ℤ, Bool, not, false, List, [], length, replicate, slice_get, slice_index_or, IfOk, IfSome, Option, None, Some};
 ghost use Rattle.std.specs.Option.{ForSome};
-ghost use Rattle.lls_lit.specs.Literal.{index_of};
-ghost use Rattle.lls_arena.specs.Arena.{IsLive};
+ghost use Rattle.lls_lit.specs.Literal.{index_of, literal_at};
+ghost use Rattle.lls_arena.specs.Arena.{HeadState, IsLive, empty_arena};
+ghost use Rattle.lls_watch.specs.Watches.{AttachedAt, IsNotIn, IsThreaded, Lists, WatchesAt, with_attached};
 
-use lls_arena::Arena;
+use lls_arena::{Arena, MOST_HEADS};
+use lls_base::Memory;
+use lls_lit::{Lit, Var};
 use std::alloc::Global;
 use std::marker::Model;
 
@@ -12,21 +15,65 @@ use std::marker::Model;
 #[derive(Debug, Drop)]
 pub struct Watches {
     arena: Arena,
+    // By literal, the first clause of its list.
     first: Vec<Option<u32>>,
 }
 
 impl Model for Watches {
+    ghost use Rattle.std.specs.Prelude.{◌<◌, All};
+    ghost use Rattle.std.specs.Option.{ForSome};
+    ghost use Rattle.lls_arena.specs.declared.TheConstants.{MOST_HEADS};
     ghost use Rattle.lls_watch.specs.Watches.{WatchState};
 
     ghost Value = { WatchState };
 
     ghost view = { λ w. record { arena = w.arena; first = w.first.items } };
+
+    ghost invariant = { λ w. All (λ o. ForSome o (λ n. n < MOST_HEADS)) w.first.items };
 }
 
 impl Watches {
+    /// Empty lists for so many variables, and no clause.
+    pub fn new(alloc: Global, vars: u32) -> Result<Watches, Memory>
+        requires { vars ≤ Var.MOST }
+        ensures arena { IfOk result (λ w. w.arena ≡ empty_arena) }
+        ensures first { IfOk result (λ w. w.first ≡ replicate (2 * vars) None) }
+        ensures threaded { IfOk result (λ w. IsThreaded w (λ _. [])) }
+    {
+        let first = vec![in alloc; None; 2 * vars as usize]?;
+        Ok(Watches {
+            arena: Arena::new(alloc),
+            first,
+        })
+    }
+
+    /// The arena.
+    #[inline]
     pub fn arena(&self) -> &Arena
         ensures { result.now ≡ self.now.arena }
     {
         &self.arena
+    }
+
+    /// The first clause of a literal's list.
+    #[inline]
+    pub fn first(&self, lit: Lit) -> Option<u32>
+        requires { index_of lit < length self.now.first }
+        ensures { slice_get self.now.first (index_of lit) ≡ Some result }
+    {
+        self.first[lit.index()]
+    }
+
+    /// Puts a clause first in the list of its first literal, or of its second where `w`.
+    #[inline]
+    pub fn attach(&mut self, c: u32, w: bool)
+        requires clause { WatchesAt self.old c w }
+        ensures state { AttachedAt c w self.old self.new }
+        ensures threaded { (lists : Lists) → IsThreaded self.old lists → IsNotIn lists self.old c w → IsThreaded self.new (with_attached lists self.old c w) }
+    {
+        let _count = self.arena.count();
+        let i = self.arena.watched(c, w).index();
+        self.arena.set_link(c, w, self.first[i]);
+        self.first[i] = Some(c);
     }
 }

@@ -10,8 +10,8 @@ index-requires c =
     let lt : c.args.c < length a.spans.items = inside c.args.self.now a.lits.items a.edges.items a.spans.items c.args.c (ap (λ (x : ArenaState). x.heads) c.self.view_is) c.self.invariant.0.watched c.requires in
     omega (arith, lt, same_length a.lits.items a.edges.items a.spans.items c.self.invariant.0.watched)
 
-pub returns : goal.returns
-returns c =
+pub returns-clause-link : goal.returns-clause-link
+returns-clause-link c =
     let a = c.self.inside in
-    rw (← c.self.view_is, c.next.ensures)
+    rw (← c.self.view_is, c.next.ensures.link)
     (link_at a.lits.items a.edges.items a.spans.items c.args.c c.args.w c.index.result.now c.edge.result c.self.invariant.0.watched (inside c.args.self.now a.lits.items a.edges.items a.spans.items c.args.c (ap (λ (x : ArenaState). x.heads) c.self.view_is) c.self.invariant.0.watched c.requires) c.index.ensures c.edge.ensures)
