@@ -109,6 +109,7 @@ impl Analyser {
         ensures tracked { S.tracks store.new trail.now }
         ensures sound { IsSound (S.state store.new).live trail.now }
     {
+        // What holds of all live clauses and of every trail is known from here on.
         store.count();
         trail.len();
         analyse(
@@ -146,6 +147,7 @@ impl Analyser {
         ensures vars { self.new ≡ self.old }
         ensures refutes { Refutes (S.state store.now).live id log.old.steps log.new.steps }
     {
+        // What holds of all live clauses and of every trail is known from here on.
         store.count();
         trail.len();
         analyse_at_zero(

@@ -1,16 +1,16 @@
 -- Where live clauses are to go, as the first edge of each says it.
-use Rattle.std.proofs.Common.{◌≡◌, ◌≢◌, ◌⊎◌, inl, inr, ℕ, zero, suc, ◌+◌, ◌<◌, Bool, true, false, cond, List, [], ◌∷◌, length, get_or, set, take, Option, Some, None, refl, sym, ap, subst, ◌∙◌, arith, zero-add}
+use Rattle.std.proofs.Common.{◌≡◌, ◌≢◌, ◌⊎◌, inl, inr, ℕ, zero, suc, ◌+◌, ◌<◌, Bool, true, false, cond, List, [], ◌∷◌, length, get_or, set, take, Option, Some, refl, sym, ap, ◌∙◌, arith, zero-add}
 use Rattle.std.specs.Prelude.{ℤ, map, count_by, unwrap_or}
 use Rattle.std.proofs.lemmas.Bool.Decides.{eqb_tells}
-use Rattle.std.proofs.lemmas.List.{get_or-set_other, get_or-set_same, get_or_default, length-set}
+use Rattle.std.proofs.lemmas.List.{get_or-set_other, get_or-set_same, get_or_default}
 use Rattle.std.proofs.lemmas.List.Sums.{count_by_more_no, count_by_more_yes, sum_by-append}
 use Rattle.std.proofs.lemmas.Option.{same_Some}
 use Rattle.lls_arena.specs.declared.edges.Edges.{Edges}
 use Rattle.lls_arena.specs.declared.arena.Span.{Span}
 use Rattle.lls_arena.specs.Arena.{HeadState, IsLive, live_before, unlinked}
 use Rattle.lls_arena.specs.Links.{link_in}
-use Rattle.lls_arena.specs.Parts.{AreAllWatched, AreTold, AreWatched, SayWhereTo, head_at, heads_in, is_live_at, live_spans}
-use Rattle.lls_arena.proofs.Heads.{no_edges, no_span, read_span}
+use Rattle.lls_arena.specs.Parts.{AreAllWatched, SayWhereTo, head_at, heads_in, is_live_at, live_spans}
+use Rattle.lls_arena.proofs.Heads.{no_span, read_span}
 
 -- nothing is said of an arena that isn't planned
 pub no_plan : (P : Type 0) → false ≡ true → P

@@ -1,5 +1,5 @@
 -- What an arena of clauses is seen as, and what its calls make of it.
-use Rattle.std.specs.Prelude.{◌≡◌, ◌<◌, ℕ, zero, suc, ◌-◌, ℤ, Bool, true, false, List, [], ◌∷◌, ◌++◌, length, map, filter, count_by, slice_get, swap, take, Option, Some, None}
+use Rattle.std.specs.Prelude.{◌≡◌, ℕ, zero, suc, ◌-◌, ℤ, Bool, true, false, List, [], ◌∷◌, ◌++◌, map, filter, count_by, slice_get, swap, take, Option, Some, None}
 
 -- a clause under its id, whether it is live, and the links of its two edges
 pub record HeadState : Type 0 where

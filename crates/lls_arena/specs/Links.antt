@@ -1,7 +1,6 @@
 -- For private contracts alone: a link is kept as one more than the number that it leads to, and no link as 0.
 use Rattle.std.specs.Prelude.{ℕ, zero, suc, Bool, true, false, Option, Some, None}
 use Rattle.lls_arena.specs.declared.edges.Link.{Link}
-use Rattle.lls_arena.specs.declared.edges.Edge.{Edge}
 use Rattle.lls_arena.specs.declared.edges.Edges.{Edges}
 
 abbrev pub linked : ℕ → Option ℕ

@@ -1,5 +1,5 @@
 -- For private contracts alone: an arena is kept as a table of edges, a table of spans, and one buffer of literals.
-use Rattle.std.specs.Prelude.{◌≡◌, ◌≤◌, ◌<◌, ℕ, ◌+◌, ◌*◌, ◌-◌, ℤ, pos, Bool, true, false, List, [], ◌∷◌, ◌⊎◌, All, count_by, drop, filter, length, map, slice_get, slice_index_or, take, Some}
+use Rattle.std.specs.Prelude.{◌≡◌, ◌≤◌, ◌<◌, ℕ, ◌+◌, ℤ, pos, Bool, true, false, List, [], ◌∷◌, ◌⊎◌, count_by, drop, filter, length, map, slice_index_or, take, Some}
 use Rattle.std.specs.List.{slice_range}
 use Rattle.lls_arena.specs.declared.TheConstants.{MOST_HEADS}
 use Rattle.lls_arena.specs.declared.edges.Edges.{Edges}

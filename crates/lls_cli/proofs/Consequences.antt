@@ -26,7 +26,7 @@ use Rattle.lls_cli.specs.declared.status.Status.{Status}
 use Rattle.lls_cli.specs.declared.status.Status.TheVariants as statuses
 use Rattle.lls_cli.specs.Fault.{status_of, words_status, posed_status, demand_status, dimacs_status, rle_status}
 use Rattle.lls_cli.specs.Evidence.{NamedFile}
-use Rattle.lls_cli.specs.Answer.{GivenAnswer, IsAnswer, Holds, YesHolds, NoHolds, IsThere, IsNowhere}
+use Rattle.lls_cli.specs.Answer.{GivenAnswer, IsAnswer, Holds, YesHolds, NoHolds, IsThere, IsNowhere, HasShortBudget}
 use Rattle.lls_cli.specs.Question.{Question, question_of, Asks}
 use Rattle.lls_cli.specs.Moment.{ShelfMoment, SinkMoment, Moment, with_shelf, files_at}
 use Rattle.lls_cli.specs.Ends.{LacksMemory, FileFailed, WroteFile, IsDecided, with_file, End, refused, lacked, input_failed, ahead_failed, answered, file_failed, output_failed, IsEndOf, IsEndBehind, Ends, ahead_of, IsEnd}
@@ -228,11 +228,11 @@ stays_silent (Err error) before after status (file_failed answer fault, ended) s
 stays_silent (Err error) before after status (output_failed answer, ended) silent = absurd ended
 
 pub asks-question_of : (job : Job) (files : Files) (question : Result Question Fault) → Asks job (Some files) question → question_of job files ≡ question
-asks-question_of (jobs.Check one two rule demands) files question asked = rw (← asked.first_is, ← asked.second_is) (sym asked.made)
+asks-question_of (jobs.Check one two rule demands form) files question asked = rw (← asked.first_is, ← asked.second_is) (sym asked.made)
 asks-question_of (jobs.Judge one two rule demands rle) files question asked = rw (← asked.first_is, ← asked.second_is) (sym asked.made)
-asks-question_of (jobs.Search one two rule demands budget keep_all rle) files question asked = rw (← asked.input_is) (sym asked.made)
+asks-question_of (jobs.Search one two rule demands form budget keep_all rle) files question asked = rw (← asked.input_is) (sym asked.made)
 asks-question_of (jobs.Sat one two budget keep_all) files question asked = rw (← asked.input_is) (sym asked.made)
-asks-question_of (jobs.Cnf one rule demands) files question asked = rw (← asked.input_is) (sym asked.made)
+asks-question_of (jobs.Cnf one rule demands form) files question asked = rw (← asked.input_is) (sym asked.made)
 asks-question_of (jobs.Lrat one two) files question asked = rw (← asked.first_is, ← asked.second_is) (sym asked.made)
 asks-question_of (jobs.Rule rule) files question asked = sym asked
 asks-question_of (jobs.Make seed size one two) files question asked = sym asked
@@ -376,6 +376,10 @@ found_means job before after status ended is =
 pub none_means : (job : Result Job WordsError) (before after : Moment) (status : Status) → (end : End) × IsEnd job before after status end → status ≡ statuses.NoPattern → OfQuestion IsNowhere job (files_at before.shelf)
 none_means job before after status ended is =
     status_means IsNowhere job before after status ended (subst IsAnswered (sym is) tt) (λ question holds. subst (Holds question) is holds)
+
+pub short_means : (job : Result Job WordsError) (before after : Moment) (status : Status) → (end : End) × IsEnd job before after status end → status ≡ statuses.Undecided → OfQuestion HasShortBudget job (files_at before.shelf)
+short_means job before after status ended is =
+    status_means HasShortBudget job before after status ended (subst IsAnswered (sym is) tt) (λ question holds. subst (Holds question) is holds)
 
 same-≤ : (m n : ℕ) → n ≡ m → m ≤ n
 same-≤ m n e = omega (arith, e)

@@ -51,11 +51,11 @@ words_refused error shelf out err_before err_after status fits (inr said) = (lac
 
 LeavesShelf-refl : (job : Job) (shelf : ShelfMoment) → LeavesShelf job shelf shelf
 LeavesShelf-refl (jobs.Rule rule) shelf = refl
-LeavesShelf-refl (jobs.Check one two rule demands) shelf = tt
+LeavesShelf-refl (jobs.Check one two rule demands form) shelf = tt
 LeavesShelf-refl (jobs.Judge one two rule demands rle) shelf = tt
-LeavesShelf-refl (jobs.Cnf one rule demands) shelf = tt
+LeavesShelf-refl (jobs.Cnf one rule demands form) shelf = tt
 LeavesShelf-refl (jobs.Lrat one two) shelf = tt
-LeavesShelf-refl (jobs.Search one two rule demands budget keep_all rle) shelf = tt
+LeavesShelf-refl (jobs.Search one two rule demands form budget keep_all rle) shelf = tt
 LeavesShelf-refl (jobs.Sat one two budget keep_all) shelf = tt
 LeavesShelf-refl (jobs.Make seed size one two) shelf = tt
 
@@ -166,11 +166,11 @@ leaves_both (jobs.Rule rule) question files before mid after asked first second 
     let P : Question → Type 0 = λ q. LeavesPrinting q mid after in
     let last : after ≡ mid = subst P same second in
     last ∙ first
-leaves_both (jobs.Check one two rule demands) question files before mid after asked first second = tt
+leaves_both (jobs.Check one two rule demands form) question files before mid after asked first second = tt
 leaves_both (jobs.Judge one two rule demands rle) question files before mid after asked first second = tt
-leaves_both (jobs.Cnf one rule demands) question files before mid after asked first second = tt
+leaves_both (jobs.Cnf one rule demands form) question files before mid after asked first second = tt
 leaves_both (jobs.Lrat one two) question files before mid after asked first second = tt
-leaves_both (jobs.Search one two rule demands budget keep_all rle) question files before mid after asked first second = tt
+leaves_both (jobs.Search one two rule demands form budget keep_all rle) question files before mid after asked first second = tt
 leaves_both (jobs.Sat one two budget keep_all) question files before mid after asked first second = tt
 leaves_both (jobs.Make seed size one two) question files before mid after asked first second = tt
 

@@ -3,22 +3,23 @@ use Rattle.std.proofs.Common.{◌≡◌, ℕ, Bool, List, Option, None, Some, Re
 use Rattle.lls_lit.specs.Formula.{Cnf}
 use Rattle.lls_problem.specs.declared.judgement.Judgement.{Judgement}
 use Rattle.lls_problem.specs.declared.judgement.Judgement.TheVariants as judgements
-use Rattle.lls_problem.specs.Problem.{PosedProblem}
 use Rattle.lls_gen.specs.Made.{made_problem}
+use Rattle.lls_problem.specs.declared.form.Form.TheVariants.{Rows}
 use Rattle.lls_encode.specs.Formula.{formula_of}
 use Rattle.lls_lrat.specs.declared.error.CheckError.{CheckError}
 use Rattle.lls_prooflog.specs.declared.step.Step.{Step}
+use Rattle.lls_cli.specs.declared.question.Asked.{Asked}
 use Rattle.lls_cli.specs.declared.status.Status.{Status}
 use Rattle.lls_cli.specs.declared.status.Status.TheVariants as statuses
-use Rattle.lls_cli.specs.Question.{Question, Effort, checks, refutes, judges, searches, decides, encodes, prints, makes}
+use Rattle.lls_cli.specs.Question.{Question, Effort, formula_asked, checks, refutes, judges, searches, decides, encodes, prints, makes}
 use Rattle.lls_cli.specs.Evidence.{NamedFile, HasLog, HasProof, HasSpentLog}
 use Rattle.lls_cli.specs.Answer.{GivenAnswer, check_answer, judge_answer, Answers, IsDecision, IsFinding, IsMaking, satisfied, unsatisfied, unknown, found, absent, undecided, solved, unsolved}
 
 -- what a question searches: a formula, with some effort
 abbrev pub searched : Question → Option (Cnf × Effort)
-searched (searches problem effort rle) = Some (formula_of problem, effort)
+searched (searches asked effort rle) = Some (formula_asked asked, effort)
 searched (decides formula effort) = Some (formula, effort)
-searched (makes seed size name effort) = Some (formula_of (made_problem seed size), effort)
+searched (makes seed size name effort) = Some (formula_of (made_problem seed size) Rows, effort)
 searched question = None
 
 -- the statuses at which a search leaves a file, and what it leaves there
@@ -68,26 +69,26 @@ judge_evidence (judgements.Rule t y x) = record { none = refl; unlogged = λ log
 judge_evidence (judgements.Population t n) = record { none = refl; unlogged = λ logged. logged }
 judge_evidence judgements.Same = record { none = refl; unlogged = λ logged. logged }
 
-finding_evidence : (problem : PosedProblem) (effort : Effort) (rle : Bool) (answer : GivenAnswer) → IsFinding problem effort rle answer → Evidence (Some (formula_of problem, effort)) answer
-finding_evidence problem effort rle _ (found history is law) = inl (record { none = refl; unlogged = λ logged. logged })
-finding_evidence problem effort rle _ (absent file proof) = inr (record { file = file; file_is = refl; named = named_by effort proof.steps file proof.log; logged = tt; has = proof })
-finding_evidence problem effort rle _ (undecided file log) = inr (record { file = file; file_is = refl; named = named_by effort log.steps file log.log; logged = tt; has = log })
+finding_evidence : (asked : Asked) (effort : Effort) (rle : Bool) (answer : GivenAnswer) → IsFinding asked effort rle answer → Evidence (Some (formula_asked asked, effort)) answer
+finding_evidence asked effort rle _ (found history is law) = inl (record { none = refl; unlogged = λ logged. logged })
+finding_evidence asked effort rle _ (absent file proof) = inr (record { file = file; file_is = refl; named = named_by effort proof.steps file proof.log; logged = tt; has = proof })
+finding_evidence asked effort rle _ (undecided file log) = inr (record { file = file; file_is = refl; named = named_by effort log.steps file log.log; logged = tt; has = log })
 
 decision_evidence : (formula : Cnf) (effort : Effort) (answer : GivenAnswer) → IsDecision formula effort answer → Evidence (Some (formula, effort)) answer
 decision_evidence formula effort _ (satisfied values is) = inl (record { none = refl; unlogged = λ logged. logged })
 decision_evidence formula effort _ (unsatisfied file proof) = inr (record { file = file; file_is = refl; named = named_by effort proof.steps file proof.log; logged = tt; has = proof })
 decision_evidence formula effort _ (unknown file log) = inr (record { file = file; file_is = refl; named = named_by effort log.steps file log.log; logged = tt; has = log })
 
-making_evidence : (seed size : ℕ) (effort : Effort) (answer : GivenAnswer) → IsMaking seed size effort answer → Evidence (Some (formula_of (made_problem seed size), effort)) answer
+making_evidence : (seed size : ℕ) (effort : Effort) (answer : GivenAnswer) → IsMaking seed size effort answer → Evidence (Some (formula_of (made_problem seed size) Rows, effort)) answer
 making_evidence seed size effort _ solved = inl (record { none = refl; unlogged = λ logged. logged })
 making_evidence seed size effort _ (unsolved file log) = inr (record { file = file; file_is = refl; named = named_by effort log.steps file log.log; logged = tt; has = log })
 
 pub evidence : (question : Question) (answer : GivenAnswer) → Answers question answer → Evidence (searched question) answer
-evidence (checks problem bytes) answer right = subst LeavesNone (sym right) (check_evidence _)
+evidence (checks asked bytes) answer right = subst LeavesNone (sym right) (check_evidence _)
 evidence (refutes formula bytes) answer right = subst LeavesNone (sym right) (check_evidence _)
 evidence (judges problem history) answer right = subst LeavesNone (sym right.2) (judge_evidence right.0)
-evidence (searches problem effort rle) answer right = finding_evidence problem effort rle answer right
+evidence (searches asked effort rle) answer right = finding_evidence asked effort rle answer right
 evidence (decides formula effort) answer right = decision_evidence formula effort answer right
-evidence (encodes problem) answer right = subst LeavesNone (sym right) (record { none = refl; unlogged = λ logged. logged })
+evidence (encodes asked) answer right = subst LeavesNone (sym right) (record { none = refl; unlogged = λ logged. logged })
 evidence (prints rule) answer right = subst LeavesNone (sym right) (record { none = refl; unlogged = λ logged. logged })
 evidence (makes seed size name effort) answer right = making_evidence seed size effort answer right

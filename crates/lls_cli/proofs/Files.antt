@@ -13,7 +13,7 @@ use Rattle.lls_words.specs.declared.job.Job.TheVariants as jobs
 use Rattle.lls_cli.specs.declared.fault.Fault.{Fault}
 use Rattle.lls_cli.specs.declared.status.Status.{Status}
 use Rattle.lls_cli.specs.declared.status.Status.TheVariants as statuses
-use Rattle.lls_cli.specs.Question.{Question, Effort, checks, refutes, judges, searches, decides, encodes, prints, makes, effort_of, default_effort, problem_in, formula_in, pattern_in, Asks}
+use Rattle.lls_cli.specs.Question.{Question, Effort, asked_with, checks, refutes, judges, searches, decides, encodes, prints, makes, effort_of, default_effort, problem_in, formula_in, pattern_in, Asks}
 use Rattle.lls_cli.specs.Evidence.{NamedFile, HasProof, HasSpentLog}
 use Rattle.lls_cli.specs.Answer.{GivenAnswer, Answers, Holds, found, undecided}
 use Rattle.lls_cli.specs.Moment.{ShelfMoment, Moment, files_at}
@@ -43,29 +43,29 @@ outputs_asked question status = ahead_outputs (ahead_of question) status ++ log_
 
 -- they are those of the job that asks
 pub asked_outputs : (job : Job) (files : Option Files) (question : Question) (status : Status) → Asks job files (Ok question) → outputs_asked question status ≡ outputs_of job status
-asked_outputs (jobs.Check one two rule demands) files question status asked =
-    let first = and_then-both (and_then asked.first (problem_in rule demands)) (λ problem. and_then asked.second (λ proof. Ok (checks problem proof))) question asked.made in
-    let second = and_then-both asked.second (λ proof. Ok (checks first.0 proof)) question first.1 in
-    let is : question ≡ checks first.0 second.0 = cc in
+asked_outputs (jobs.Check one two rule demands form) files question status asked =
+    let first = and_then-both (and_then asked.first (problem_in rule demands)) (λ problem. and_then asked.second (λ proof. Ok (checks (asked_with form problem) proof))) question asked.made in
+    let second = and_then-both asked.second (λ proof. Ok (checks (asked_with form first.0) proof)) question first.1 in
+    let is : question ≡ checks (asked_with form first.0) second.0 = cc in
     ap (λ q. outputs_asked q status) is
 asked_outputs (jobs.Judge one two rule demands rle) files question status asked =
     let first = and_then-both (and_then asked.first (problem_in rule demands)) (λ problem. and_then (and_then asked.second (pattern_in rle problem)) (λ history. Ok (judges problem history))) question asked.made in
     let second = and_then-both (and_then asked.second (pattern_in rle first.0)) (λ history. Ok (judges first.0 history)) question first.1 in
     let is : question ≡ judges first.0 second.0 = cc in
     ap (λ q. outputs_asked q status) is
-asked_outputs (jobs.Search one two rule demands budget keep_all rle) files question status asked =
+asked_outputs (jobs.Search one two rule demands form budget keep_all rle) files question status asked =
     let effort = effort_of budget keep_all two in
-    let first = and_then-both (and_then asked.input (problem_in rule demands)) (λ problem. Ok (searches problem effort rle)) question asked.made in
-    let is : question ≡ searches first.0 effort rle = cc in
+    let first = and_then-both (and_then asked.input (problem_in rule demands)) (λ problem. Ok (searches (asked_with form problem) effort rle)) question asked.made in
+    let is : question ≡ searches (asked_with form first.0) effort rle = cc in
     ap (λ q. outputs_asked q status) is
 asked_outputs (jobs.Sat one two budget keep_all) files question status asked =
     let effort = effort_of budget keep_all two in
     let first = and_then-both (and_then asked.input formula_in) (λ formula. Ok (decides formula effort)) question asked.made in
     let is : question ≡ decides first.0 effort = cc in
     ap (λ q. outputs_asked q status) is
-asked_outputs (jobs.Cnf one rule demands) files question status asked =
-    let first = and_then-both (and_then asked.input (problem_in rule demands)) (λ problem. Ok (encodes problem)) question asked.made in
-    let is : question ≡ encodes first.0 = cc in
+asked_outputs (jobs.Cnf one rule demands form) files question status asked =
+    let first = and_then-both (and_then asked.input (problem_in rule demands)) (λ problem. Ok (encodes (asked_with form problem))) question asked.made in
+    let is : question ≡ encodes (asked_with form first.0) = cc in
     ap (λ q. outputs_asked q status) is
 asked_outputs (jobs.Lrat one two) files question status asked =
     let first = and_then-both (and_then asked.first formula_in) (λ formula. and_then asked.second (λ proof. Ok (refutes formula proof))) question asked.made in
@@ -113,12 +113,12 @@ making_writes seed size name effort statuses.NoPattern other holds = absurd hold
 
 holds_writes : (question : Question) (status : Status) → Holds question status → MayWriteAhead (ahead_of question) status
 holds_writes (makes seed size name effort) status holds file is = making_writes seed size name effort status file.name holds
-holds_writes (checks problem bytes) status holds file is = absurd cc
+holds_writes (checks asked bytes) status holds file is = absurd cc
 holds_writes (refutes formula bytes) status holds file is = absurd cc
 holds_writes (judges problem history) status holds file is = absurd cc
-holds_writes (searches problem effort rle) status holds file is = absurd cc
+holds_writes (searches asked effort rle) status holds file is = absurd cc
 holds_writes (decides formula effort) status holds file is = absurd cc
-holds_writes (encodes problem) status holds file is = absurd cc
+holds_writes (encodes asked) status holds file is = absurd cc
 holds_writes (prints rule) status holds file is = absurd cc
 
 -- the file that is written ahead changes alone
@@ -264,13 +264,13 @@ evidence_left (Some search) answer mid after (inr has) logged wrote =
     of_written (Has answer.status search.0 search.1) answer.file has.file search.1.proof mid after has.file_is has.named has.has wrote
 
 left_evidence : (status : Status) (question : Question) (files : Option Files) → Left status (searched question) files → Leaves (Has status) files question
-left_evidence status (searches problem effort rle) files left = left
+left_evidence status (searches asked effort rle) files left = left
 left_evidence status (decides formula effort) files left = left
 left_evidence status (makes seed size name effort) files left = left
-left_evidence status (checks problem bytes) files left = left
+left_evidence status (checks asked bytes) files left = left
 left_evidence status (refutes formula bytes) files left = left
 left_evidence status (judges problem history) files left = left
-left_evidence status (encodes problem) files left = left
+left_evidence status (encodes asked) files left = left
 left_evidence status (prints rule) files left = left
 
 leaves_at : (job : Result Job WordsError) (before after : Moment) (status : Status) → (end : End) × IsEnd job before after status end → IsAnswered status → IsLogged status

@@ -8,32 +8,32 @@ use Rattle.lls_problem.specs.Problem.{PosedProblem}
 use Rattle.lls_problem.specs.Judgement.{IsJudgement}
 use Rattle.lls_problem.specs.Solution.{IsSolution, IsAbsent}
 use Rattle.lls_problem.proofs.Plane.{plane_law}
-use Rattle.lls_encode.specs.Formula.{formula_of}
+use Rattle.lls_cli.specs.declared.question.Asked.{Asked}
 use Rattle.lls_cli.specs.declared.status.Status.{Status}
 use Rattle.lls_cli.specs.declared.status.Status.TheVariants as statuses
 use Rattle.lls_cli.specs.Answer.{GivenAnswer, judge_answer, Holds, IsAnswer}
-use Rattle.lls_cli.specs.Question.{Question, checks, refutes, judges, searches, decides, encodes, prints, makes}
+use Rattle.lls_cli.specs.Question.{Question, formula_asked, checks, refutes, judges, searches, decides, encodes, prints, makes}
 use Rattle.lls_cli.specs.Moment.{ShelfMoment}
 use Rattle.lls_cli.specs.Steps.{LeavesAlone, LeavesPrinting}
 
 -- what refutes a problem's formula checks the problem
-holds_checked : (problem : PosedProblem) (proof : List ℕ) (status : Status) → (IsUnsatisfiable (formula_of problem) → IsAbsent problem)
-    → Holds (refutes (formula_of problem) proof) status → Holds (checks problem proof) status
-holds_checked problem proof statuses.Done absent holds = (holds.0, absent holds.1)
-holds_checked problem proof statuses.Refused absent holds = holds
-holds_checked problem proof statuses.Words absent holds = holds
-holds_checked problem proof statuses.Content absent holds = holds
-holds_checked problem proof statuses.Outside absent holds = holds
-holds_checked problem proof statuses.Memory absent holds = holds
-holds_checked problem proof statuses.Limit absent holds = holds
-holds_checked problem proof statuses.Pattern absent holds = holds
-holds_checked problem proof statuses.NoPattern absent holds = holds
-holds_checked problem proof statuses.Undecided absent holds = holds
+holds_checked : (asked : Asked) (proof : List ℕ) (status : Status) → (IsUnsatisfiable (formula_asked asked) → IsAbsent asked.problem)
+    → Holds (refutes (formula_asked asked) proof) status → Holds (checks asked proof) status
+holds_checked asked proof statuses.Done absent holds = (holds.0, absent holds.1)
+holds_checked asked proof statuses.Refused absent holds = holds
+holds_checked asked proof statuses.Words absent holds = holds
+holds_checked asked proof statuses.Content absent holds = holds
+holds_checked asked proof statuses.Outside absent holds = holds
+holds_checked asked proof statuses.Memory absent holds = holds
+holds_checked asked proof statuses.Limit absent holds = holds
+holds_checked asked proof statuses.Pattern absent holds = holds
+holds_checked asked proof statuses.NoPattern absent holds = holds
+holds_checked asked proof statuses.Undecided absent holds = holds
 
-pub checked_answer : (problem : PosedProblem) (proof : List ℕ) (answer : GivenAnswer) → (IsUnsatisfiable (formula_of problem) → IsAbsent problem)
-    → IsAnswer (refutes (formula_of problem) proof) answer → IsAnswer (checks problem proof) answer
-checked_answer problem proof answer absent right =
-    record { answers = right.answers; holds = holds_checked problem proof answer.status absent right.holds }
+pub checked_answer : (asked : Asked) (proof : List ℕ) (answer : GivenAnswer) → (IsUnsatisfiable (formula_asked asked) → IsAbsent asked.problem)
+    → IsAnswer (refutes (formula_asked asked) proof) answer → IsAnswer (checks asked proof) answer
+checked_answer asked proof answer absent right =
+    record { answers = right.answers; holds = holds_checked asked proof answer.status absent right.holds }
 
 holds_judged : (problem : PosedProblem) (history : History) (judgement : Judgement) → (judgement ≡ judgements.Meets → IsSolution problem history)
     → (judgement ≢ judgements.Meets → IsSolution problem history → ⊥) → Holds (judges problem history) (judge_answer judgement).status
@@ -61,21 +61,21 @@ judged_answer problem history judgement answer is meets broken made = record {
 pub leaves_printing : (question : Question) (answer : GivenAnswer) (before after : ShelfMoment) → IsAnswer question answer → LeavesAlone answer.file before after → LeavesPrinting question before after
 leaves_printing (prints rule) answer before after right alone =
     subst (λ file. LeavesAlone file before after) (ap (λ (a : GivenAnswer). a.file) right.answers) alone
-leaves_printing (checks problem proof) answer before after right alone = tt
+leaves_printing (checks asked proof) answer before after right alone = tt
 leaves_printing (refutes formula proof) answer before after right alone = tt
 leaves_printing (judges problem history) answer before after right alone = tt
-leaves_printing (searches problem effort rle) answer before after right alone = tt
+leaves_printing (searches asked effort rle) answer before after right alone = tt
 leaves_printing (decides formula effort) answer before after right alone = tt
-leaves_printing (encodes problem) answer before after right alone = tt
+leaves_printing (encodes asked) answer before after right alone = tt
 leaves_printing (makes seed size name effort) answer before after right alone = tt
 
 -- nor does a run that gives no answer touch the shelf
 pub leaves_printing-refl : (question : Question) (shelf : ShelfMoment) → LeavesPrinting question shelf shelf
 leaves_printing-refl (prints rule) shelf = refl
-leaves_printing-refl (checks problem proof) shelf = tt
+leaves_printing-refl (checks asked proof) shelf = tt
 leaves_printing-refl (refutes formula proof) shelf = tt
 leaves_printing-refl (judges problem history) shelf = tt
-leaves_printing-refl (searches problem effort rle) shelf = tt
+leaves_printing-refl (searches asked effort rle) shelf = tt
 leaves_printing-refl (decides formula effort) shelf = tt
-leaves_printing-refl (encodes problem) shelf = tt
+leaves_printing-refl (encodes asked) shelf = tt
 leaves_printing-refl (makes seed size name effort) shelf = tt

@@ -1,52 +1,56 @@
 -- What a search comes to is a right answer.
-use Rattle.std.proofs.Common.{◌≡◌, ◌≤◌, ◌+◌, ◌++◌, ◌&&◌, ℕ, Bool, true, List, [], ◌∷◌, length, refl, sym, ap, subst, ◌∙◌, arith}
+use Rattle.std.proofs.Common.{◌≡◌, ◌≤◌, ◌+◌, ◌++◌, ◌&&◌, ℕ, Bool, true, cond, List, [], ◌∷◌, length, refl, sym, ap, subst, ◌∙◌, arith}
 use Rattle.std.specs.Prelude.{codes}
 use Rattle.std.specs.List.{list_all}
-use Rattle.std.proofs.lemmas.List.{length-append}
+use Rattle.std.proofs.lemmas.List.Sums.{count_by-le-length, sum_by-append}
 use Rattle.lls_lit.specs.Formula.{Cnf, IsUnsatisfiable}
 use Rattle.lls_grid.specs.History.{History}
-use Rattle.lls_problem.specs.Problem.{PosedProblem}
 use Rattle.lls_problem.specs.Solution.{IsSolution, IsAbsent}
 use Rattle.lls_problem.proofs.Plane.{plane_law}
 use Rattle.lls_encode.specs.Formula.{formula_of}
 use Rattle.lls_prooflog.specs.declared.step.Step.{Step}
-use Rattle.lls_prooflog.specs.declared.step.Step.TheVariants.{Add, Del}
 use Rattle.lls_prooflog.specs.Log.{log_text}
 use Rattle.lls_prooflog.specs.Spent.{is_addition}
-use Rattle.lls_solver.specs.Searching.{AreNumberedFrom, IsModel, IsRefutation, IsExhausted}
+use Rattle.lls_counting.proofs.Logs.{budgets_decide, kept_budgets_decide}
+use Rattle.lls_solver.specs.Searching.{IsModel, IsRefutation, IsExhausted, KeepsAll, additions}
 use Rattle.lls_lrat.specs.Verdict.{Accepted, verdict}
+use Rattle.lls_cli.specs.declared.question.Asked.{Asked}
 use Rattle.lls_cli.specs.declared.status.Status.TheVariants as statuses
-use Rattle.lls_cli.specs.Question.{Effort, searches, decides}
+use Rattle.lls_cli.specs.Question.{Effort, formula_asked, searches, decides}
 use Rattle.lls_cli.specs.Evidence.{NamedFile, HasProof, HasSpentLog}
 use Rattle.lls_cli.specs.ModelText.{model_text}
 use Rattle.lls_cli.specs.PatternText.{pattern_text}
-use Rattle.lls_cli.specs.Answer.{GivenAnswer, IsAnswer, Holds, shown, said_behind, none_behind, satisfied, unsatisfied, unknown, found, absent, undecided, Answers}
-
--- steps with ids that run upwards are additions
-numbered_additions : (n : ℕ) (steps : List Step) → AreNumberedFrom n steps → list_all is_addition steps ≡ true
-numbered_additions n [] numbered = refl
-numbered_additions n (Add id lits hints ∷ steps) numbered = numbered_additions (n + 1) steps numbered.1
-numbered_additions n (Del ids ∷ steps) numbered = absurd numbered
+use Rattle.lls_cli.specs.Answer.{GivenAnswer, IsAnswer, IsShort, Holds, shown, said_behind, none_behind, satisfied, unsatisfied, unknown, found, absent, undecided, Answers}
 
 -- steps with one more behind them
-one_more : (learnt : List Step) (last : Step) (steps : List Step) (budget : ℕ) → steps ≡ learnt ++ last ∷ [] → length learnt ≤ budget → length steps ≤ budget + 1
-one_more learnt last steps budget ends within = omega (arith, ap length ends, length-append learnt (last ∷ []), within)
+one_more : (learnt : List Step) (last : Step) (steps : List Step) (budget : ℕ) → steps ≡ learnt ++ last ∷ [] → additions learnt ≤ budget → additions steps ≤ budget + 1
+one_more learnt last steps budget ends within =
+    let split : additions steps ≡ additions learnt + additions (last ∷ []) = ap additions ends ∙ sum_by-append (λ s. cond (is_addition s) 1 0) learnt (last ∷ []) in
+    let few = count_by-le-length is_addition (last ∷ []) in
+    omega (arith, split, few, within)
+
+-- a spent budget needn't decide
+pub short_of : (formula : Cnf) (effort : Effort) (steps : List Step) → KeepsAll effort.keep_all steps → IsExhausted formula effort.budget steps → IsShort formula effort
+short_of formula effort steps kept exhausted = record {
+  deleting = budgets_decide formula steps effort.budget exhausted.spent;
+  keeping = λ keeps. kept_budgets_decide formula steps effort.budget exhausted.spent (kept keeps);
+}
 
 -- the file of a refutation has a proof
-proof_of : (formula : Cnf) (effort : Effort) (steps : List Step) (file : NamedFile) → file ≡ record { name = effort.proof; bytes = log_text steps } → IsRefutation formula effort.budget steps
+proof_of : (formula : Cnf) (effort : Effort) (steps : List Step) (file : NamedFile) → file ≡ record { name = effort.proof; bytes = log_text steps } → KeepsAll effort.keep_all steps → IsRefutation formula effort.budget steps
     → verdict formula file.bytes ≡ Accepted → HasProof formula effort file
-proof_of formula effort steps file is refutation accepted = record {
+proof_of formula effort steps file is kept refutation accepted = record {
   steps = steps;
-  log = record { file_is = is; all_kept = λ all. numbered_additions _ steps refutation.numbered_on };
+  log = record { file_is = is; all_kept = kept };
   within = one_more refutation.learnt refutation.last steps effort.budget refutation.ends refutation.log.within;
   accepted = accepted;
 }
 
-pub log_of : (formula : Cnf) (effort : Effort) (steps : List Step) (file : NamedFile) → file ≡ record { name = effort.proof; bytes = log_text steps } → IsExhausted formula effort.budget steps
+pub log_of : (formula : Cnf) (effort : Effort) (steps : List Step) (file : NamedFile) → file ≡ record { name = effort.proof; bytes = log_text steps } → KeepsAll effort.keep_all steps → IsExhausted formula effort.budget steps
     → HasSpentLog formula effort file
-log_of formula effort steps file is exhausted = record {
+log_of formula effort steps file is kept exhausted = record {
   steps = steps;
-  log = record { file_is = is; all_kept = λ all. exhausted.log.additions };
+  log = record { file_is = is; all_kept = kept };
   spent = exhausted.spent;
 }
 
@@ -60,33 +64,37 @@ satisfied_answer formula effort values answer model is =
     subst (IsAnswer (decides formula effort)) (sym is) (record { answers = satisfied values model; holds = (values, model) })
 
 pub unsatisfied_answer : (formula : Cnf) (effort : Effort) (steps : List Step) (file : NamedFile) (answer : GivenAnswer) → file ≡ record { name = effort.proof; bytes = log_text steps }
-    → IsRefutation formula effort.budget steps → verdict formula file.bytes ≡ Accepted → IsUnsatisfiable formula → answer ≡ said_behind file statuses.NoPattern (codes "s UNSATISFIABLE")
+    → KeepsAll effort.keep_all steps → IsRefutation formula effort.budget steps → verdict formula file.bytes ≡ Accepted → IsUnsatisfiable formula → answer ≡ said_behind file statuses.NoPattern (codes "s UNSATISFIABLE")
     → IsAnswer (decides formula effort) answer
-unsatisfied_answer formula effort steps file answer named refutation accepted none is =
-    subst (IsAnswer (decides formula effort)) (sym is) (record { answers = unsatisfied file (proof_of formula effort steps file named refutation accepted); holds = none })
+unsatisfied_answer formula effort steps file answer named kept refutation accepted none is =
+    subst (IsAnswer (decides formula effort)) (sym is) (record { answers = unsatisfied file (proof_of formula effort steps file named kept refutation accepted); holds = none })
 
 pub unknown_answer : (formula : Cnf) (effort : Effort) (steps : List Step) (file : NamedFile) (answer : GivenAnswer) → file ≡ record { name = effort.proof; bytes = log_text steps }
-    → IsExhausted formula effort.budget steps → answer ≡ said_behind file statuses.Undecided (codes "s UNKNOWN") → IsAnswer (decides formula effort) answer
-unknown_answer formula effort steps file answer named exhausted is =
-    subst (IsAnswer (decides formula effort)) (sym is) (record { answers = unknown file (log_of formula effort steps file named exhausted); holds = tt })
+    → KeepsAll effort.keep_all steps → IsExhausted formula effort.budget steps → answer ≡ said_behind file statuses.Undecided (codes "s UNKNOWN") → IsAnswer (decides formula effort) answer
+unknown_answer formula effort steps file answer named kept exhausted is =
+    subst (IsAnswer (decides formula effort)) (sym is)
+        (record { answers = unknown file (log_of formula effort steps file named kept exhausted); holds = short_of formula effort steps kept exhausted })
 
-pub found_answer : (problem : PosedProblem) (effort : Effort) (rle : Bool) (history : History) (answer : GivenAnswer) → IsSolution problem history
-    → answer ≡ shown statuses.Pattern (pattern_text rle problem.rule history) → IsAnswer (searches problem effort rle) answer
-found_answer problem effort rle history answer solution is =
-    let law = plane_law problem history solution in
-    subst (IsAnswer (searches problem effort rle)) (sym is) (record { answers = found history solution law; holds = (history, solution, law) })
+pub found_answer : (asked : Asked) (effort : Effort) (rle : Bool) (history : History) (answer : GivenAnswer) → IsSolution asked.problem history
+    → answer ≡ shown statuses.Pattern (pattern_text rle asked.problem.rule history) → IsAnswer (searches asked effort rle) answer
+found_answer asked effort rle history answer solution is =
+    let law = plane_law asked.problem history solution in
+    subst (IsAnswer (searches asked effort rle)) (sym is) (record { answers = found history solution law; holds = (history, solution, law) })
 
-pub absent_answer : (problem : PosedProblem) (effort : Effort) (rle : Bool) (steps : List Step) (file : NamedFile) → file ≡ record { name = effort.proof; bytes = log_text steps }
-    → IsRefutation (formula_of problem) effort.budget steps → verdict (formula_of problem) file.bytes ≡ Accepted → IsAbsent problem → IsAnswer (searches problem effort rle) (none_behind file)
-absent_answer problem effort rle steps file named refutation accepted none =
-    record { answers = absent file (proof_of (formula_of problem) effort steps file named refutation accepted); holds = none }
+pub absent_answer : (asked : Asked) (effort : Effort) (rle : Bool) (steps : List Step) (file : NamedFile) → file ≡ record { name = effort.proof; bytes = log_text steps }
+    → KeepsAll effort.keep_all steps → IsRefutation (formula_asked asked) effort.budget steps → verdict (formula_asked asked) file.bytes ≡ Accepted → IsAbsent asked.problem
+    → IsAnswer (searches asked effort rle) (none_behind file)
+absent_answer asked effort rle steps file named kept refutation accepted none =
+    record { answers = absent file (proof_of (formula_asked asked) effort steps file named kept refutation accepted); holds = none }
 
-pub undecided_answer : (problem : PosedProblem) (effort : Effort) (rle : Bool) (steps : List Step) (file : NamedFile) (answer : GivenAnswer) → file ≡ record { name = effort.proof; bytes = log_text steps }
-    → IsExhausted (formula_of problem) effort.budget steps → answer ≡ said_behind file statuses.Undecided (codes "undecided") → IsAnswer (searches problem effort rle) answer
-undecided_answer problem effort rle steps file answer named exhausted is =
-    subst (IsAnswer (searches problem effort rle)) (sym is) (record { answers = undecided file (log_of (formula_of problem) effort steps file named exhausted); holds = tt })
+pub undecided_answer : (asked : Asked) (effort : Effort) (rle : Bool) (steps : List Step) (file : NamedFile) (answer : GivenAnswer) → file ≡ record { name = effort.proof; bytes = log_text steps }
+    → KeepsAll effort.keep_all steps → IsExhausted (formula_asked asked) effort.budget steps → answer ≡ said_behind file statuses.Undecided (codes "undecided")
+    → IsAnswer (searches asked effort rle) answer
+undecided_answer asked effort rle steps file answer named kept exhausted is =
+    subst (IsAnswer (searches asked effort rle)) (sym is)
+        (record { answers = undecided file (log_of (formula_asked asked) effort steps file named kept exhausted); holds = short_of (formula_asked asked) effort steps kept exhausted })
 
 -- there is a variable for each cell
-pub cells_fit : (problem : PosedProblem) → length problem.posed.cells ≤ (formula_of problem).vars
+pub cells_fit : (asked : Asked) → length asked.problem.posed.cells ≤ (formula_asked asked).vars
 unfolding formula_of
-cells_fit problem = omega arith
+cells_fit asked = omega arith

@@ -36,22 +36,22 @@ made_apart job files seed size name effort apart asked = by_job job apart asked 
       let efforts : effort ≡ default_effort proof = cc in
       let proofs : effort.proof ≡ proof = ap (λ (e : Effort). e.proof) efforts in
       apart (sym names ∙ (equal ∙ proofs))
-  by_job (jobs.Check one two rule demands) apart asked same = absurd cc
+  by_job (jobs.Check one two rule demands form) apart asked same = absurd cc
   by_job (jobs.Judge one two rule demands rle) apart asked same = absurd cc
-  by_job (jobs.Search one two rule demands budget keep_all rle) apart asked same = absurd cc
+  by_job (jobs.Search one two rule demands form budget keep_all rle) apart asked same = absurd cc
   by_job (jobs.Sat one two budget keep_all) apart asked same = absurd cc
-  by_job (jobs.Cnf one rule demands) apart asked same = absurd cc
+  by_job (jobs.Cnf one rule demands form) apart asked same = absurd cc
   by_job (jobs.Lrat one two) apart asked same = absurd cc
   by_job (jobs.Rule rule) apart asked same = absurd cc
 
 names_apart : (job : Result Job WordsError) (files : Option Files) (question : Question) → AreApart job → IsAsked job files question → NamesApart question
 names_apart (Ok job) files (makes seed size name effort) apart asked = made_apart job files seed size name effort apart asked
-names_apart (Ok job) files (checks problem bytes) apart asked = tt
+names_apart (Ok job) files (checks of bytes) apart asked = tt
 names_apart (Ok job) files (refutes formula bytes) apart asked = tt
 names_apart (Ok job) files (judges problem history) apart asked = tt
-names_apart (Ok job) files (searches problem effort rle) apart asked = tt
+names_apart (Ok job) files (searches of effort rle) apart asked = tt
 names_apart (Ok job) files (decides formula effort) apart asked = tt
-names_apart (Ok job) files (encodes problem) apart asked = tt
+names_apart (Ok job) files (encodes of) apart asked = tt
 names_apart (Ok job) files (prints rule) apart asked = tt
 names_apart (Err error) files question apart asked = absurd asked
 
@@ -76,12 +76,12 @@ stands_in (makes seed size name effort) answer before mid after apart right ahea
     let file = made_file seed size name in
     stands_from file (files_at before) (files_at mid) (files_at after) (wrote_some (Some file) file before mid refl ahead)
     (answer_leaves (makes seed size name effort) answer mid after name right apart wrote)
-stands_in (checks problem bytes) answer before mid after apart right ahead wrote = nothing_ahead (files_at after)
+stands_in (checks asked bytes) answer before mid after apart right ahead wrote = nothing_ahead (files_at after)
 stands_in (refutes formula bytes) answer before mid after apart right ahead wrote = nothing_ahead (files_at after)
 stands_in (judges problem history) answer before mid after apart right ahead wrote = nothing_ahead (files_at after)
-stands_in (searches problem effort rle) answer before mid after apart right ahead wrote = nothing_ahead (files_at after)
+stands_in (searches asked effort rle) answer before mid after apart right ahead wrote = nothing_ahead (files_at after)
 stands_in (decides formula effort) answer before mid after apart right ahead wrote = nothing_ahead (files_at after)
-stands_in (encodes problem) answer before mid after apart right ahead wrote = nothing_ahead (files_at after)
+stands_in (encodes asked) answer before mid after apart right ahead wrote = nothing_ahead (files_at after)
 stands_in (prints rule) answer before mid after apart right ahead wrote = nothing_ahead (files_at after)
 
 pub stands : (job : Result Job WordsError) (before after : Moment) (status : Status) → AreApart job → (end : End) × IsEnd job before after status end → IsAnswered status

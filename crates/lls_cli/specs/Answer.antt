@@ -1,12 +1,12 @@
 -- Which answers to a question are right.
-use Rattle.std.specs.Prelude.{◌≡◌, ℕ, ◌++◌, Bool, List, codes, Option, None, Some, Result, Ok, Err}
+use Rattle.std.specs.Prelude.{◌≡◌, ◌<◌, ◌^◌, ℕ, ◌++◌, Bool, true, List, codes, Option, None, Some, Result, Ok, Err}
 use Rattle.lls_grid.specs.History.{History}
 use Rattle.lls_solver.specs.Searching.{IsModel}
 use Rattle.lls_hensel.specs.Printing.{rule_text}
+use Rattle.lls_problem.specs.declared.form.Form.TheVariants.{Rows}
 use Rattle.lls_problem.specs.declared.judgement.Judgement.{Judgement}
 use Rattle.lls_problem.specs.declared.judgement.Judgement.TheVariants as judgements
 use Rattle.lls_problem.specs.Judgement.{IsJudgement}
-use Rattle.lls_problem.specs.Problem.{PosedProblem}
 use Rattle.lls_problem.specs.Plane.{PlaneLaw}
 use Rattle.lls_problem.specs.Solution.{IsSolution, IsAbsent}
 use Rattle.lls_lit.specs.Formula.{Cnf, IsUnsatisfiable}
@@ -16,10 +16,11 @@ use Rattle.lls_encode.specs.Formula.{formula_of}
 use Rattle.lls_lrat.specs.declared.error.CheckError.{CheckError}
 use Rattle.lls_lrat.specs.FaultText.{check_error_text}
 use Rattle.lls_lrat.specs.Verdict.{Accepted, verdict, answer_of}
+use Rattle.lls_cli.specs.declared.question.Asked.{Asked}
 use Rattle.lls_cli.specs.declared.status.Status.{Status}
 use Rattle.lls_cli.specs.declared.status.Status.TheVariants as statuses
 use Rattle.lls_problem.specs.Texts.{judgement_text}
-use Rattle.lls_cli.specs.Question.{Question, Effort, checks, refutes, judges, searches, decides, encodes, prints, makes}
+use Rattle.lls_cli.specs.Question.{Question, Effort, formula_asked, checks, refutes, judges, searches, decides, encodes, prints, makes}
 use Rattle.lls_cli.specs.Evidence.{NamedFile, HasProof, HasSpentLog}
 use Rattle.lls_cli.specs.ModelText.{model_text}
 use Rattle.lls_cli.specs.PatternText.{pattern_text}
@@ -71,13 +72,13 @@ abbrev pub none_behind : NamedFile → GivenAnswer
 none_behind file = record { status = statuses.NoPattern; text = no_pattern; file = Some file }
 
 -- how the search of a problem ends: with a solution, which keeps the rule on the whole plane where it has to, or with a proof or a spent log of its formula in the file
-pub data IsFinding (problem : PosedProblem) (effort : Effort) (rle : Bool) : GivenAnswer → Type 0 where
-  found : (history : History) → IsSolution problem history → PlaneLaw problem history
-      → IsFinding problem effort rle (shown statuses.Pattern (pattern_text rle problem.rule history))
-  absent : (file : NamedFile) → HasProof (formula_of problem) effort file
-      → IsFinding problem effort rle (none_behind file)
-  undecided : (file : NamedFile) → HasSpentLog (formula_of problem) effort file
-      → IsFinding problem effort rle (said_behind file statuses.Undecided (codes "undecided"))
+pub data IsFinding (asked : Asked) (effort : Effort) (rle : Bool) : GivenAnswer → Type 0 where
+  found : (history : History) → IsSolution asked.problem history → PlaneLaw asked.problem history
+      → IsFinding asked effort rle (shown statuses.Pattern (pattern_text rle asked.problem.rule history))
+  absent : (file : NamedFile) → HasProof (formula_asked asked) effort file
+      → IsFinding asked effort rle (none_behind file)
+  undecided : (file : NamedFile) → HasSpentLog (formula_asked asked) effort file
+      → IsFinding asked effort rle (said_behind file statuses.Undecided (codes "undecided"))
 
 -- a status and a summary, behind a file
 abbrev pub summed_behind : NamedFile → Status → List ℕ → GivenAnswer
@@ -86,52 +87,57 @@ summed_behind file status text = record (shown status text) { file = Some file }
 -- how the search of a made problem ends: it has a solution, so it is found, or the file has a spent log of its formula
 pub data IsMaking (seed size : ℕ) (effort : Effort) : GivenAnswer → Type 0 where
   solved : IsMaking seed size effort (shown statuses.Pattern (summary_text seed size (codes "pattern")))
-  unsolved : (file : NamedFile) → HasSpentLog (formula_of (made_problem seed size)) effort file
+  unsolved : (file : NamedFile) → HasSpentLog (formula_of (made_problem seed size) Rows) effort file
       → IsMaking seed size effort (summed_behind file statuses.Undecided (summary_text seed size (codes "undecided")))
 
 -- what the yes of a question says: of a check that the proof is accepted, and that there is no solution, or that no assignment
 -- satisfies the formula; of a judging that the pattern is a solution, and keeps the rule on the whole plane where it has to
 abbrev pub YesHolds : Question → Type 0
-YesHolds (checks problem proof) = (verdict (formula_of problem) proof ≡ Accepted) × IsAbsent problem
+YesHolds (checks asked proof) = (verdict (formula_asked asked) proof ≡ Accepted) × IsAbsent asked.problem
 YesHolds (refutes formula proof) = (verdict formula proof ≡ Accepted) × IsUnsatisfiable formula
 YesHolds (judges problem history) = IsSolution problem history × PlaneLaw problem history
-YesHolds (searches problem effort rle) = ⊥
+YesHolds (searches asked effort rle) = ⊥
 YesHolds (decides formula effort) = ⊥
-YesHolds (encodes problem) = Unit {0}
+YesHolds (encodes asked) = Unit {0}
 YesHolds (prints rule) = Unit {0}
 YesHolds (makes seed size name effort) = ⊥
 
 -- what its no says: of a check that the proof isn't accepted, of a judging that the pattern is no solution
 abbrev pub NoHolds : Question → Type 0
-NoHolds (checks problem proof) = verdict (formula_of problem) proof ≡ Accepted → ⊥
+NoHolds (checks asked proof) = verdict (formula_asked asked) proof ≡ Accepted → ⊥
 NoHolds (refutes formula proof) = verdict formula proof ≡ Accepted → ⊥
 NoHolds (judges problem history) = IsSolution problem history → ⊥
-NoHolds (searches problem effort rle) = ⊥
+NoHolds (searches asked effort rle) = ⊥
 NoHolds (decides formula effort) = ⊥
-NoHolds (encodes problem) = ⊥
+NoHolds (encodes asked) = ⊥
 NoHolds (prints rule) = ⊥
 NoHolds (makes seed size name effort) = ⊥
 
 -- what it says that a search found something: there is a solution, which keeps the rule on the whole plane where it has to, or
 -- an assignment that satisfies the formula
 abbrev pub IsThere : Question → Type 0
-IsThere (searches problem effort rle) = (history : History) × IsSolution problem history × PlaneLaw problem history
+IsThere (searches asked effort rle) = (history : History) × IsSolution asked.problem history × PlaneLaw asked.problem history
 IsThere (decides formula effort) = (values : List Bool) × IsModel formula values
 IsThere (makes seed size name effort) = (history : History) × IsSolution (made_problem seed size) history × PlaneLaw (made_problem seed size) history
 IsThere question = ⊥
 
 -- what it says that there is nothing to find; of a made problem nothing says so
 abbrev pub IsNowhere : Question → Type 0
-IsNowhere (searches problem effort rle) = IsAbsent problem
+IsNowhere (searches asked effort rle) = IsAbsent asked.problem
 IsNowhere (decides formula effort) = IsUnsatisfiable formula
 IsNowhere question = ⊥
 
--- the searches alone may be undecided
-abbrev pub IsSearch : Question → Type 0
-IsSearch (searches problem effort rle) = Unit {0}
-IsSearch (decides formula effort) = Unit {0}
-IsSearch (makes seed size name effort) = Unit {0}
-IsSearch question = ⊥
+-- a budget that needn't decide: it is less than 9 to the number of variables, and where no learnt clause is deleted than 3 to it
+pub record IsShort (formula : Cnf) (effort : Effort) : Type 0 where
+  pub deleting : effort.budget < 9 ^ formula.vars
+  pub keeping : effort.keep_all ≡ true → effort.budget < 3 ^ formula.vars
+
+-- what it says that a search is undecided: its budget was short
+abbrev pub HasShortBudget : Question → Type 0
+HasShortBudget (searches asked effort rle) = IsShort (formula_asked asked) effort
+HasShortBudget (decides formula effort) = IsShort formula effort
+HasShortBudget (makes seed size name effort) = IsShort (formula_of (made_problem seed size) Rows) effort
+HasShortBudget question = ⊥
 
 -- what a status says of a question
 abbrev pub Holds : Question → Status → Type 0
@@ -139,17 +145,17 @@ Holds question statuses.Done = YesHolds question
 Holds question statuses.Refused = NoHolds question
 Holds question statuses.Pattern = IsThere question
 Holds question statuses.NoPattern = IsNowhere question
-Holds question statuses.Undecided = IsSearch question
+Holds question statuses.Undecided = HasShortBudget question
 Holds question status = ⊥
 
 -- the status, the text and the file that answer a question
 abbrev pub Answers : Question → GivenAnswer → Type 0
-Answers (checks problem bytes) answer = answer ≡ check_answer (answer_of (verdict (formula_of problem) bytes))
+Answers (checks asked bytes) answer = answer ≡ check_answer (answer_of (verdict (formula_asked asked) bytes))
 Answers (refutes formula bytes) answer = answer ≡ check_answer (answer_of (verdict formula bytes))
 Answers (judges problem history) answer = (judgement : Judgement) × IsJudgement problem history judgement × (answer ≡ judge_answer judgement)
-Answers (searches problem effort rle) answer = IsFinding problem effort rle answer
+Answers (searches asked effort rle) answer = IsFinding asked effort rle answer
 Answers (decides formula effort) answer = IsDecision formula effort answer
-Answers (encodes problem) answer = answer ≡ shown statuses.Done (dimacs_text (formula_of problem))
+Answers (encodes asked) answer = answer ≡ shown statuses.Done (dimacs_text (formula_asked asked))
 Answers (prints rule) answer = answer ≡ said statuses.Done (rule_text rule)
 Answers (makes seed size name effort) answer = IsMaking seed size effort answer
 

@@ -6,6 +6,7 @@ use Rattle.lls_base.specs.Faults.{Rose}
 use Rattle.lls_base.specs.Shelf.{Files}
 use Rattle.lls_words.specs.declared.error.WordsError.{WordsError}
 use Rattle.lls_lit.specs.Formula.{Cnf}
+use Rattle.lls_problem.specs.declared.form.Form.TheVariants.{Rows}
 use Rattle.lls_encode.specs.Formula.{formula_of}
 use Rattle.lls_gen.specs.Made.{made_problem}
 use Rattle.lls_words.specs.declared.job.Job.{Job}
@@ -13,14 +14,14 @@ use Rattle.lls_words.specs.declared.job.Job.TheVariants as jobs
 use Rattle.lls_cli.specs.declared.fault.Fault.{Fault}
 use Rattle.lls_cli.specs.declared.fault.Fault.TheVariants as faults
 use Rattle.lls_cli.specs.declared.fault.OutsideFault.TheVariants as outside
+use Rattle.lls_cli.specs.declared.question.Asked.{Asked}
 use Rattle.lls_cli.specs.declared.status.Status.{Status}
 use Rattle.lls_cli.specs.declared.status.Status.TheVariants as statuses
-use Rattle.lls_cli.specs.Question.{Question, Effort, checks, searches, decides, makes, proof_limit, question_of, Asks}
+use Rattle.lls_cli.specs.Question.{Question, Effort, formula_asked, checks, searches, decides, makes, proof_limit, question_of, Asks}
 use Rattle.lls_cli.specs.Evidence.{NamedFile}
 use Rattle.lls_cli.specs.Fault.{fault_line, status_of}
 use Rattle.lls_cli.specs.Ends.{GrewBy, ahead_of, with_file}
 use Rattle.lls_cli.specs.Answer.{GivenAnswer, Holds, IsAnswer, YesHolds}
-use Rattle.lls_problem.specs.Problem.{PosedProblem}
 use Rattle.lls_cli.specs.Moment.{SinkMoment, Moment, files_at}
 
 -- a fact of the question that words and files ask. Where the shelf doesn't tell its files, it is a question that the words ask of
@@ -77,7 +78,7 @@ search_file_at status name = []
 
 -- the files that a job may have changed, by the status at which it ends
 abbrev pub outputs_of : Job → Status → List (List ℕ)
-outputs_of (jobs.Search search_file proof rule demands budget keep_all rle) status = log_at status proof
+outputs_of (jobs.Search search_file proof rule demands form budget keep_all rle) status = log_at status proof
 outputs_of (jobs.Sat formula proof budget keep_all) status = log_at status proof
 outputs_of (jobs.Make seed size search_file proof) status = search_file_at status search_file ++ log_at status proof
 outputs_of job status = []
@@ -115,9 +116,9 @@ OfFile Fact name (Some files) = (bytes : List ℕ) × (map.get files name ≡ So
 
 -- what a search leaves in its file, by the formula that it searches
 abbrev pub Leaves : (Cnf → Effort → NamedFile → Type 0) → Option Files → Question → Type 0
-Leaves Has files (searches problem effort rle) = OfFile (Has (formula_of problem) effort) effort.proof files
+Leaves Has files (searches asked effort rle) = OfFile (Has (formula_asked asked) effort) effort.proof files
 Leaves Has files (decides formula effort) = OfFile (Has formula effort) effort.proof files
-Leaves Has files (makes seed size name effort) = OfFile (Has (formula_of (made_problem seed size)) effort) effort.proof files
+Leaves Has files (makes seed size name effort) = OfFile (Has (formula_of (made_problem seed size) Rows) effort) effort.proof files
 Leaves Has files question = ⊥
 
 -- a file that is written before the answer is looked for stands whole
@@ -128,10 +129,10 @@ StandsIn files file = Unit {0}
 -- after a search that found nothing, a check with the same words for the problem asks of the files that are left whether the
 -- proof is accepted, where it is no longer than a check reads; and the check's yes holds
 abbrev pub Publishes : Result Job WordsError → Option Files → Option Files → Type 0
-Publishes (Ok (jobs.Search search_file proof rule demands budget keep_all rle)) (Some before) (Some after) =
-    (problem : PosedProblem) × (bytes : List ℕ) × (map.get after proof ≡ Some bytes)
-    × (length bytes ≤ proof_limit → question_of (jobs.Check search_file proof rule demands) after ≡ Ok (checks problem bytes))
-    × YesHolds (checks problem bytes)
+Publishes (Ok (jobs.Search search_file proof rule demands form budget keep_all rle)) (Some before) (Some after) =
+    (asked : Asked) × (bytes : List ℕ) × (map.get after proof ≡ Some bytes)
+    × (length bytes ≤ proof_limit → question_of (jobs.Check search_file proof rule demands form) after ≡ Ok (checks asked bytes))
+    × YesHolds (checks asked bytes)
 Publishes job before after = Unit {0}
 
 -- where the inputs ask a question, and no call of the shelf or of the standard output failed, it is answered, but for want of

@@ -1,5 +1,5 @@
 -- What a search leaves in its file: a proof that there is nothing to find, or the log of a budget that is spent.
-use Rattle.std.specs.Prelude.{◌≡◌, ◌≤◌, ℕ, ◌+◌, Bool, true, List, length}
+use Rattle.std.specs.Prelude.{◌≡◌, ◌≤◌, ℕ, ◌+◌, Bool, true, List, count_by}
 use Rattle.std.specs.List.{list_all}
 use Rattle.lls_lit.specs.Formula.{Cnf}
 use Rattle.lls_prooflog.specs.declared.step.Step.{Step}
@@ -22,7 +22,7 @@ pub record HasLog (effort : Effort) (steps : List Step) (file : NamedFile) : Typ
 pub record HasProof (formula : Cnf) (effort : Effort) (file : NamedFile) : Type 0 where
   pub steps : List Step
   pub log : HasLog effort steps file
-  pub within : length steps ≤ effort.budget + 1
+  pub within : count_by is_addition steps ≤ effort.budget + 1
   pub accepted : verdict formula file.bytes ≡ Accepted
 
 -- the log of a search that learnt as many clauses as it may, each of them fresh, and wasn't done

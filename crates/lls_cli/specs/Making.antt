@@ -9,6 +9,7 @@ use Rattle.lls_search_file.specs.Posed.{PosedFile}
 use Rattle.lls_search_file.specs.Printing.{posed_text}
 use Rattle.lls_gen.specs.declared.making.Made.{Made}
 use Rattle.lls_gen.specs.Made.{made, made_problem}
+use Rattle.lls_problem.specs.declared.form.Form.TheVariants.{Rows}
 use Rattle.lls_encode.specs.Formula.{formula_of}
 use Rattle.lls_cli.specs.Evidence.{NamedFile}
 
@@ -40,6 +41,6 @@ search_lines formula answer =
 abbrev pub summary_of : Made → Cnf → List ℕ → List ℕ
 summary_of made formula answer = problem_lines made ++ search_lines formula answer
 
--- what is said of a problem by its seed and size
+-- what is said of a problem by its seed and size; its formula has a clause for each forbidden row
 abbrev pub summary_text : ℕ → ℕ → List ℕ → List ℕ
-summary_text seed size answer = summary_of (made seed size) (formula_of (made_problem seed size)) answer
+summary_text seed size answer = summary_of (made seed size) (formula_of (made_problem seed size) Rows) answer

@@ -19,13 +19,24 @@ use Rattle.lls_search_file.specs.Reading.{posed_of}
 use Rattle.lls_search_file.specs.Plain.{plain_of}
 use Rattle.lls_problem.specs.declared.demands.Demands.{Demands}
 use Rattle.lls_problem.specs.declared.demands.DemandError.{DemandError}
+use Rattle.lls_problem.specs.declared.form.Form.{Form}
 use Rattle.lls_problem.specs.Problem.{PosedProblem, problem_made}
+use Rattle.lls_encode.specs.Formula.{formula_of}
 use Rattle.lls_words.specs.Values.{default_budget}
 use Rattle.lls_words.specs.declared.job.Job.{Job}
 use Rattle.lls_words.specs.declared.job.Job.TheVariants as jobs
 use Rattle.lls_cli.specs.declared.fault.Fault.{Fault}
 use Rattle.lls_cli.specs.declared.fault.Fault.TheVariants as faults
 use Rattle.lls_cli.specs.declared.fault.OutsideFault.TheVariants as outside
+use Rattle.lls_cli.specs.declared.question.Asked.{Asked}
+
+-- what is asked about a problem: the problem, and the form of its formula
+abbrev pub asked_with : Form → PosedProblem → Asked
+asked_with form problem = record { problem = problem; form = form }
+
+-- the formula that is asked about
+abbrev pub formula_asked : Asked → Cnf
+formula_asked asked = formula_of asked.problem asked.form
 
 -- how a search is made: how many clauses it may learn, whether it keeps all of them, and the name of the file of its log
 pub record Effort : Type 0 where
@@ -38,12 +49,12 @@ pub record Effort : Type 0 where
 -- that there is none; print this problem's formula; print this rule; make a problem from this seed and of this size, write it to
 -- the file of this name, and search it
 pub data Question : Type 0 where
-  checks : PosedProblem → List ℕ → Question
+  checks : Asked → List ℕ → Question
   refutes : Cnf → List ℕ → Question
   judges : PosedProblem → History → Question
-  searches : PosedProblem → Effort → Bool → Question
+  searches : Asked → Effort → Bool → Question
   decides : Cnf → Effort → Question
-  encodes : PosedProblem → Question
+  encodes : Asked → Question
   prints : List Bool → Question
   makes : ℕ → ℕ → List ℕ → Effort → Question
 
@@ -113,9 +124,9 @@ abbrev pub formula_in : List ℕ → Result Cnf Fault
 formula_in bytes = formula_read (dimacs bytes)
 
 -- what two inputs ask, or one: a check, a judging, the text of a formula
-abbrev pub check_question : List Bool → Demands → Result (List ℕ) Fault → Result (List ℕ) Fault → Result Question Fault
-check_question rule demands first second =
-    and_then (and_then first (problem_in rule demands)) (λ problem. and_then second (λ proof. Ok (checks problem proof)))
+abbrev pub check_question : List Bool → Demands → Form → Result (List ℕ) Fault → Result (List ℕ) Fault → Result Question Fault
+check_question rule demands form first second =
+    and_then (and_then first (problem_in rule demands)) (λ problem. and_then second (λ proof. Ok (checks (asked_with form problem) proof)))
 
 abbrev pub judge_question : List Bool → Demands → Bool → Result (List ℕ) Fault → Result (List ℕ) Fault → Result Question Fault
 judge_question rule demands rle first second =
@@ -125,8 +136,8 @@ abbrev pub refute_question : Result (List ℕ) Fault → Result (List ℕ) Fault
 refute_question first second =
     and_then (and_then first formula_in) (λ formula. and_then second (λ proof. Ok (refutes formula proof)))
 
-abbrev pub search_question : List Bool → Demands → Effort → Bool → Result (List ℕ) Fault → Result Question Fault
-search_question rule demands effort rle input = and_then (and_then input (problem_in rule demands)) (λ problem. Ok (searches problem effort rle))
+abbrev pub search_question : List Bool → Demands → Form → Effort → Bool → Result (List ℕ) Fault → Result Question Fault
+search_question rule demands form effort rle input = and_then (and_then input (problem_in rule demands)) (λ problem. Ok (searches (asked_with form problem) effort rle))
 
 abbrev pub decide_question : Effort → Result (List ℕ) Fault → Result Question Fault
 decide_question effort input = and_then (and_then input formula_in) (λ formula. Ok (decides formula effort))
@@ -138,19 +149,19 @@ effort_of budget keep_all proof = record { budget = budget; keep_all = keep_all;
 abbrev pub default_effort : List ℕ → Effort
 default_effort proof = effort_of default_budget false proof
 
-abbrev pub encode_question : List Bool → Demands → Result (List ℕ) Fault → Result Question Fault
-encode_question rule demands input = and_then (and_then input (problem_in rule demands)) (λ problem. Ok (encodes problem))
+abbrev pub encode_question : List Bool → Demands → Form → Result (List ℕ) Fault → Result Question Fault
+encode_question rule demands form input = and_then (and_then input (problem_in rule demands)) (λ problem. Ok (encodes (asked_with form problem)))
 
 -- what a job asks of these files, or the first refusal
 abbrev pub question_of : Job → Files → Result Question Fault
-question_of (jobs.Check search_file proof rule demands) files =
-    check_question rule demands (input_of files search_file search_limit) (input_of files proof proof_limit)
+question_of (jobs.Check search_file proof rule demands form) files =
+    check_question rule demands form (input_of files search_file search_limit) (input_of files proof proof_limit)
 question_of (jobs.Judge search_file pattern rule demands rle) files =
     judge_question rule demands rle (input_of files search_file search_limit) (input_of files pattern search_limit)
-question_of (jobs.Search search_file proof rule demands budget keep_all rle) files =
-    search_question rule demands (effort_of budget keep_all proof) rle (input_of files search_file search_limit)
+question_of (jobs.Search search_file proof rule demands form budget keep_all rle) files =
+    search_question rule demands form (effort_of budget keep_all proof) rle (input_of files search_file search_limit)
 question_of (jobs.Sat formula proof budget keep_all) files = decide_question (effort_of budget keep_all proof) (input_of files formula formula_limit)
-question_of (jobs.Cnf search_file rule demands) files = encode_question rule demands (input_of files search_file search_limit)
+question_of (jobs.Cnf search_file rule demands form) files = encode_question rule demands form (input_of files search_file search_limit)
 question_of (jobs.Lrat formula proof) files =
     refute_question (input_of files formula formula_limit) (input_of files proof proof_limit)
 question_of (jobs.Rule rule) files = Ok (prints rule)
@@ -184,15 +195,15 @@ pub record MadeOf (files : Option Files) (one : List ℕ) (one_limit : ℕ) (two
 
 -- what a job asks, by inputs that are those of the files, where the shelf tells them
 abbrev pub Asks : Job → Option Files → Result Question Fault → Type 0
-Asks (jobs.Check search_file proof rule demands) files question =
-    MadeOf files search_file search_limit proof proof_limit (check_question rule demands) question
+Asks (jobs.Check search_file proof rule demands form) files question =
+    MadeOf files search_file search_limit proof proof_limit (check_question rule demands form) question
 Asks (jobs.Judge search_file pattern rule demands rle) files question =
     MadeOf files search_file search_limit pattern search_limit (judge_question rule demands rle) question
-Asks (jobs.Search search_file proof rule demands budget keep_all rle) files question =
-    MadeOfOne files search_file search_limit (search_question rule demands (effort_of budget keep_all proof) rle) question
+Asks (jobs.Search search_file proof rule demands form budget keep_all rle) files question =
+    MadeOfOne files search_file search_limit (search_question rule demands form (effort_of budget keep_all proof) rle) question
 Asks (jobs.Sat formula proof budget keep_all) files question =
     MadeOfOne files formula formula_limit (decide_question (effort_of budget keep_all proof)) question
-Asks (jobs.Cnf search_file rule demands) files question = MadeOfOne files search_file search_limit (encode_question rule demands) question
+Asks (jobs.Cnf search_file rule demands form) files question = MadeOfOne files search_file search_limit (encode_question rule demands form) question
 Asks (jobs.Lrat formula proof) files question = MadeOf files formula formula_limit proof proof_limit refute_question question
 Asks (jobs.Rule rule) files question = question ≡ Ok (prints rule)
 Asks (jobs.Make seed size search_file proof) files question = question ≡ Ok (makes seed size search_file (default_effort proof))

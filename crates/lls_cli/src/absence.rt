@@ -8,15 +8,17 @@ ghost use Rattle.lls_cli.specs.Answer.{no_pattern};
 
 use lls_base::{Failed, Sink, write_all};
 use lls_lrat::Checked;
-use lls_problem::Problem;
+use lls_problem::{Form, Problem};
 
-/// Says that a problem has no solution. Whoever calls it has a proof that no assignment satisfies the problem's formula.
+/// Says that a problem has no solution. Whoever calls it has a proof that no assignment satisfies the problem's formula of that
+/// form.
 pub fn print_none<'f, O: Sink>(
     proof: &Checked<'f>,
     problem: &Problem,
+    form: Form,
     out: &mut O,
 ) -> Result<(), Failed>
-    requires { proof.now ≡ formula_of problem.now }
+    requires { proof.now ≡ formula_of problem.now form }
     ensures absent { IsAbsent problem.now }
     ensures ok { OnOk result (O.written out.new ≡ append_known (O.written out.old) no_pattern) }
     ensures err { OnErr result ((n : ℕ) × (n ≤ length no_pattern) × (O.written out.new ≡ append_known (O.written out.old) (take n no_pattern))) }

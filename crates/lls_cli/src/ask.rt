@@ -9,7 +9,7 @@ ghost use Rattle.lls_cli.specs.Steps.{Reads};
 
 use crate::fault::Fault;
 use crate::input::{PROOF_LIMIT, read_formula, read_input, read_pattern, read_problem};
-use crate::question::{Effort, Question};
+use crate::question::{Asked, Effort, Question};
 use lls_base::Shelf;
 use lls_words::{DEFAULT_BUDGET, Job};
 use std::alloc::Global;
@@ -32,10 +32,12 @@ pub fn ask<S: Shelf>(alloc: Global, shelf: &mut S, job: Job) -> Result<Question,
             proof,
             rule,
             demands,
+            form,
         } => {
             let problem = read_problem(alloc, shelf, &search, rule, demands)?;
             let proof = read_input(alloc, shelf, &proof, PROOF_LIMIT)?;
-            Ok(Question::Check { problem, proof })
+            let asked = Asked { problem, form };
+            Ok(Question::Check { asked, proof })
         }
         Job::Judge {
             search,
@@ -53,6 +55,7 @@ pub fn ask<S: Shelf>(alloc: Global, shelf: &mut S, job: Job) -> Result<Question,
             proof,
             rule,
             demands,
+            form,
             budget,
             keep_all,
             rle,
@@ -63,11 +66,8 @@ pub fn ask<S: Shelf>(alloc: Global, shelf: &mut S, job: Job) -> Result<Question,
                 keep_all,
                 proof,
             };
-            Ok(Question::Search {
-                problem,
-                effort,
-                rle,
-            })
+            let asked = Asked { problem, form };
+            Ok(Question::Search { asked, effort, rle })
         }
         Job::Sat {
             formula,
@@ -87,9 +87,11 @@ pub fn ask<S: Shelf>(alloc: Global, shelf: &mut S, job: Job) -> Result<Question,
             search,
             rule,
             demands,
+            form,
         } => {
             let problem = read_problem(alloc, shelf, &search, rule, demands)?;
-            Ok(Question::Encode { problem })
+            let asked = Asked { problem, form };
+            Ok(Question::Encode { asked })
         }
         Job::Lrat { formula, proof } => {
             let formula = read_formula(alloc, shelf, &formula)?;

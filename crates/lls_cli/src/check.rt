@@ -5,12 +5,12 @@ ghost use Rattle.lls_cli.specs.Question.{checks, refutes};
 ghost use Rattle.lls_cli.specs.Seen.{seen_answer};
 
 use crate::answer::Answer;
+use crate::question::Asked;
 use crate::status::Status;
 use lls_base::Memory;
 use lls_cnf::Formula;
 use lls_encode::encode;
 use lls_lrat::{CheckError, check_bytes};
-use lls_problem::Problem;
 use std::alloc::Global;
 
 /// The answer to a proof that no assignment satisfies a formula.
@@ -28,10 +28,10 @@ pub fn refute(alloc: Global, formula: &Formula, proof: &[u8]) -> Result<Answer, 
     }
 }
 
-/// The answer to a proof that a problem has no solution.
-pub fn check(alloc: Global, problem: &Problem, proof: &[u8]) -> Result<Answer, Memory>
-    ensures { IfOk result (λ answer. IsAnswer (checks problem.now proof.now) (seen_answer answer)) }
+/// The answer to a proof that a problem has no solution, by its formula of the form.
+pub fn check(alloc: Global, asked: &Asked, proof: &[u8]) -> Result<Answer, Memory>
+    ensures { IfOk result (λ answer. IsAnswer (checks asked.now proof.now) (seen_answer answer)) }
 {
-    let formula = encode(alloc, problem)?;
+    let formula = encode(alloc, &asked.problem, asked.form)?;
     refute(alloc, &formula, proof)
 }

@@ -24,7 +24,7 @@ pub fn decide(alloc: Global, formula: &Formula, effort: Effort) -> Result<Answer
     // What holds of every formula is known from here on.
     let _vars = formula.vars();
     let mut log = Log::new(alloc);
-    match solve(alloc, formula, effort.budget, &mut log)? {
+    match solve(alloc, formula, effort.budget, effort.keep_all, &mut log)? {
         Outcome::Sat(assignment) => Ok(Answer {
             status: Status::Pattern,
             text: print_model(alloc, &assignment)?,

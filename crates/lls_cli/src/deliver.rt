@@ -2,9 +2,9 @@
 ghost use Rattle.std.specs.Prelude.{◌≡◌, IfErr, OnOk};
 ghost use Rattle.std.specs.Option.{option_map};
 ghost use Rattle.lls_cli.specs.declared.fault.Fault.TheVariants.{Outside};
-ghost use Rattle.lls_encode.specs.Formula.{formula_of};
 ghost use Rattle.lls_cli.specs.Answer.{no_pattern, none_behind};
 ghost use Rattle.lls_cli.specs.Fault.{fault_line};
+ghost use Rattle.lls_cli.specs.Question.{formula_asked};
 ghost use Rattle.lls_cli.specs.Moment.{moment, shelf_moment, sink_moment};
 ghost use Rattle.lls_cli.specs.Ends.{End, GrewBy, WroteFile};
 ghost use Rattle.lls_cli.specs.Seen.{seen_answer, seen_file};
@@ -13,10 +13,10 @@ ghost use Rattle.lls_cli.specs.Steps.{Gave, IsDelivery, LeavesAlone, Says, Unwri
 use crate::absence::print_none;
 use crate::answer::{Answer, AnswerFile};
 use crate::fault::{Fault, OutsideFault};
+use crate::question::Asked;
 use crate::status::Status;
 use lls_base::{FileFault, Shelf, Sink, write_all, write_file};
 use lls_lrat::Checked;
-use lls_problem::Problem;
 use std::alloc::Global;
 
 /// Writes a line to the standard error. A fault of it changes nothing.
@@ -106,16 +106,16 @@ fn give_text<O: Sink, E: Sink>(status: Status, text: &[u8], out: &mut O, err: &m
 /// Gives the words of an absence. Where the standard output fails, the standard error says so.
 fn give_none<'f, O: Sink, E: Sink>(
     proof: &Checked<'f>,
-    problem: &Problem,
+    asked: &Asked,
     out: &mut O,
     err: &mut E,
 ) -> Status
-    requires { proof.now ≡ formula_of problem.now }
+    requires { proof.now ≡ formula_asked asked.now }
     ensures { Gave Status.NoPattern no_pattern
         (sink_moment (O.written out.old) (O.faults out.old)) (sink_moment (O.written out.new) (O.faults out.new))
         (sink_moment (E.written err.old) (E.faults err.old)) (sink_moment (E.written err.new) (E.faults err.new)) result }
 {
-    match print_none(proof, problem, out) {
+    match print_none(proof, &asked.problem, asked.form, out) {
         Ok(()) => Status::NoPattern,
         Err(_) => say(OutsideFault::OutFailed, err),
     }
@@ -125,19 +125,19 @@ fn give_none<'f, O: Sink, E: Sink>(
 pub fn deliver_none<'f, S: Shelf, O: Sink, E: Sink>(
     proof: &Checked<'f>,
     file: AnswerFile,
-    problem: &Problem,
+    asked: &Asked,
     shelf: &mut S,
     out: &mut O,
     err: &mut E,
 ) -> Status
-    requires { proof.now ≡ formula_of problem.now }
+    requires { proof.now ≡ formula_asked asked.now }
     ensures { (end : End) × IsDelivery (none_behind (seen_file file))
         (moment (shelf_moment (S.told shelf.old) (S.has_input shelf.old) (S.has_output shelf.old) (S.faults shelf.old)) (sink_moment (O.written out.old) (O.faults out.old)) (sink_moment (E.written err.old) (E.faults err.old)))
         (moment (shelf_moment (S.told shelf.new) (S.has_input shelf.new) (S.has_output shelf.new) (S.faults shelf.new)) (sink_moment (O.written out.new) (O.faults out.new)) (sink_moment (E.written err.new) (E.faults err.new)))
         result end }
 {
     match write_answer_file(&Some(file), shelf) {
-        Ok(()) => give_none(proof, problem, out, err),
+        Ok(()) => give_none(proof, asked, out, err),
         Err(fault) => say(fault, err),
     }
 }

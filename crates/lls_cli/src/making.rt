@@ -16,6 +16,7 @@ use lls_base::{Memory, Name};
 use lls_cnf::Formula;
 use lls_encode::encode;
 use lls_gen::{Made, make};
+use lls_problem::Form;
 use lls_prooflog::Log;
 use lls_search_file::{Kind, Posed, print_posed};
 use lls_solver::{Outcome, solve};
@@ -98,9 +99,9 @@ pub fn solve_made(alloc: Global, pair: &Made, effort: Effort) -> Result<Answer, 
     ensures { (seed size : ℕ) (name : List ℕ) → pair.now ≡ made seed size →
         IfOk result (λ answer. IsAnswer (makes seed size name (seen_effort effort)) (seen_answer answer)) }
 {
-    let formula = encode(alloc, &pair.problem)?;
+    let formula = encode(alloc, &pair.problem, Form::Rows)?;
     let mut log = Log::new(alloc);
-    match solve(alloc, &formula, effort.budget, &mut log)? {
+    match solve(alloc, &formula, effort.budget, effort.keep_all, &mut log)? {
         Outcome::Sat(_) => Ok(Answer {
             status: Status::Pattern,
             text: summary(alloc, pair, &formula, "pattern")?,

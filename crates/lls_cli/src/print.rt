@@ -6,20 +6,20 @@ ghost use Rattle.lls_cli.specs.Question.{encodes, prints};
 ghost use Rattle.lls_cli.specs.Seen.{seen_answer};
 
 use crate::answer::Answer;
+use crate::question::Asked;
 use crate::status::Status;
 use lls_base::Memory;
 use lls_cnf::print_dimacs;
 use lls_encode::encode;
 use lls_hensel::{PrintRuleError, print_rule};
-use lls_problem::Problem;
 use lls_rule::Rule;
 use std::alloc::Global;
 
 /// The formula of a problem in DIMACS CNF.
-pub fn print_formula(alloc: Global, problem: &Problem) -> Result<Answer, Memory>
-    ensures { IfOk result (λ answer. IsAnswer (encodes problem.now) (seen_answer answer)) }
+pub fn print_formula(alloc: Global, asked: &Asked) -> Result<Answer, Memory>
+    ensures { IfOk result (λ answer. IsAnswer (encodes asked.now) (seen_answer answer)) }
 {
-    let formula = encode(alloc, problem)?;
+    let formula = encode(alloc, &asked.problem, asked.form)?;
     Ok(Answer {
         status: Status::Done,
         text: print_dimacs(alloc, &formula)?,

@@ -2,7 +2,7 @@
 use lls_base::Name;
 use lls_cnf::Formula;
 use lls_grid::History;
-use lls_problem::Problem;
+use lls_problem::{Form, Problem};
 use lls_rule::Rule;
 
 /// How a search is made.
@@ -16,12 +16,19 @@ pub struct Effort {
     pub proof: Name,
 }
 
+/// A problem that a question is about, with the form of its formula.
+#[derive(Drop)]
+pub struct Asked {
+    pub problem: Problem,
+    pub form: Form,
+}
+
 /// What a job asks, once its inputs are read.
 #[derive(Drop)]
 pub enum Question {
     /// Do the bytes of a proof show that the problem has no solution?
     Check {
-        problem: Problem,
+        asked: Asked,
         proof: Vec<u8>,
     },
     /// Do the bytes of a proof show that no assignment satisfies the formula?
@@ -36,7 +43,7 @@ pub enum Question {
     },
     /// Which history is a solution of the problem, if any? It is shown as a picture where `rle` says so.
     Search {
-        problem: Problem,
+        asked: Asked,
         effort: Effort,
         rle: bool,
     },
@@ -47,7 +54,7 @@ pub enum Question {
     },
     /// What is the problem's formula?
     Encode {
-        problem: Problem,
+        asked: Asked,
     },
     /// What is the rule's canonical text?
     Print {

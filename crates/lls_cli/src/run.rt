@@ -2,7 +2,7 @@
 ghost use Rattle.std.specs.Prelude.{◌≡◌, ◌≤◌, ◌⊎◌, map, string_bytes, IfOk, IsErr};
 ghost use Rattle.lls_base.specs.Shelf.{known_files};
 ghost use Rattle.lls_words.specs.Job.{job_of};
-ghost use Rattle.lls_cli.specs.Answer.{IsAnswer, IsNowhere, IsThere, NoHolds, YesHolds};
+ghost use Rattle.lls_cli.specs.Answer.{HasShortBudget, IsAnswer, IsNowhere, IsThere, NoHolds, YesHolds};
 ghost use Rattle.lls_cli.specs.Claims.{ChangesOnly, CountsNeverFall, HasCause, IsAnswered, IsComplete, IsFaultStatus, IsSilent, Leaves, LeavesBegun, NothingFailed, OfQuestion, Publishes, SaysWhy, StandsIn, outputs_of_words};
 ghost use Rattle.lls_cli.specs.Evidence.{HasProof, HasSpentLog};
 ghost use Rattle.lls_cli.specs.Ends.{End, Ends, IsEnd, IsEndOf, ahead_of};
@@ -23,12 +23,11 @@ use crate::fault::Fault;
 use crate::judge::judge;
 use crate::making::{make_file, solve_made};
 use crate::print::{print_formula, print_line};
-use crate::question::{Effort, Question};
+use crate::question::{Asked, Effort, Question};
 use crate::search::{Finding, search};
 use crate::status::Status;
 use lls_base::{Memory, Name, Shelf, Sink};
 use lls_encode::encode;
-use lls_problem::Problem;
 use lls_words::read_job;
 use std::alloc::Global;
 
@@ -53,15 +52,15 @@ fn give<S: Shelf, O: Sink, E: Sink>(
     }
 }
 
-/// Gives what a search comes to over the problem's formula.
+/// Gives what a search comes to over the problem's formula of the form.
 fn give_finding<'f, S: Shelf, O: Sink, E: Sink>(
     finding: Result<Finding<'f>, Memory>,
-    problem: &Problem,
+    asked: &Asked,
     shelf: &mut S,
     out: &mut O,
     err: &mut E,
 ) -> Status
-    requires { IfOk finding (Stands problem.now) }
+    requires { IfOk finding (Stands asked.now) }
     ensures { (question : questions.Question) → IfOk finding.entry (λ found. IsAnswer question (seen_finding found)) → (end : End) × IsEndOf question
         (moment (shelf_moment (S.told shelf.old) (S.has_input shelf.old) (S.has_output shelf.old) (S.faults shelf.old)) (sink_moment (O.written out.old) (O.faults out.old)) (sink_moment (E.written err.old) (E.faults err.old)))
         (moment (shelf_moment (S.told shelf.new) (S.has_input shelf.new) (S.has_output shelf.new) (S.faults shelf.new)) (sink_moment (O.written out.new) (O.faults out.new)) (sink_moment (E.written err.new) (E.faults err.new)))
@@ -69,7 +68,7 @@ fn give_finding<'f, S: Shelf, O: Sink, E: Sink>(
 {
     match finding {
         Ok(Finding::Answered(answer)) => deliver(&answer, shelf, out, err),
-        Ok(Finding::Absent(proof, file)) => deliver_none(&proof, file, problem, shelf, out, err),
+        Ok(Finding::Absent(proof, file)) => deliver_none(&proof, file, asked, shelf, out, err),
         Err(Memory) => lack(err),
     }
 }
@@ -77,24 +76,24 @@ fn give_finding<'f, S: Shelf, O: Sink, E: Sink>(
 /// Searches a solution of a problem, and gives what comes of it.
 fn give_search<S: Shelf, O: Sink, E: Sink>(
     alloc: Global,
-    problem: &Problem,
+    asked: &Asked,
     effort: Effort,
     rle: bool,
     shelf: &mut S,
     out: &mut O,
     err: &mut E,
 ) -> Status
-    requires isotropic { IsIsotropic problem.now.rule }
+    requires isotropic { IsIsotropic asked.now.problem.rule }
     requires budget { effort.budget ≤ MOST_BUDGET }
-    ensures { (end : End) × IsEndOf (searches problem.now (seen_effort effort) rle)
+    ensures { (end : End) × IsEndOf (searches asked.now (seen_effort effort) rle)
         (moment (shelf_moment (S.told shelf.old) (S.has_input shelf.old) (S.has_output shelf.old) (S.faults shelf.old)) (sink_moment (O.written out.old) (O.faults out.old)) (sink_moment (E.written err.old) (E.faults err.old)))
         (moment (shelf_moment (S.told shelf.new) (S.has_input shelf.new) (S.has_output shelf.new) (S.faults shelf.new)) (sink_moment (O.written out.new) (O.faults out.new)) (sink_moment (E.written err.new) (E.faults err.new)))
         result end }
 {
-    match encode(alloc, problem) {
+    match encode(alloc, &asked.problem, asked.form) {
         Ok(formula) => {
-            let finding = search(alloc, problem, &formula, effort, rle);
-            give_finding(finding, problem, shelf, out, err)
+            let finding = search(alloc, asked, &formula, effort, rle);
+            give_finding(finding, asked, shelf, out, err)
         }
         Err(Memory) => lack(err),
     }
@@ -146,7 +145,7 @@ pub(crate) fn give_answer<S: Shelf, O: Sink, E: Sink>(
         (shelf_moment (S.told shelf.new) (S.has_input shelf.new) (S.has_output shelf.new) (S.faults shelf.new)) }
 {
     match question {
-        Question::Check { problem, proof } => give(check(alloc, &problem, &proof), shelf, out, err),
+        Question::Check { asked, proof } => give(check(alloc, &asked, &proof), shelf, out, err),
         Question::Refute { formula, proof } => give(
             refute(alloc, &formula, &proof),
             shelf,
@@ -159,18 +158,16 @@ pub(crate) fn give_answer<S: Shelf, O: Sink, E: Sink>(
             out,
             err,
         ),
-        Question::Search {
-            problem,
-            effort,
-            rle,
-        } => { give_search(alloc, &problem, effort, rle, shelf, out, err) }
+        Question::Search { asked, effort, rle } => {
+            give_search(alloc, &asked, effort, rle, shelf, out, err)
+        }
         Question::Decide { formula, effort } => give(
             decide(alloc, &formula, effort),
             shelf,
             out,
             err,
         ),
-        Question::Encode { problem } => give(print_formula(alloc, &problem), shelf, out, err),
+        Question::Encode { asked } => give(print_formula(alloc, &asked), shelf, out, err),
         Question::Print { rule } => give(print_line(alloc, &rule), shelf, out, err),
         Question::Make {
             seed,
@@ -236,7 +233,12 @@ pub fn run<S: Shelf, O: Sink, E: Sink>(
     ensures made { IsAnswered result → OfQuestion (λ question. StandsIn (known_files (S.told shelf.new)) (ahead_of question)) (job_of (map string_bytes words.now)) (known_files (S.told shelf.old)) }
     ensures published { result ≡ Status.NoPattern → Publishes (job_of (map string_bytes words.now)) (known_files (S.told shelf.old)) (known_files (S.told shelf.new)) }
 
-    // Where the inputs ask a question and nothing fails, it is answered, but for want of memory.
+    // A search is undecided only where its budget is below 9 to the number of the formula's variables, and below 3 to it where
+    // no learnt clause is deleted.
+    ensures undecided { result ≡ Status.Undecided → OfQuestion HasShortBudget (job_of (map string_bytes words.now)) (known_files (S.told shelf.old)) }
+
+    // Where the inputs ask a question and nothing fails, it is answered, but for want of memory; with a budget that isn't below
+    // these powers the answer is that there is something, or nothing.
     ensures complete { IsComplete (job_of (map string_bytes words.now)) (known_files (S.told shelf.old))
         (moment (shelf_moment (S.told shelf.old) (S.has_input shelf.old) (S.has_output shelf.old) (S.faults shelf.old)) (sink_moment (O.written out.old) (O.faults out.old)) (sink_moment (E.written err.old) (E.faults err.old)))
         (moment (shelf_moment (S.told shelf.new) (S.has_input shelf.new) (S.has_output shelf.new) (S.faults shelf.new)) (sink_moment (O.written out.new) (O.faults out.new)) (sink_moment (E.written err.new) (E.faults err.new)))

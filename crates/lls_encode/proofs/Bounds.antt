@@ -19,20 +19,24 @@ use Rattle.lls_symmetry.specs.Moved.{leaving, coming, is_on_grid, entering, row_
 use Rattle.lls_problem.specs.declared.demands.Edge.{Edge}
 use Rattle.lls_problem.specs.declared.demands.Edge.TheVariants.{Framed, Bare}
 use Rattle.lls_problem.specs.declared.demands.Period.{Period}
+use Rattle.lls_problem.specs.declared.form.Form.{Form}
+use Rattle.lls_problem.specs.declared.form.Form.TheVariants.{Rows, Cover}
 use Rattle.lls_problem.specs.Problem.{PosedProblem, IsPeriod}
 use Rattle.lls_problem.specs.Solution.{is_marked}
 use Rattle.lls_problem.specs.Unlike.{differ}
 use Rattle.lls_problem.specs.Losses.{course_of}
 use Rattle.lls_problem.proofs.FirstOf.{flat_map-flat_map}
 use Rattle.lls_transition.specs.declared.place.Place.{Place}
+use Rattle.lls_cube.specs.declared.cube.Cube.{Cube}
 use Rattle.lls_cube.specs.Table.{forbidden_rows}
 use Rattle.lls_cube.specs.Cube.{row_cube}
-use Rattle.lls_transition.specs.Transition.{table_of, transition_clauses}
+use Rattle.lls_transition.specs.Transition.{table_of}
 use Rattle.lls_transition.proofs.Pushed.{length-cube_clauses}
-use Rattle.lls_transition.proofs.Obeyed.{length-cubes}
+use Rattle.lls_transition.proofs.Distinct.{length-distinct}
+use Rattle.lls_transition.proofs.Obeyed.{length-cubes, length-covering_cubes}
 use Rattle.lls_encode.specs.Place.{inputs_at}
-use Rattle.lls_transition.specs.Clause.{differing, clause_of}
-use Rattle.lls_encode.specs.Formula.{fixed_clauses, place_clauses, line_clauses, generation_clauses, framed, framed_count, first_framed, either, same_places, pair_clauses, symmetric_clauses, motion_clauses, symmetry_part, moved_clauses, background_clauses, return_clauses, period_clauses}
+use Rattle.lls_transition.specs.Clause.{differing, clause_of, cube_clauses}
+use Rattle.lls_encode.specs.Formula.{fixed_clauses, cubes_of, clauses_at, place_clauses, line_clauses, generation_clauses, framed, framed_count, first_framed, either, same_places, pair_clauses, symmetric_clauses, motion_clauses, symmetry_part, moved_clauses, background_clauses, return_clauses, period_clauses}
 use Rattle.lls_encode.proofs.Steps.{length-flat_map_most, flat_map-map}
 
 pub length-fixed_clauses : (k : ℕ) (kind : Kind) → length (fixed_clauses k kind) ≤ 1
@@ -46,12 +50,17 @@ length_if : {A : Type 0} (b : Bool) (xs ys : List A) (m : ℕ) → length xs ≤
 length_if true xs ys m left right = left
 length_if false xs ys m left right = right
 
-pub length-transition_clauses : (rule : List Bool) (inputs : List Place) → length (transition_clauses rule inputs) ≤ 512
-length-transition_clauses rule inputs =
-    omega (arith, length-cube_clauses inputs (map (row_cube 10) (forbidden_rows (table_of rule))), length-cubes rule (map (row_cube 10) (forbidden_rows (table_of rule))) refl)
+pub length-clauses_at : (form : Form) (cubes : List Cube) (inputs : List Place) → length (clauses_at form cubes inputs) ≤ length cubes
+length-clauses_at Rows cubes inputs = omega (arith, length-cube_clauses inputs cubes)
+length-clauses_at Cover cubes inputs = omega (arith, length-cube_clauses inputs cubes, length-distinct (cube_clauses inputs cubes))
 
-pub length-place_clauses : (p : PosedProblem) (t : ℕ) (y x : ℤ) → length (place_clauses p t y x) ≤ 512
-length-place_clauses p t y x = length_if (is_marked p.posed (t + 1) y x) [] _ 512 (omega arith) (length-transition_clauses p.rule (inputs_at p t y x))
+pub length-cubes_of : (form : Form) (rule : List Bool) → length (cubes_of form rule) ≤ 512
+length-cubes_of Rows rule = omega (arith, length-cubes rule (map (row_cube 10) (forbidden_rows (table_of rule))) refl)
+length-cubes_of Cover rule = length-covering_cubes rule
+
+pub length-place_clauses : (p : PosedProblem) (form : Form) (cubes : List Cube) → length cubes ≤ 512 → (t : ℕ) (y x : ℤ) → length (place_clauses p form cubes t y x) ≤ 512
+length-place_clauses p form cubes each t y x =
+    length_if (is_marked p.posed (t + 1) y x) [] _ 512 (omega arith) (omega (arith, each, length-clauses_at form cubes (inputs_at p t y x)))
 
 framed_few : (edge : Edge) (size : ℕ) → size ≤ 64 → framed_count edge size ≤ 66
 framed_few Framed size few = omega arith
@@ -65,11 +74,13 @@ length-flat_map-framed f m edge size each few =
     let enough : m * framed_count edge size ≤ m * 66 = grind arith in
     rw flat_map-map (omega arith)
 
-pub length-line_clauses : (p : PosedProblem) (t : ℕ) (y : ℤ) → p.posed.width ≤ 64 → length (line_clauses p t y) ≤ 33792
-length-line_clauses p t y few = length-flat_map-framed (place_clauses p t y) 512 p.demands.edge p.posed.width (length-place_clauses p t y) few
+pub length-line_clauses : (p : PosedProblem) (form : Form) (cubes : List Cube) → length cubes ≤ 512 → (t : ℕ) (y : ℤ) → p.posed.width ≤ 64 → length (line_clauses p form cubes t y) ≤ 33792
+length-line_clauses p form cubes each t y few = length-flat_map-framed (place_clauses p form cubes t y) 512 p.demands.edge p.posed.width (length-place_clauses p form cubes each t y) few
 
-pub length-generation_clauses : (p : PosedProblem) (t : ℕ) → p.posed.width ≤ 64 → p.posed.height ≤ 64 → length (generation_clauses p t) ≤ 2230272
-length-generation_clauses p t few few' = length-flat_map-framed (line_clauses p t) 33792 p.demands.edge p.posed.height (λ y. length-line_clauses p t y few) few'
+pub length-generation_clauses : (p : PosedProblem) (form : Form) (cubes : List Cube) → length cubes ≤ 512 → (t : ℕ) → p.posed.width ≤ 64 → p.posed.height ≤ 64
+    → length (generation_clauses p form cubes t) ≤ 2230272
+length-generation_clauses p form cubes each t few few' =
+    length-flat_map-framed (line_clauses p form cubes t) 33792 p.demands.edge p.posed.height (λ y. length-line_clauses p form cubes each t y few) few'
 
 -- of two places that are equal
 one_at_most : (o : Option Clause) → length (option_to_list o) ≤ 1

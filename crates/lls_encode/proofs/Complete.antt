@@ -10,13 +10,15 @@ use Rattle.lls_search_file.specs.declared.cell.Kind.{Kind}
 use Rattle.lls_search_file.specs.declared.cell.Kind.TheVariants.{Dead, Live, Free, Named, Negated}
 use Rattle.lls_search_file.specs.Posed.{name_of, IsPosed}
 use Rattle.lls_problem.specs.declared.demands.Edge.{Edge}
+use Rattle.lls_problem.specs.declared.form.Form.{Form}
 use Rattle.lls_problem.specs.Problem.{PosedProblem, AreFitting}
 use Rattle.lls_problem.specs.Solution.{cell_number, HasItsBit, AreTied, MeetsCells, IsFramed, is_marked, Obeys, IsSolution, IsAbsent}
-use Rattle.lls_transition.specs.Transition.{transition_clauses}
+use Rattle.lls_cube.specs.declared.cube.Cube.{Cube}
+use Rattle.lls_transition.specs.Transition.{ContainForbidden}
 use Rattle.lls_encode.specs.Place.{inputs_at}
 use Rattle.lls_encode.specs.History.{HasAssignment}
 use Rattle.std.proofs.Math.Seq.{take-append_seam}
-use Rattle.lls_encode.specs.Formula.{fixed_clauses, same, name_literal, has_name, tied_to, name_clauses, first_framed, framed_count, framed, place_clauses, line_clauses, generation_clauses, fixed_part, name_part, symmetry_part, period_part, front_part, transition_part, bounds_part, difference_base, difference_part, formula_of}
+use Rattle.lls_encode.specs.Formula.{fixed_clauses, same, name_literal, has_name, tied_to, name_clauses, first_framed, framed_count, framed, cubes_of, clauses_at, place_clauses, line_clauses, generation_clauses, transitions_by, fixed_part, name_part, symmetry_part, period_part, front_part, transition_part, bounds_part, difference_base, difference_part, formula_of}
 use Rattle.lls_encode.proofs.Steps.{flat_map-map}
 use Rattle.lls_encode.proofs.Framed.{IsFramedLine, framed_place, framed_both}
 use Rattle.lls_encode.proofs.Parts.{satisfies-append}
@@ -26,7 +28,7 @@ use Rattle.lls_encode.proofs.Returned.{satisfies-period_part}
 use Rattle.lls_encode.proofs.Differing.{marks_where, length-marks_where, count_of, HasCells-append, satisfies-difference_part}
 use Rattle.lls_encode.proofs.AllBounds.{AreBounds, AllCount, HasCounters, satisfies-bounds_clauses, AllCount-append, has_counters}
 use Rattle.lls_encode.proofs.Satisfied.{satisfies-range, is_true-negation, is_literal, or_left}
-use Rattle.lls_encode.proofs.Obeyed.{satisfies-transition_clauses}
+use Rattle.lls_encode.proofs.Obeyed.{cubes_contain, satisfies-by_successor}
 
 not_not : (b : Bool) → not (not b) ≡ b
 not_not true = refl
@@ -122,10 +124,12 @@ satisfies-name_clauses : (values : List Bool) (cells : List Cell) → MeetsCells
 satisfies-name_clauses values cells meets k k_in None named = refl
 satisfies-name_clauses values cells meets k k_in (Some n) named = satisfies-tied_to values cells meets k n k_in named (position_from (has_name n) 0 cells) refl
 
-satisfies-place_clauses : (p : PosedProblem) (h : History) (values : List Bool) → HasCells p values h → Obeys p h → (t : ℕ) (y x : ℤ) → t + 1 < p.posed.generations
-    → IsFramed p.demands.edge p.posed.height p.posed.width y x → (b : Bool) → is_marked p.posed (t + 1) y x ≡ b → satisfies values (cond b [] (transition_clauses p.rule (inputs_at p t y x))) ≡ true
-satisfies-place_clauses p h values has obeys t y x next_in in_frame true mark = refl
-satisfies-place_clauses p h values has obeys t y x next_in in_frame false mark = satisfies-transition_clauses p h values has t y x next_in (obeys t y x next_in in_frame mark)
+satisfies-place_clauses : (p : PosedProblem) (form : Form) (cubes : List Cube) → ContainForbidden p.rule cubes → (h : History) (values : List Bool) → HasCells p values h → Obeys p h → (t : ℕ) (y x : ℤ)
+    → t + 1 < p.posed.generations → IsFramed p.demands.edge p.posed.height p.posed.width y x → (b : Bool) → is_marked p.posed (t + 1) y x ≡ b
+    → satisfies values (cond b [] (clauses_at form cubes (inputs_at p t y x))) ≡ true
+satisfies-place_clauses p form cubes just h values has obeys t y x next_in in_frame true mark = refl
+satisfies-place_clauses p form cubes just h values has obeys t y x next_in in_frame false mark =
+    satisfies-by_successor p form cubes just h values has t y x next_in (obeys t y x next_in in_frame mark)
 
 satisfies-framed : (values : List Bool) (f : ℤ → List Clause) (edge : Edge) (size : ℕ) → ((x : ℤ) → IsFramedLine edge size x → satisfies values (f x) ≡ true)
     → satisfies values (flat_map f (framed edge size)) ≡ true
@@ -133,11 +137,12 @@ satisfies-framed values f edge size each =
     ap (satisfies values) (flat_map-map f (λ (k : ℕ). pos k -ℤ pos 1) _)
     ∙ satisfies-range values (λ k. f (pos k -ℤ pos 1)) (first_framed edge) (framed_count edge size) (λ k low high. each (pos k -ℤ pos 1) (framed_place edge size k low high))
 
-satisfies-generation_clauses : (p : PosedProblem) (h : History) (values : List Bool) → HasCells p values h → Obeys p h → (t : ℕ) → t + 1 < p.posed.generations → satisfies values (generation_clauses p t) ≡ true
-satisfies-generation_clauses p h values has obeys t next_in =
-    satisfies-framed values (line_clauses p t) p.demands.edge p.posed.height
-    (λ y line. satisfies-framed values (place_clauses p t y) p.demands.edge p.posed.width
-    (λ x column. satisfies-place_clauses p h values has obeys t y x next_in (framed_both p.demands.edge p.posed.height p.posed.width y x line column) (is_marked p.posed (t + 1) y x) refl))
+satisfies-generation_clauses : (p : PosedProblem) (form : Form) (cubes : List Cube) → ContainForbidden p.rule cubes → (h : History) (values : List Bool) → HasCells p values h → Obeys p h → (t : ℕ)
+    → t + 1 < p.posed.generations → satisfies values (generation_clauses p form cubes t) ≡ true
+satisfies-generation_clauses p form cubes just h values has obeys t next_in =
+    satisfies-framed values (line_clauses p form cubes t) p.demands.edge p.posed.height
+    (λ y line. satisfies-framed values (place_clauses p form cubes t y) p.demands.edge p.posed.width
+    (λ x column. satisfies-place_clauses p form cubes just h values has obeys t y x next_in (framed_both p.demands.edge p.posed.height p.posed.width y x line column) (is_marked p.posed (t + 1) y x) refl))
 
 -- what stands before the transitions
 satisfies-front_part : (p : PosedProblem) (h : History) (values : List Bool) → HasCells p values h → AreFitting p.posed p.demands → IsSolution p h → satisfies values (front_part p) ≡ true
@@ -152,9 +157,10 @@ satisfies-front_part p h values has fitting s =
     ∙ and_from _ _ (satisfies-append values (fixed_part p) (name_part p) ∙ and_from _ _ fixed names) (satisfies-symmetry_part p h values has fitting s.symmetric))
     (satisfies-period_part p h values has fitting s.moved)
 
-satisfies-transition_part : (p : PosedProblem) (h : History) (values : List Bool) → HasCells p values h → Obeys p h → satisfies values (transition_part p) ≡ true
-satisfies-transition_part p h values has obeys =
-    satisfies-range values (generation_clauses p) 0 (p.posed.generations - 1) (λ t low high. satisfies-generation_clauses p h values has obeys t (omega arith))
+satisfies-transitions_by : (p : PosedProblem) (form : Form) (cubes : List Cube) → ContainForbidden p.rule cubes → (h : History) (values : List Bool) → HasCells p values h → Obeys p h
+    → satisfies values (transitions_by p form cubes) ≡ true
+satisfies-transitions_by p form cubes just h values has obeys =
+    satisfies-range values (generation_clauses p form cubes) 0 (p.posed.generations - 1) (λ t low high. satisfies-generation_clauses p form cubes just h values has obeys t (omega arith))
 
 -- bounds that fit the file
 pub AreBounds-fitting : (p : PosedProblem) → AreFitting p.posed p.demands → AreBounds p p.demands.bounds
@@ -188,10 +194,10 @@ satisfies-bounds_part p h counters more kept fitting s has =
     (AllCount-append p kept before more (omega (arith, len)) (length p.posed.cells) p.demands.bounds fit (omega (arith, len)) counts) s.populated
 
 -- the theorem
-satisfies-formula_of : (p : PosedProblem) (h : History) (counters : HasCounters p (cells_of h) p.demands.bounds) → IsPosed p.posed → AreFitting p.posed p.demands → IsSolution p h
-    → satisfies (values_of p h counters) (formula_of p).clauses ≡ true
+satisfies-formula_of : (p : PosedProblem) (form : Form) (h : History) (counters : HasCounters p (cells_of h) p.demands.bounds) → IsPosed p.posed → AreFitting p.posed p.demands → IsSolution p h
+    → satisfies (values_of p h counters) (formula_of p form).clauses ≡ true
 unfolding formula_of
-satisfies-formula_of p h counters kept fitting s =
+satisfies-formula_of p form h counters kept fitting s =
     let before : List Bool = values_before p h counters in
     let values : List Bool = values_of p h counters in
     let count : length (cells_of h) ≡ length p.posed.cells = count_of p h kept s.sizes in
@@ -200,40 +206,40 @@ satisfies-formula_of p h counters kept fitting s =
     let has : HasCells p values h = HasCells-append p h before (marks_where p before p.demands.differ) has_before (omega (arith, len)) in
     let difference : satisfies values (difference_part p (difference_base p)) ≡ true =
     ap (λ base. satisfies values (difference_part p base)) (sym len) ∙ satisfies-difference_part p h before has_before (omega (arith, len)) fitting s.differ in
-    satisfies-append values (front_part p ++ transition_part p ++ bounds_part p (length p.posed.cells)) (difference_part p (difference_base p))
-    ∙ and_from _ _ (satisfies-append values (front_part p ++ transition_part p) (bounds_part p (length p.posed.cells))
-    ∙ and_from _ _ (satisfies-append values (front_part p) (transition_part p)
-    ∙ and_from _ _ (satisfies-front_part p h values has fitting s) (satisfies-transition_part p h values has s.rule))
+    satisfies-append values (front_part p ++ transition_part p form ++ bounds_part p (length p.posed.cells)) (difference_part p (difference_base p))
+    ∙ and_from _ _ (satisfies-append values (front_part p ++ transition_part p form) (bounds_part p (length p.posed.cells))
+    ∙ and_from _ _ (satisfies-append values (front_part p) (transition_part p form)
+    ∙ and_from _ _ (satisfies-front_part p h values has fitting s) (satisfies-transitions_by p form (cubes_of form p.rule) (cubes_contain form p.rule) h values has s.rule))
     (satisfies-bounds_part p h counters (marks_where p before p.demands.differ) kept fitting s has))
     difference
 
 -- a value for each variable
-length-values_of : (p : PosedProblem) (h : History) (counters : HasCounters p (cells_of h) p.demands.bounds) → IsPosed p.posed → HasSizes p.posed.generations p.posed.height p.posed.width h
-    → length (values_of p h counters) ≡ (formula_of p).vars
+length-values_of : (p : PosedProblem) (form : Form) (h : History) (counters : HasCounters p (cells_of h) p.demands.bounds) → IsPosed p.posed → HasSizes p.posed.generations p.posed.height p.posed.width h
+    → length (values_of p h counters) ≡ (formula_of p form).vars
 unfolding formula_of
-length-values_of p h counters kept sizes =
+length-values_of p form h counters kept sizes =
     let before : List Bool = values_before p h counters in
     length-append before (marks_where p before p.demands.differ)
     ∙ ap (λ n. n + length (marks_where p before p.demands.differ)) (length-values_before p h counters kept sizes)
     ∙ ap (λ n. difference_base p + n) (length-marks_where p before)
 
-pub HasAssignment-values_of : (p : PosedProblem) → IsPosed p.posed → AreFitting p.posed p.demands → (history : History) → IsSolution p history → HasAssignment (formula_of p) history
-HasAssignment-values_of p kept fitting history solution =
+pub HasAssignment-values_of : (p : PosedProblem) (form : Form) → IsPosed p.posed → AreFitting p.posed p.demands → (history : History) → IsSolution p history → HasAssignment (formula_of p form) history
+HasAssignment-values_of p form kept fitting history solution =
     let cells : List Bool = cells_of history in
     let count : length cells ≡ length p.posed.cells = count_of p history kept solution.sizes in
     let counters : HasCounters p cells p.demands.bounds = has_counters p kept p.demands.bounds (AreBounds-fitting p fitting) cells (omega (arith, count)) in
     let marks : List Bool = marks_where p (cells ++ counters.more) p.demands.differ in
     record {
       values = values_of p history counters;
-      count = length-values_of p history counters kept solution.sizes;
+      count = length-values_of p form history counters kept solution.sizes;
       cells = ap (take (length cells)) (append_assoc cells counters.more marks) ∙ take-append_seam cells (counters.more ++ marks);
-      satisfied = satisfies-formula_of p history counters kept fitting solution;
+      satisfied = satisfies-formula_of p form history counters kept fitting solution;
     }
 
 -- a formula that nothing satisfies has no solution
-pub absent_from : (p : PosedProblem) → IsPosed p.posed → AreFitting p.posed p.demands → IsUnsatisfiable (formula_of p) → IsAbsent p
-absent_from p kept fitting unsatisfiable history solution =
-    let assigned = HasAssignment-values_of p kept fitting history solution in
+pub absent_from : (p : PosedProblem) (form : Form) → IsPosed p.posed → AreFitting p.posed p.demands → IsUnsatisfiable (formula_of p form) → IsAbsent p
+absent_from p form kept fitting unsatisfiable history solution =
+    let assigned = HasAssignment-values_of p form kept fitting history solution in
     let none = unsatisfiable assigned.values assigned.count in
     let all = assigned.satisfied in
     cc

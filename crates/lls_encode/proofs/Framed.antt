@@ -42,3 +42,9 @@ framed_row Bare height width y x framed = (framed.0, framed.1)
 pub framed_column : (edge : Edge) (height width : ℕ) (y x : ℤ) → IsFramed edge height width y x → IsFramedLine edge width x
 framed_column Framed height width y x framed = (framed.2, framed.3)
 framed_column Bare height width y x framed = (framed.2, framed.3)
+
+-- a framed place is at most one row and one column beside the grid
+pub framed_limits : (edge : Edge) (height width : ℕ) (y x : ℤ) → IsFramed edge height width y x → ((negsuc 0 ≤ℤ y) × (y ≤ℤ pos height)) × ((negsuc 0 ≤ℤ x) × (x ≤ℤ pos width))
+framed_limits Framed height width y x framed = ((framed.0, framed.1), (framed.2, framed.3))
+framed_limits Bare height width y x framed =
+    ((omega (arith, ints, framed.0), omega (arith, ints, framed.1)), (omega (arith, ints, framed.2), omega (arith, ints, framed.3)))

@@ -5,13 +5,14 @@ use Rattle.std.specs.List.{flat_map, range_with_len}
 use Rattle.lls_lit.specs.Formula.{Clause, Cnf}
 use Rattle.lls_search_file.specs.Posed.{IsPosed}
 use Rattle.lls_problem.specs.declared.demands.Period.{Period}
+use Rattle.lls_problem.specs.declared.form.Form.{Form}
 use Rattle.lls_problem.specs.Problem.{PosedProblem, AreFitting}
 use Rattle.lls_problem.specs.Solution.{cell_number}
 use Rattle.lls_transition.specs.Clause.{with_clauses}
-use Rattle.lls_encode.specs.Formula.{fixed_clauses, name_clauses, generation_clauses, generation_size, period_clauses, difference_variable, cell_difference, differing_clauses, fixed_part, name_part, symmetry_part, period_part, front_part, transition_part, bounds_part, bounds_vars, difference_base, difference_part, difference_vars, formula_of}
+use Rattle.lls_encode.specs.Formula.{fixed_clauses, name_clauses, cubes_of, generation_clauses, generation_size, period_clauses, difference_variable, cell_difference, differing_clauses, fixed_part, name_part, symmetry_part, period_part, front_part, transition_part, bounds_part, bounds_vars, difference_base, difference_part, difference_vars, formula_of}
 use Rattle.lls_encode.specs.Room.{HasRoom, with_more}
 use Rattle.lls_encode.proofs.Steps.{length-flat_map_most, HasRoom-behind, with_clauses-append}
-use Rattle.lls_encode.proofs.Bounds.{length-fixed_clauses, length-generation_clauses, length-symmetry_part, length-period_clauses}
+use Rattle.lls_encode.proofs.Bounds.{length-fixed_clauses, length-cubes_of, length-generation_clauses, length-symmetry_part, length-period_clauses}
 use Rattle.lls_encode.proofs.Firsts.{length-name_clauses}
 use Rattle.lls_encode.proofs.Differences.{generation_few}
 use Rattle.lls_encode.proofs.Counters.{length-bounds_clauses}
@@ -44,12 +45,13 @@ length-front_part p kept fitting =
       length-period_part p kept fitting,
     )
 
-length-transition_part : (p : PosedProblem) → IsPosed p.posed → length (transition_part p) ≤ 140507136
-length-transition_part p kept =
+length-transition_part : (p : PosedProblem) (form : Form) → IsPosed p.posed → length (transition_part p form) ≤ 140507136
+length-transition_part p form kept =
     omega (
       arith,
       kept.generations.1,
-      length-flat_map_most (generation_clauses p) 2230272 (λ t. length-generation_clauses p t kept.width.1 kept.height.1) 0 (p.posed.generations - 1),
+      length-flat_map_most (generation_clauses p form (cubes_of form p.rule)) 2230272
+          (λ t. length-generation_clauses p form (cubes_of form p.rule) (length-cubes_of form p.rule) t kept.width.1 kept.height.1) 0 (p.posed.generations - 1),
     )
 
 length-difference : (p : PosedProblem) → IsPosed p.posed → (base : ℕ) (asked : Option (ℕ × ℕ)) → length (option_map_or (differing_clauses p base) asked []) ≤ 8193
@@ -66,16 +68,16 @@ length-bounds_part : (p : PosedProblem) → IsPosed p.posed → AreFitting p.pos
 length-bounds_part p kept fitting base = omega (arith, length-bounds_clauses p kept base p.demands.bounds, fitting.counters)
 
 -- all clauses together are few
-pub few_clauses : (p : PosedProblem) → IsPosed p.posed → AreFitting p.posed p.demands → length (formula_of p).clauses < 200000000
+pub few_clauses : (p : PosedProblem) (form : Form) → IsPosed p.posed → AreFitting p.posed p.demands → length (formula_of p form).clauses < 200000000
 unfolding formula_of
-few_clauses p kept fitting =
+few_clauses p form kept fitting =
     omega (
       arith,
-      length-append (front_part p ++ transition_part p ++ bounds_part p (length p.posed.cells)) (difference_part p (difference_base p)),
-      length-append (front_part p ++ transition_part p) (bounds_part p (length p.posed.cells)),
-      length-append (front_part p) (transition_part p),
+      length-append (front_part p ++ transition_part p form ++ bounds_part p (length p.posed.cells)) (difference_part p (difference_base p)),
+      length-append (front_part p ++ transition_part p form) (bounds_part p (length p.posed.cells)),
+      length-append (front_part p) (transition_part p form),
       length-front_part p kept fitting,
-      length-transition_part p kept,
+      length-transition_part p form kept,
       length-bounds_part p kept fitting (length p.posed.cells),
       length-difference_part p kept (difference_base p),
     )
@@ -104,13 +106,13 @@ room_for_period p names symmetric kept has is = HasRoom-behind names symmetric (
 abbrev pub empty_of : PosedProblem → Cnf
 empty_of p = record { vars = length p.posed.cells; clauses = [] }
 
-pub made : (p : PosedProblem) (empty front transitions bounded all : Cnf) → empty ≡ empty_of p → front ≡ with_clauses empty (front_part p) → transitions ≡ with_clauses front (transition_part p)
-    → bounded ≡ with_more transitions (bounds_vars p) (bounds_part p transitions.vars) → all ≡ with_more bounded (difference_vars p) (difference_part p bounded.vars) → all ≡ formula_of p
+pub made : (p : PosedProblem) (form : Form) (empty front transitions bounded all : Cnf) → empty ≡ empty_of p → front ≡ with_clauses empty (front_part p) → transitions ≡ with_clauses front (transition_part p form)
+    → bounded ≡ with_more transitions (bounds_vars p) (bounds_part p transitions.vars) → all ≡ with_more bounded (difference_vars p) (difference_part p bounded.vars) → all ≡ formula_of p form
 unfolding formula_of
-made p empty front transitions bounded all none one two three four =
+made p form empty front transitions bounded all none one two three four =
     four ∙ ap (λ (f : Cnf). with_more f (difference_vars p) (difference_part p f.vars))
     (three ∙ ap (λ (f : Cnf). with_more f (bounds_vars p) (bounds_part p f.vars))
-    (two ∙ ap (λ f. with_clauses f (transition_part p)) (one ∙ ap (λ f. with_clauses f (front_part p)) none)))
+    (two ∙ ap (λ f. with_clauses f (transition_part p form)) (one ∙ ap (λ f. with_clauses f (front_part p)) none)))
 
 -- the room that is left for the transitions, for the bounds and for the difference
 pub room_for_transitions : (p : PosedProblem) (empty front : Cnf) → IsPosed p.posed → AreFitting p.posed p.demands → empty ≡ empty_of p → front ≡ with_clauses empty (front_part p) → HasRoom front 900000000
@@ -118,8 +120,8 @@ room_for_transitions p empty front kept fitting is made =
     let none : length empty.clauses ≡ 0 = ap (λ (f : Cnf). length f.clauses) is in
     HasRoom-behind empty front (front_part p) 1000000000 900000000 made (omega (arith, length-front_part p kept fitting)) (omega (arith, none))
 
-pub room_for_bounds : (p : PosedProblem) (front transitions : Cnf) → IsPosed p.posed → HasRoom front 900000000 → transitions ≡ with_clauses front (transition_part p) → HasRoom transitions 700000000
-room_for_bounds p front transitions kept has is = HasRoom-behind front transitions (transition_part p) 900000000 700000000 is (omega (arith, length-transition_part p kept)) has
+pub room_for_bounds : (p : PosedProblem) (form : Form) (front transitions : Cnf) → IsPosed p.posed → HasRoom front 900000000 → transitions ≡ with_clauses front (transition_part p form) → HasRoom transitions 700000000
+room_for_bounds p form front transitions kept has is = HasRoom-behind front transitions (transition_part p form) 900000000 700000000 is (omega (arith, length-transition_part p form kept)) has
 
 pub room_for_difference : (p : PosedProblem) (transitions bounded : Cnf) → IsPosed p.posed → AreFitting p.posed p.demands → HasRoom transitions 700000000
     → bounded ≡ with_more transitions (bounds_vars p) (bounds_part p transitions.vars) → HasRoom bounded 16385

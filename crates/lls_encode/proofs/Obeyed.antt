@@ -1,4 +1,5 @@
--- The clauses of a transition are satisfied exactly where the place has the successor of its neighbourhood.
+-- The clauses of a transition, of cubes that contain just the forbidden rows, are satisfied exactly where the place has the
+-- successor of its neighbourhood.
 use Rattle.std.proofs.Common.{◌≡◌, ◌<◌, ◌≤◌, ◌↔◌, ℕ, ◌+◌, ℤ, pos, ◌+ℤ◌, ◌-ℤ◌, Bool, true, false, leb, List, [], ◌∷◌, take, get_or, refl, sym, ap, ◌∙◌, arith, Option, None, Some}
 use Rattle.std.specs.List.{list_all}
 use Rattle.std.proofs.lemmas.Bool.{and_parts, and_from, le-leb}
@@ -6,13 +7,19 @@ use Rattle.lls_lit.specs.Literal.{variable_of}
 use Rattle.lls_lit.specs.Formula.{satisfies}
 use Rattle.lls_rule.specs.Rule.{successor}
 use Rattle.lls_grid.specs.History.{History, at, nine}
+use Rattle.lls_problem.specs.declared.form.Form.{Form}
+use Rattle.lls_problem.specs.declared.form.Form.TheVariants.{Rows, Cover}
 use Rattle.lls_problem.specs.Problem.{PosedProblem}
 use Rattle.lls_problem.specs.Solution.{place_of}
+use Rattle.lls_cube.specs.declared.cube.Cube.{Cube}
 use Rattle.lls_transition.specs.declared.place.Place.{Place}
 use Rattle.lls_transition.specs.declared.place.Place.TheVariants.{Known, Of}
 use Rattle.lls_transition.specs.Place.{place_within}
-use Rattle.lls_transition.specs.Transition.{transition_clauses}
-use Rattle.lls_transition.proofs.Obeyed.{satisfies_obeys}
+use Rattle.lls_transition.specs.Clause.{cube_clauses}
+use Rattle.lls_transition.specs.Transition.{ContainForbidden}
+use Rattle.lls_transition.proofs.Distinct.{satisfies-distinct}
+use Rattle.lls_transition.proofs.Obeyed.{cubes_obey, forbidden_cubes, covering_cubes}
+use Rattle.lls_encode.specs.Formula.{cubes_of, clauses_at}
 use Rattle.lls_encode.specs.Place.{place_at, place_in, inputs_at}
 use Rattle.lls_encode.proofs.Values.{HasCells, values-inputs_at}
 
@@ -56,20 +63,31 @@ within_most (Of literal ∷ places) vars few all =
     let parts = and_parts _ _ all in
     and_from _ _ (and_from _ _ parts.0 (le-leb (variable_of literal) vars (omega arith))) (within_most places vars (omega arith) parts.1)
 
-obeys : (p : PosedProblem) (h : History) (values : List Bool) → HasCells p values h → (t : ℕ) (y x : ℤ) → t + 1 < p.posed.generations
-    → (satisfies values (transition_clauses p.rule (inputs_at p t y x)) ≡ true) ↔ (at p.rule h (t + 1) y x ≡ successor p.rule (nine p.rule h t y x))
-obeys p h values has t y x next_in =
+-- the cubes of either form contain just the forbidden rows
+pub cubes_contain : (form : Form) (rule : List Bool) → ContainForbidden rule (cubes_of form rule)
+cubes_contain Rows rule = forbidden_cubes rule
+cubes_contain Cover rule = covering_cubes rule
+
+-- clauses that aren't repeated say the same
+satisfies-clauses_at : (values : List Bool) (form : Form) (cubes : List Cube) (inputs : List Place) → satisfies values (clauses_at form cubes inputs) ≡ satisfies values (cube_clauses inputs cubes)
+satisfies-clauses_at values Rows cubes inputs = refl
+satisfies-clauses_at values Cover cubes inputs = satisfies-distinct values (cube_clauses inputs cubes)
+
+obeys : (p : PosedProblem) (form : Form) (cubes : List Cube) → ContainForbidden p.rule cubes → (h : History) (values : List Bool) → HasCells p values h → (t : ℕ) (y x : ℤ) → t + 1 < p.posed.generations
+    → (satisfies values (clauses_at form cubes (inputs_at p t y x)) ≡ true) ↔ (at p.rule h (t + 1) y x ≡ successor p.rule (nine p.rule h t y x))
+obeys p form cubes just h values has t y x next_in =
     let inputs = inputs_at p t y x in
     let said = values-inputs_at p h values has t y x next_in in
-    let law = satisfies_obeys values (most_of inputs) p.rule inputs (within_most inputs (most_of inputs) (omega arith) (inputs_are_literals p t y x)) refl in
+    let law = cubes_obey values (most_of inputs) p.rule inputs cubes (within_most inputs (most_of inputs) (omega arith) (inputs_are_literals p t y x)) refl just in
     let last = ap (λ bits. get_or bits 9 false) said in
     let before = ap (λ bits. successor p.rule (take 9 bits)) said in
-    (λ satisfied. sym last ∙ law.0 satisfied ∙ before, λ obeyed. law.1 (last ∙ obeyed ∙ sym before))
+    let same = satisfies-clauses_at values form cubes inputs in
+    (λ satisfied. sym last ∙ law.0 (sym same ∙ satisfied) ∙ before, λ obeyed. same ∙ law.1 (last ∙ obeyed ∙ sym before))
 
-pub satisfies-transition_clauses : (p : PosedProblem) (h : History) (values : List Bool) → HasCells p values h → (t : ℕ) (y x : ℤ) → t + 1 < p.posed.generations
-    → at p.rule h (t + 1) y x ≡ successor p.rule (nine p.rule h t y x) → satisfies values (transition_clauses p.rule (inputs_at p t y x)) ≡ true
-satisfies-transition_clauses p h values has t y x next_in obeyed = (obeys p h values has t y x next_in).1 obeyed
+pub satisfies-by_successor : (p : PosedProblem) (form : Form) (cubes : List Cube) → ContainForbidden p.rule cubes → (h : History) (values : List Bool) → HasCells p values h → (t : ℕ) (y x : ℤ)
+    → t + 1 < p.posed.generations → at p.rule h (t + 1) y x ≡ successor p.rule (nine p.rule h t y x) → satisfies values (clauses_at form cubes (inputs_at p t y x)) ≡ true
+satisfies-by_successor p form cubes just h values has t y x next_in obeyed = (obeys p form cubes just h values has t y x next_in).1 obeyed
 
-pub successor-by_clauses : (p : PosedProblem) (h : History) (values : List Bool) → HasCells p values h → (t : ℕ) (y x : ℤ) → t + 1 < p.posed.generations
-    → satisfies values (transition_clauses p.rule (inputs_at p t y x)) ≡ true → at p.rule h (t + 1) y x ≡ successor p.rule (nine p.rule h t y x)
-successor-by_clauses p h values has t y x next_in satisfied = (obeys p h values has t y x next_in).0 satisfied
+pub successor-by_clauses : (p : PosedProblem) (form : Form) (cubes : List Cube) → ContainForbidden p.rule cubes → (h : History) (values : List Bool) → HasCells p values h → (t : ℕ) (y x : ℤ)
+    → t + 1 < p.posed.generations → satisfies values (clauses_at form cubes (inputs_at p t y x)) ≡ true → at p.rule h (t + 1) y x ≡ successor p.rule (nine p.rule h t y x)
+successor-by_clauses p form cubes just h values has t y x next_in satisfied = (obeys p form cubes just h values has t y x next_in).0 satisfied

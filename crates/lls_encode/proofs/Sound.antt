@@ -10,15 +10,18 @@ use Rattle.lls_grid.specs.History.{History, HasSizes, folded, cells_of, cells_of
 use Rattle.lls_grid.proofs.Folded.{length-folded, height_of-folded, width_of-folded, HasSizes-folded}
 use Rattle.lls_grid.proofs.Chunks.{folded-chunked, joined-chunked, length-chunked}
 use Rattle.lls_search_file.specs.Posed.{IsPosed}
+use Rattle.lls_problem.specs.declared.form.Form.{Form}
 use Rattle.lls_problem.specs.Problem.{PosedProblem, AreFitting}
 use Rattle.lls_problem.specs.Solution.{is_marked, Obeys, IsSolution, IsAbsent}
-use Rattle.lls_encode.specs.Formula.{place_clauses, line_clauses, generation_clauses, fixed_part, name_part, symmetry_part, period_part, front_part, transition_part, bounds_part, difference_base, difference_part, formula_of}
+use Rattle.lls_cube.specs.declared.cube.Cube.{Cube}
+use Rattle.lls_transition.specs.Transition.{ContainForbidden}
+use Rattle.lls_encode.specs.Formula.{cubes_of, transitions_by, place_clauses, line_clauses, generation_clauses, fixed_part, name_part, symmetry_part, period_part, front_part, transition_part, bounds_part, difference_base, difference_part, formula_of}
 use Rattle.lls_encode.specs.History.{history_of}
 use Rattle.lls_encode.proofs.Framed.{framed_row, framed_column}
 use Rattle.lls_encode.proofs.Values.{HasCells}
 use Rattle.lls_encode.proofs.Complete.{MeetsCells-same, AreBounds-fitting}
 use Rattle.lls_encode.proofs.Parts.{satisfies-append, satisfied_in_range, satisfied_framed}
-use Rattle.lls_encode.proofs.Obeyed.{successor-by_clauses}
+use Rattle.lls_encode.proofs.Obeyed.{cubes_contain, successor-by_clauses}
 use Rattle.lls_encode.proofs.Agree.{MeetsCells-by_clauses}
 use Rattle.lls_encode.proofs.Mirrored.{AreSymmetric-by_clauses}
 use Rattle.lls_encode.proofs.Returned.{Returns-by_clauses}
@@ -58,7 +61,7 @@ HasSizes-history_of p values kept =
     )
 
 -- the first values are the history's cells
-HasCells-history_of : (p : PosedProblem) (values : List Bool) → IsPosed p.posed → length p.posed.cells ≤ length values → HasCells p values (history_of p values)
+pub HasCells-history_of : (p : PosedProblem) (values : List Bool) → IsPosed p.posed → length p.posed.cells ≤ length values → HasCells p values (history_of p values)
 HasCells-history_of p values kept enough = record {
   kept = kept;
   sizes = HasSizes-history_of p values kept;
@@ -70,45 +73,46 @@ unmarked : (values : List Bool) (mark : Bool) (clauses : List Clause) → mark �
 unmarked values true clauses free satisfied = cc
 unmarked values false clauses free satisfied = satisfied
 
-Obeys-by_clauses : (p : PosedProblem) (h : History) (values : List Bool) → HasCells p values h → satisfies values (transition_part p) ≡ true → Obeys p h
-Obeys-by_clauses p h values has satisfied = λ t y x next_in framed free.
+Obeys-by_clauses : (p : PosedProblem) (form : Form) (cubes : List Cube) → ContainForbidden p.rule cubes → (h : History) (values : List Bool) → HasCells p values h
+    → satisfies values (transitions_by p form cubes) ≡ true → Obeys p h
+Obeys-by_clauses p form cubes just h values has satisfied = λ t y x next_in framed free.
     let edge = p.demands.edge in
-    let generation = satisfied_in_range values (generation_clauses p) 0 (p.posed.generations - 1) t satisfied (omega arith) (omega arith) in
-    let line = satisfied_framed values (line_clauses p t) edge p.posed.height y generation (framed_row edge p.posed.height p.posed.width y x framed) in
-    let place = satisfied_framed values (place_clauses p t y) edge p.posed.width x line (framed_column edge p.posed.height p.posed.width y x framed) in
-    successor-by_clauses p h values has t y x next_in (unmarked values (is_marked p.posed (t + 1) y x) _ free place)
+    let generation = satisfied_in_range values (generation_clauses p form cubes) 0 (p.posed.generations - 1) t satisfied (omega arith) (omega arith) in
+    let line = satisfied_framed values (line_clauses p form cubes t) edge p.posed.height y generation (framed_row edge p.posed.height p.posed.width y x framed) in
+    let place = satisfied_framed values (place_clauses p form cubes t y) edge p.posed.width x line (framed_column edge p.posed.height p.posed.width y x framed) in
+    successor-by_clauses p form cubes just h values has t y x next_in (unmarked values (is_marked p.posed (t + 1) y x) _ free place)
 
 -- each part of the formula is satisfied
-record SatisfiesParts (p : PosedProblem) (values : List Bool) : Type 0 where
+record SatisfiesParts (p : PosedProblem) (form : Form) (values : List Bool) : Type 0 where
   fixed : satisfies values (fixed_part p) ≡ true
   names : satisfies values (name_part p) ≡ true
   symmetry : satisfies values (symmetry_part p) ≡ true
   period : satisfies values (period_part p) ≡ true
-  transitions : satisfies values (transition_part p) ≡ true
+  transitions : satisfies values (transition_part p form) ≡ true
   bounds : satisfies values (bounds_part p (length p.posed.cells)) ≡ true
   difference : satisfies values (difference_part p (difference_base p)) ≡ true
 
-parts_of : (p : PosedProblem) (values : List Bool) → satisfies values (formula_of p).clauses ≡ true → SatisfiesParts p values
+parts_of : (p : PosedProblem) (form : Form) (values : List Bool) → satisfies values (formula_of p form).clauses ≡ true → SatisfiesParts p form values
 unfolding formula_of
-parts_of p values satisfied =
-    let all = and_parts _ _ (sym (satisfies-append values (front_part p ++ transition_part p ++ bounds_part p (length p.posed.cells)) (difference_part p (difference_base p))) ∙ satisfied) in
-    let most = and_parts _ _ (sym (satisfies-append values (front_part p ++ transition_part p) (bounds_part p (length p.posed.cells))) ∙ all.0) in
-    let body = and_parts _ _ (sym (satisfies-append values (front_part p) (transition_part p)) ∙ most.0) in
+parts_of p form values satisfied =
+    let all = and_parts _ _ (sym (satisfies-append values (front_part p ++ transition_part p form ++ bounds_part p (length p.posed.cells)) (difference_part p (difference_base p))) ∙ satisfied) in
+    let most = and_parts _ _ (sym (satisfies-append values (front_part p ++ transition_part p form) (bounds_part p (length p.posed.cells))) ∙ all.0) in
+    let body = and_parts _ _ (sym (satisfies-append values (front_part p) (transition_part p form)) ∙ most.0) in
     let front = and_parts _ _ (sym (satisfies-append values (fixed_part p ++ name_part p ++ symmetry_part p) (period_part p)) ∙ body.0) in
     let still = and_parts _ _ (sym (satisfies-append values (fixed_part p ++ name_part p) (symmetry_part p)) ∙ front.0) in
     let cells = and_parts _ _ (sym (satisfies-append values (fixed_part p) (name_part p)) ∙ still.0) in
     record { fixed = cells.0; names = cells.1; symmetry = still.1; period = front.1; transitions = body.1; bounds = most.1; difference = all.1 }
 
 -- a value for each variable is one for each cell at least
-enough_values : (p : PosedProblem) (values : List Bool) → length values ≡ (formula_of p).vars → length p.posed.cells ≤ length values
+enough_values : (p : PosedProblem) (form : Form) (values : List Bool) → length values ≡ (formula_of p form).vars → length p.posed.cells ≤ length values
 unfolding formula_of
-enough_values p values len = omega (arith, len)
+enough_values p form values len = omega (arith, len)
 
 -- the theorem
-pub IsSolution-history_of : (p : PosedProblem) → IsPosed p.posed → AreFitting p.posed p.demands → (values : List Bool) → length p.posed.cells ≤ length values
-    → satisfies values (formula_of p).clauses ≡ true → IsSolution p (history_of p values)
-IsSolution-history_of p kept fitting values enough satisfied =
-    let parts = parts_of p values satisfied in
+pub IsSolution-history_of : (p : PosedProblem) (form : Form) → IsPosed p.posed → AreFitting p.posed p.demands → (values : List Bool) → length p.posed.cells ≤ length values
+    → satisfies values (formula_of p form).clauses ≡ true → IsSolution p (history_of p values)
+IsSolution-history_of p form kept fitting values enough satisfied =
+    let parts = parts_of p form values satisfied in
     let h : History = history_of p values in
     let has : HasCells p values h = HasCells-history_of p values kept enough in
     record {
@@ -116,12 +120,12 @@ IsSolution-history_of p kept fitting values enough satisfied =
       cells = MeetsCells-same p.posed.cells values (cells_of h) has.cells (MeetsCells-by_clauses values p.posed.cells parts.fixed parts.names);
       symmetric = AreSymmetric-by_clauses p h values has fitting parts.symmetry;
       moved = Returns-by_clauses p h values has parts.period;
-      rule = Obeys-by_clauses p h values has parts.transitions;
+      rule = Obeys-by_clauses p form (cubes_of form p.rule) (cubes_contain form p.rule) h values has parts.transitions;
       populated = All-by_clauses p h values has (length p.posed.cells) (omega arith) p.demands.bounds (AreBounds-fitting p fitting) parts.bounds;
       differ = Differs-by_clauses p h values has fitting (difference_base p) parts.difference;
     }
 
 -- so where there is no solution nothing satisfies the formula
-pub unsatisfiable_from : (p : PosedProblem) → IsPosed p.posed → AreFitting p.posed p.demands → IsAbsent p → IsUnsatisfiable (formula_of p)
-unsatisfiable_from p kept fitting absent values len =
-    false_from_ne_true (satisfies values (formula_of p).clauses) (λ satisfied. absent (history_of p values) (IsSolution-history_of p kept fitting values (enough_values p values len) satisfied))
+pub unsatisfiable_from : (p : PosedProblem) (form : Form) → IsPosed p.posed → AreFitting p.posed p.demands → IsAbsent p → IsUnsatisfiable (formula_of p form)
+unsatisfiable_from p form kept fitting absent values len =
+    false_from_ne_true (satisfies values (formula_of p form).clauses) (λ satisfied. absent (history_of p values) (IsSolution-history_of p form kept fitting values (enough_values p form values len) satisfied))

@@ -1,5 +1,5 @@
 -- The formula of a problem, by its parts: fixed cells, names, symmetry, period, transitions, bounds on live cells, differing
--- generations.
+-- generations. The transitions are by its form.
 use Rattle.std.specs.Prelude.{ℕ, ◌+◌, ◌-◌, ◌*◌, ℤ, pos, negsuc, ◌-ℤ◌, Bool, true, false, ◌==◌, nat_le, List, [], ◌∷◌, ◌++◌, map, length, Option, None, Some, if◌then◌else◌}
 use Rattle.std.specs.Option.{option_map_or, option_to_list}
 use Rattle.std.specs.List.{flat_map, range_with_len, position_from}
@@ -19,15 +19,22 @@ use Rattle.lls_symmetry.specs.Moved.{generation_moved}
 use Rattle.lls_problem.specs.declared.demands.Edge.{Edge}
 use Rattle.lls_problem.specs.declared.demands.Edge.TheVariants.{Framed, Bare}
 use Rattle.lls_problem.specs.declared.demands.Period.{Period}
+use Rattle.lls_problem.specs.declared.form.Form.{Form}
+use Rattle.lls_problem.specs.declared.form.Form.TheVariants.{Rows, Cover}
 use Rattle.lls_problem.specs.declared.bounds.Bound.{Bound}
 use Rattle.lls_problem.specs.Bounds.{top_end, counter_top, counter_vars, all_counter_vars}
 use Rattle.lls_problem.specs.Problem.{PosedProblem}
 use Rattle.lls_problem.specs.Solution.{cell_number, is_marked}
 use Rattle.lls_problem.specs.Unlike.{differ}
 use Rattle.lls_problem.specs.Losses.{course_of}
+use Rattle.lls_cube.specs.declared.cube.Cube.{Cube}
+use Rattle.lls_cube.specs.Table.{forbidden_rows}
+use Rattle.lls_cube.specs.Cube.{row_cube}
+use Rattle.lls_cube.specs.Cover.{cover_of}
 use Rattle.lls_transition.specs.declared.place.Place.{Place}
-use Rattle.lls_transition.specs.Clause.{differing, clause_of}
-use Rattle.lls_transition.specs.Transition.{transition_clauses}
+use Rattle.lls_transition.specs.declared.table.TheConstants.{INPUTS}
+use Rattle.lls_transition.specs.Clause.{differing, clause_of, cube_clauses, distinct}
+use Rattle.lls_transition.specs.Transition.{table_of}
 use Rattle.lls_cardinality.specs.Counter.{at_least, counter_clauses}
 use Rattle.lls_encode.specs.Place.{place_at, inputs_at}
 
@@ -76,15 +83,25 @@ framed_count Bare size = size
 abbrev pub framed : Edge → ℕ → List ℤ
 framed edge size = map (λ i. pos i -ℤ pos 1) (range_with_len (first_framed edge) (framed_count edge size))
 
+-- the cubes of a rule's transitions: one for each row that it forbids, ascending, or the cover of these rows
+abbrev pub cubes_of : Form → List Bool → List Cube
+cubes_of Rows rule = map (row_cube INPUTS) (forbidden_rows (table_of rule))
+cubes_of Cover rule = cover_of (table_of rule) INPUTS
+
+-- the clauses of cubes with these inputs; of a cover's, one that equals an earlier one, as a list, is left out
+abbrev pub clauses_at : Form → List Cube → List Place → List Clause
+clauses_at Rows cubes inputs = cube_clauses inputs cubes
+clauses_at Cover cubes inputs = distinct (cube_clauses inputs cubes)
+
 -- the transition into a place of generation t + 1, unless a mark frees it
-abbrev pub place_clauses : PosedProblem → ℕ → ℤ → ℤ → List Clause
-place_clauses p t y x = if is_marked p.posed (t + 1) y x then [] else transition_clauses p.rule (inputs_at p t y x)
+abbrev pub place_clauses : PosedProblem → Form → List Cube → ℕ → ℤ → ℤ → List Clause
+place_clauses p form cubes t y x = if is_marked p.posed (t + 1) y x then [] else clauses_at form cubes (inputs_at p t y x)
 
-abbrev pub line_clauses : PosedProblem → ℕ → ℤ → List Clause
-line_clauses p t y = flat_map (place_clauses p t y) (framed p.demands.edge p.posed.width)
+abbrev pub line_clauses : PosedProblem → Form → List Cube → ℕ → ℤ → List Clause
+line_clauses p form cubes t y = flat_map (place_clauses p form cubes t y) (framed p.demands.edge p.posed.width)
 
-abbrev pub generation_clauses : PosedProblem → ℕ → List Clause
-generation_clauses p t = flat_map (line_clauses p t) (framed p.demands.edge p.posed.height)
+abbrev pub generation_clauses : PosedProblem → Form → List Cube → ℕ → List Clause
+generation_clauses p form cubes t = flat_map (line_clauses p form cubes t) (framed p.demands.edge p.posed.height)
 
 -- one of two places is true
 abbrev pub either : Place → Place → List Clause
@@ -188,8 +205,11 @@ symmetry_part p = flat_map (motion_clauses p) (generators_of p.demands.symmetry)
 abbrev pub period_part : PosedProblem → List Clause
 period_part p = option_map_or (period_clauses p) p.demands.period []
 
-abbrev pub transition_part : PosedProblem → List Clause
-transition_part p = flat_map (generation_clauses p) (range_with_len 0 (p.posed.generations - 1))
+abbrev pub transitions_by : PosedProblem → Form → List Cube → List Clause
+transitions_by p form cubes = flat_map (generation_clauses p form cubes) (range_with_len 0 (p.posed.generations - 1))
+
+abbrev pub transition_part : PosedProblem → Form → List Clause
+transition_part p form = transitions_by p form (cubes_of form p.rule)
 
 abbrev pub bounds_part : PosedProblem → ℕ → List Clause
 bounds_part p base = bounds_clauses p base p.demands.bounds
@@ -214,8 +234,8 @@ abbrev pub difference_base : PosedProblem → ℕ
 difference_base p = length p.posed.cells + bounds_vars p
 
 -- one variable a cell, and behind these the variables of the counters and of the difference
-unfoldable pub formula_of : PosedProblem → Cnf
-formula_of p = record {
+unfoldable pub formula_of : PosedProblem → Form → Cnf
+formula_of p form = record {
   vars = difference_base p + difference_vars p;
-  clauses = front_part p ++ transition_part p ++ bounds_part p (length p.posed.cells) ++ difference_part p (difference_base p);
+  clauses = front_part p ++ transition_part p form ++ bounds_part p (length p.posed.cells) ++ difference_part p (difference_base p);
 }

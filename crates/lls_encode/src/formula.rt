@@ -17,7 +17,7 @@ use crate::transition::push_transitions;
 use lls_base::Memory;
 use lls_cnf::Formula;
 use lls_grid::History;
-use lls_problem::Problem;
+use lls_problem::{Form, Problem};
 use std::alloc::Global;
 
 /// Every formula of a problem has fewer clauses.
@@ -45,9 +45,10 @@ fn push_front(alloc: Global, formula: &mut Formula, problem: &Problem) -> Result
 /// The formula of a problem, with one variable a cell in the order generation, row, column. Behind them stand the variables
 /// of the counters that bounds on live cells need. Where two generations have to differ, it has one variable more for each
 /// cell of the grid, behind all others.
-/// The clauses come in this order: fixed cells, names, symmetry, period, transitions, bounds, differing generations.
-pub fn encode(alloc: Global, problem: &Problem) -> Result<Formula, Memory>
-    ensures formula { IfOk result (λ formula. formula ≡ formula_of problem.now) }
+/// The clauses come in this order: fixed cells, names, symmetry, period, transitions, bounds, differing generations. Those of
+/// the transitions are by the form: for each place, the clauses of the cubes that the form takes of the rule's forbidden rows.
+pub fn encode(alloc: Global, problem: &Problem, form: Form) -> Result<Formula, Memory>
+    ensures formula { IfOk result (λ formula. formula ≡ formula_of problem.now form) }
     ensures few { IfOk result (λ formula. length formula.clauses < CLAUSES_BELOW) }
 
     // Every solution has an assignment that satisfies it and begins with the solution's cells.
@@ -70,7 +71,7 @@ pub fn encode(alloc: Global, problem: &Problem) -> Result<Formula, Memory>
     let cells = problem.posed().cells.items().len();
     let mut formula = Formula::new(alloc, cells as u32);
     push_front(alloc, &mut formula, problem)?;
-    push_transitions(alloc, &mut formula, problem)?;
+    push_transitions(alloc, &mut formula, problem, form)?;
     push_bounds(alloc, &mut formula, problem)?;
     push_difference(alloc, &mut formula, problem)?;
     Ok(formula)

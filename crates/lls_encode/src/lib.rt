@@ -17,3 +17,4 @@ mod transition;
 
 pub use decoding::decode;
 pub use formula::{CLAUSES_BELOW, encode};
+pub use place::inputs;

@@ -7,7 +7,7 @@ ghost use Rattle.lls_problem.specs.Problem.{IsPeriod};
 use crate::{decode, encode};
 use lls_cnf::{Assignment, Formula};
 use lls_grid::print_history;
-use lls_problem::{Bound, Bounds, Demands, Edge, Period, make_problem};
+use lls_problem::{Bound, Bounds, Demands, Edge, Form, Period, make_problem};
 use lls_rule::Rule;
 use lls_search_file::read_posed;
 use lls_symmetry::Symmetry;
@@ -28,12 +28,18 @@ fn clauses(alloc: Global, formula: &Formula) -> Result<String, AllocError> {
 }
 
 // The formula of a search file under a rule and demands.
-fn encoded(alloc: Global, file: &[u8], rule: Rule, demands: Demands) -> Result<Formula, Fail>
+fn encoded(
+    alloc: Global,
+    file: &[u8],
+    rule: Rule,
+    demands: Demands,
+    form: Form,
+) -> Result<Formula, Fail>
     requires period { ForSome demands.period IsPeriod }
     requires bounds { All HasEnds demands.bounds }
 {
     let problem = make_problem(read_posed(alloc, file)?, rule, demands)?;
-    Ok(encode(alloc, &problem)?)
+    Ok(encode(alloc, &problem, form)?)
 }
 
 #[test]
@@ -105,7 +111,45 @@ fn formulas_of_search_files(rt: HostRuntime) -> Result<(), Fail> {
         (b"* *\n* *", life, Edge::Framed, 4, ""),
     ];
     for (file, rule, edge, vars, text) in rows {
-        let formula = encoded(alloc, file, rule, Demands::new(alloc, edge))?;
+        let formula = encoded(alloc, file, rule, Demands::new(alloc, edge), Form::Rows)?;
+        let found = clauses(alloc, &formula)?;
+        assert_eq!(rt; formula.vars(), vars);
+        assert_eq!(rt; found.as_str(), text);
+    }
+    Ok(())
+}
+
+#[test]
+fn formulas_by_cover(rt: HostRuntime) -> Result<(), Fail> {
+    let alloc = rt.alloc();
+    let life = Rule::from_counts(0b0_0000_1000, 0b0_0000_1100);
+    let blinking = Rule::from_counts(0b0_0000_0001, 0);
+    let dying = Rule::from_counts(0, 0);
+    let rows: [(&[u8], Rule, Option<(u32, u32)>, u32, &str); 5] = [
+        (b"1\n\n1", life, None, 2, "1 0\n2 0\n1 -2 0\n-2 0\n"),
+        (b"1\n\n1'", life, None, 2, "1 0\n2 0\n"),
+        (
+            b"*\n\n*",
+            life,
+            Some((0, 1)),
+            3,
+            "1 -2 0\n-2 0\n-3 1 2 0\n-3 -1 -2 0\n3 0\n",
+        ),
+        // All cells die, so the one literal of the next generation is false.
+        (b"*\n\n*", dying, None, 2, "-2 0\n"),
+        // The ring's places repeat a clause, each in its own place.
+        (
+            b"*\n\n*",
+            blinking,
+            None,
+            2,
+            "-1 0\n-1 0\n-1 0\n-1 0\n1 2 0\n-1 -2 0\n-1 0\n-1 0\n-1 0\n-1 0\n",
+        ),
+    ];
+    for (file, rule, differ, vars, text) in rows {
+        let mut demands = Demands::new(alloc, Edge::Framed);
+        demands.differ = differ;
+        let formula = encoded(alloc, file, rule, demands, Form::Cover)?;
         let found = clauses(alloc, &formula)?;
         assert_eq!(rt; formula.vars(), vars);
         assert_eq!(rt; found.as_str(), text);
@@ -290,7 +334,7 @@ fn formulas_of_demands(rt: HostRuntime) -> Result<(), Fail> {
     ];
     for (file, rule, edge, symmetry, period, differ, vars, text) in rows {
         let demands = demanded(&rt, alloc, edge, symmetry, period, differ);
-        let formula = encoded(alloc, file, rule, demands)?;
+        let formula = encoded(alloc, file, rule, demands, Form::Rows)?;
         let found = clauses(alloc, &formula)?;
         assert_eq!(rt; formula.vars(), vars);
         assert_eq!(rt; found.as_str(), text);
@@ -380,7 +424,7 @@ fn formulas_of_bounds(rt: HostRuntime) -> Result<(), Fail> {
         assert!(rt; has_ends(first) && has_ends(second));
         let mut demands = bounded(alloc, Edge::Bare, first, second)?;
         demands.differ = differ;
-        let formula = encoded(alloc, file, one_born, demands)?;
+        let formula = encoded(alloc, file, one_born, demands, Form::Rows)?;
         let found = clauses(alloc, &formula)?;
         assert_eq!(rt; formula.vars(), vars);
         assert_eq!(rt; found.as_str(), text);

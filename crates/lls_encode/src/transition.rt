@@ -1,16 +1,19 @@
 // The clauses of transitions.
-ghost use Rattle.std.specs.Prelude.{◌≡◌, ◌-◌, ◌<◌, ◌≤◌, ◌+◌, ℤ, pos, ◌-ℤ◌, length, OnOk};
+ghost use Rattle.std.specs.Prelude.{◌≡◌, ◌-◌, ◌<◌, ◌≤◌, ◌+◌, ℤ, pos, ◌-ℤ◌, length, true, OnOk, IfOk};
+ghost use Rattle.std.specs.List.{list_all};
+ghost use Rattle.lls_transition.specs.Place.{place_within};
 ghost use Rattle.lls_transition.specs.Clause.{with_clauses};
-ghost use Rattle.lls_encode.specs.Formula.{place_clauses, line_clauses, generation_clauses, transition_part, first_framed, framed_count};
-ghost use Rattle.lls_encode.specs.Room.{HasRoom, AreCubesOf};
+ghost use Rattle.lls_encode.specs.Formula.{cubes_of, clauses_at, place_clauses, line_clauses, generation_clauses, transition_part, first_framed, framed_count};
+ghost use Rattle.lls_encode.specs.Room.{HasRoom};
 
 use crate::place::inputs_at;
 use lls_base::Memory;
 use lls_cnf::Formula;
-use lls_cube::{Cube, rows};
+use lls_cube::{Cube, cover, rows};
 use lls_grid::History;
-use lls_problem::{Edge, Problem};
-use lls_transition::{MOST_CLAUSES_EACH, push_cubes, table_of};
+use lls_problem::{Edge, Form, Problem};
+use lls_rule::Rule;
+use lls_transition::{INPUTS, MOST_CLAUSES_EACH, Place, push_cubes, push_cubes_once, table_of};
 use std::alloc::Global;
 
 /// A line has at most 64 cells and one cell of the ring at each end.
@@ -23,30 +26,60 @@ const MOST_CLAUSES_GENERATION: usize = MOST_LINE * MOST_CLAUSES_LINE;
 
 const MOST_CLAUSES_ALL: usize = (History::MOST_GENERATIONS as usize - 1) * MOST_CLAUSES_GENERATION;
 
+/// The cubes of a rule's transitions. The transition into each place takes the same.
+fn cubes_of(alloc: Global, form: Form, rule: &Rule) -> Result<Vec<Cube>, Memory>
+    ensures cubes { IfOk result (λ cubes. cubes.items ≡ cubes_of form rule.now) }
+    ensures few { IfOk result (λ cubes. length cubes.items ≤ MOST_CLAUSES_EACH) }
+{
+    let table = table_of(rule);
+    match form {
+        Form::Rows => rows(alloc, &table),
+        Form::Cover => cover(alloc, &table),
+    }
+}
+
+/// Pushes the clauses of cubes with these inputs.
+fn push_clauses_at(
+    formula: &mut Formula,
+    form: Form,
+    cubes: &[Cube],
+    inputs: &[Place; INPUTS],
+) -> Result<(), Memory>
+    requires within { list_all (place_within formula.old.vars) inputs.now ≡ true }
+    requires room { HasRoom formula.old (length cubes.now) }
+    ensures { OnOk result (formula.new ≡ with_clauses formula.old (clauses_at form cubes.now inputs.now)) }
+{
+    match form {
+        Form::Rows => push_cubes(formula, cubes, inputs),
+        Form::Cover => push_cubes_once(formula, cubes, inputs),
+    }
+}
+
 /// Pushes the transition into a place of generation t + 1, unless a mark frees it. The line and the column count from
 /// the ones before the grid.
 fn push_place(
     formula: &mut Formula,
+    form: Form,
     cubes: &[Cube],
     problem: &Problem,
     t: u32,
     line: u32,
     column: u32,
 ) -> Result<(), Memory>
-    requires cubes { AreCubesOf problem.now.rule cubes.now }
+    requires cubes { length cubes.now ≤ MOST_CLAUSES_EACH }
     requires generation { t + 1 < problem.now.posed.generations }
     requires line { line < MOST_LINE }
     requires column { column < MOST_LINE }
     requires vars { formula.old.vars ≡ length problem.now.posed.cells }
     requires room { HasRoom formula.old MOST_CLAUSES_EACH }
-    ensures { OnOk result (formula.new ≡ with_clauses formula.old (place_clauses problem.now t (pos line -ℤ pos 1) (pos column -ℤ pos 1))) }
+    ensures { OnOk result (formula.new ≡ with_clauses formula.old (place_clauses problem.now form cubes.now t (pos line -ℤ pos 1) (pos column -ℤ pos 1))) }
 {
     // The limits of the file's sizes are known from here on.
     let _posed = problem.posed();
     let y = line as i32 - 1;
     let x = column as i32 - 1;
     if !problem.is_marked(t + 1, y, x) {
-        push_cubes(formula, cubes, &inputs_at(problem, t, y, x))?;
+        push_clauses_at(formula, form, cubes, &inputs_at(problem, t, y, x))?;
     }
     Ok(())
 }
@@ -77,22 +110,23 @@ fn framed_count(edge: Edge, size: u32) -> u32
 /// Pushes the transitions into a line of generation t + 1, which counts from the one before the grid.
 fn push_line(
     formula: &mut Formula,
+    form: Form,
     cubes: &[Cube],
     problem: &Problem,
     t: u32,
     line: u32,
 ) -> Result<(), Memory>
-    requires cubes { AreCubesOf problem.now.rule cubes.now }
+    requires cubes { length cubes.now ≤ MOST_CLAUSES_EACH }
     requires generation { t + 1 < problem.now.posed.generations }
     requires line { line < MOST_LINE }
     requires vars { formula.old.vars ≡ length problem.now.posed.cells }
     requires room { HasRoom formula.old MOST_CLAUSES_LINE }
-    ensures { OnOk result (formula.new ≡ with_clauses formula.old (line_clauses problem.now t (pos line -ℤ pos 1))) }
+    ensures { OnOk result (formula.new ≡ with_clauses formula.old (line_clauses problem.now form cubes.now t (pos line -ℤ pos 1))) }
 {
     let edge = problem.demands().edge;
     let first = first_framed(edge);
     for column in 0..framed_count(edge, problem.posed().width) {
-        push_place(formula, cubes, problem, t, line, first + column)?;
+        push_place(formula, form, cubes, problem, t, line, first + column)?;
     }
     Ok(())
 }
@@ -100,20 +134,21 @@ fn push_line(
 /// Pushes the transitions into generation t + 1.
 fn push_generation(
     formula: &mut Formula,
+    form: Form,
     cubes: &[Cube],
     problem: &Problem,
     t: u32,
 ) -> Result<(), Memory>
-    requires cubes { AreCubesOf problem.now.rule cubes.now }
+    requires cubes { length cubes.now ≤ MOST_CLAUSES_EACH }
     requires generation { t + 1 < problem.now.posed.generations }
     requires vars { formula.old.vars ≡ length problem.now.posed.cells }
     requires room { HasRoom formula.old MOST_CLAUSES_GENERATION }
-    ensures { OnOk result (formula.new ≡ with_clauses formula.old (generation_clauses problem.now t)) }
+    ensures { OnOk result (formula.new ≡ with_clauses formula.old (generation_clauses problem.now form cubes.now t)) }
 {
     let edge = problem.demands().edge;
     let first = first_framed(edge);
     for line in 0..framed_count(edge, problem.posed().height) {
-        push_line(formula, cubes, problem, t, first + line)?;
+        push_line(formula, form, cubes, problem, t, first + line)?;
     }
     Ok(())
 }
@@ -123,14 +158,15 @@ pub fn push_transitions(
     alloc: Global,
     formula: &mut Formula,
     problem: &Problem,
+    form: Form,
 ) -> Result<(), Memory>
     requires vars { formula.old.vars ≡ length problem.now.posed.cells }
     requires room { HasRoom formula.old MOST_CLAUSES_ALL }
-    ensures { OnOk result (formula.new ≡ with_clauses formula.old (transition_part problem.now)) }
+    ensures { OnOk result (formula.new ≡ with_clauses formula.old (transition_part problem.now form)) }
 {
-    let cubes = rows(alloc, &table_of(problem.rule()))?;
+    let cubes = cubes_of(alloc, form, problem.rule())?;
     for t in 0..problem.posed().generations - 1 {
-        push_generation(formula, &cubes, problem, t)?;
+        push_generation(formula, form, &cubes, problem, t)?;
     }
     Ok(())
 }

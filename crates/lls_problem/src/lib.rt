@@ -5,6 +5,7 @@ mod bounds;
 mod cells;
 mod demands;
 mod differences;
+mod form;
 mod judgement;
 mod judging;
 mod losses;
@@ -19,6 +20,7 @@ mod unlike;
 
 pub use bounds::{Bound, Bounds};
 pub use demands::{DemandError, Demands, Edge, Period};
+pub use form::Form;
 pub use judgement::Judgement;
 pub use judging::judge;
 pub use problem::{Problem, make_problem};

@@ -32,8 +32,8 @@ enum Head {
 
 /// Steps of a proof, in the order in which they were written down.
 ///
-/// A step takes 56 bytes, 4 for each literal, and 4 for each hint or deleted id, or 8 where one of the step's isn't from 1 to
-/// 2^32 - 1. `reserve` takes the memory, and a push none.
+/// A step takes at most 56 bytes, 4 for each literal, and 4 for each hint or deleted id, or 8 where one of the step's isn't from
+/// 1 to 2^32 - 1. `reserve` takes the memory, and a push none.
 #[derive(Drop)]
 pub struct Log {
     alloc: Global,

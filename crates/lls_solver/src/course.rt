@@ -35,6 +35,7 @@ impl Course {
         ensures course { IfOk result (λ course. IsCourse vars course.trail course.order (length course.phases.items)) }
     {
         let trail = Trail::new(alloc, vars)?;
+        // What holds of every trail is known from here on.
         let _level = trail.current();
         Ok(Course {
             trail,

@@ -61,6 +61,9 @@ length-fold kept [] = omega arith
 length-fold kept (clause ∷ clauses) =
     omega (arith, length-fold (with_new kept clause) clauses, length-with_new kept clause (list_any (pointwise int_eq clause) kept))
 
+pub length-distinct : (clauses : List Clause) → length (distinct clauses) ≤ length clauses
+length-distinct clauses = omega (arith, length-fold [] clauses)
+
 -- a clause that doesn't stand among those behind a place goes behind them all
 pub pushed_new : (formula : Cnf) (first : ℕ) (lits : Clause) → list_any (pointwise int_eq lits) (drop first formula.clauses) ≡ false
     → record formula { clauses = formula.clauses ++ lits ∷ [] } ≡ record formula { clauses = take first formula.clauses ++ with_new (drop first formula.clauses) lits }

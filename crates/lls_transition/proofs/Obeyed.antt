@@ -1,5 +1,5 @@
 -- An assignment satisfies the clauses of a transition exactly where it obeys the rule.
-use Rattle.std.proofs.Common.{◌↔◌, ◌≡◌, ℕ, zero, suc, ◌+◌, ◌*◌, ◌/◌, ◌%◌, ◌^◌, ◌<◌, List, [], ◌∷◌, ◌++◌, Bool, true, false, not, cond, map, take, length, get_or, refl, ap, ◌∙◌, sym, subst, arith}
+use Rattle.std.proofs.Common.{◌↔◌, ◌≡◌, ℕ, zero, suc, ◌+◌, ◌*◌, ◌/◌, ◌%◌, ◌^◌, ◌<◌, ◌≤◌, List, [], ◌∷◌, ◌++◌, Bool, true, false, not, cond, map, take, length, get_or, refl, ap, ◌∙◌, sym, subst, arith}
 use Rattle.std.specs.Prelude.{All, filter}
 use Rattle.std.specs.List.{list_all, range_with_len, take-map}
 use Rattle.std.proofs.lemmas.List.{length-map, get_or-map}
@@ -12,7 +12,9 @@ use Rattle.lls_cube.specs.declared.cube.Cube.{Cube}
 use Rattle.lls_cube.specs.Table.{forbidden_rows}
 use Rattle.lls_cube.specs.Table as table
 use Rattle.lls_cube.specs.Cube.{row_cube}
+use Rattle.lls_cube.specs.Cover.{cover_of}
 use Rattle.lls_cube.proofs.Listed.{list_any-cubes}
+use Rattle.lls_cube.proofs.Covered.{list_any-cover, length-cover, All-inputs}
 use Rattle.lls_transition.specs.declared.place.Place.{Place}
 use Rattle.lls_transition.specs.declared.place.Place.TheVariants.{Known}
 use Rattle.lls_transition.specs.Place.{place_within, value_of}
@@ -45,10 +47,17 @@ satisfies-forbidden values vars rule inputs cubes all ten just =
     satisfies-cube_clauses values vars inputs cubes all ten just.inputs ∙ ap not (just.rows row inside ∙ is_forbidden-table_of rule row inside)
 
 -- the cubes of the forbidden rows
-forbidden_cubes : (rule : List Bool) → ContainForbidden rule (map (row_cube 10) (forbidden_rows (table_of rule)))
+pub forbidden_cubes : (rule : List Bool) → ContainForbidden rule (map (row_cube 10) (forbidden_rows (table_of rule)))
 forbidden_cubes rule = record {
   inputs = small_cares (forbidden_rows (table_of rule));
   rows = λ row inside. list_any-cubes (table.is_forbidden (table_of rule)) 10 (length (table_of rule)) row (length-table_of rule) inside;
+}
+
+-- and the cover of them
+pub covering_cubes : (rule : List Bool) → ContainForbidden rule (cover_of (table_of rule) 10)
+covering_cubes rule = record {
+  inputs = All-inputs (table_of rule) 10 (length-table_of rule);
+  rows = λ row inside. list_any-cover (table_of rule) 10 row (length-table_of rule) inside;
 }
 
 -- a row by its last bit and the nine before it
@@ -133,3 +142,6 @@ length-forbidden_rows rule =
 
 pub length-cubes : (rule : List Bool) (cubes : List Cube) → cubes ≡ map (row_cube 10) (forbidden_rows (table_of rule)) → length cubes ≡ 512
 length-cubes rule cubes is = ap length is ∙ length-map (forbidden_rows (table_of rule)) (row_cube 10) ∙ length-forbidden_rows rule
+
+pub length-covering_cubes : (rule : List Bool) → length (cover_of (table_of rule) 10) ≤ 512
+length-covering_cubes rule = omega (arith, length-cover (table_of rule) 10, length-forbidden_rows rule)

@@ -14,7 +14,7 @@ use Rattle.lls_words.specs.Form.{option_name, option_word}
 use Rattle.lls_words.specs.Parser.{parser_of, option_rule}
 
 abbrev pub all_options : List Setting
-all_options = settings.Rule ∷ settings.Edge ∷ settings.Symmetry ∷ settings.Period ∷ settings.Live ∷ settings.Differ ∷ settings.Budget ∷ settings.Keep ∷ settings.As ∷ []
+all_options = settings.Rule ∷ settings.Edge ∷ settings.Symmetry ∷ settings.Period ∷ settings.Live ∷ settings.Differ ∷ settings.Budget ∷ settings.Keep ∷ settings.As ∷ settings.Formula ∷ []
 
 -- two functions that agree along the table agree at each option
 pub by_table : {X : Type 0} (f g : Setting → X) → map f all_options ≡ map g all_options → (s : Setting) → f s ≡ g s
@@ -27,6 +27,7 @@ by_table f g same settings.Differ = ap (λ xs. get_or xs 5 (f settings.Rule)) sa
 by_table f g same settings.Budget = ap (λ xs. get_or xs 6 (f settings.Rule)) same
 by_table f g same settings.Keep = ap (λ xs. get_or xs 7 (f settings.Rule)) same
 by_table f g same settings.As = ap (λ xs. get_or xs 8 (f settings.Rule)) same
+by_table f g same settings.Formula = ap (λ xs. get_or xs 9 (f settings.Rule)) same
 
 -- options are the same by their names
 pub same_names : (a b : Setting) → bytes_eq (option_name a) (option_name b) ≡ same_setting a b
@@ -39,6 +40,7 @@ same_names settings.Differ b = by_table (λ t. bytes_eq (option_name settings.Di
 same_names settings.Budget b = by_table (λ t. bytes_eq (option_name settings.Budget) (option_name t)) (λ t. same_setting settings.Budget t) refl b
 same_names settings.Keep b = by_table (λ t. bytes_eq (option_name settings.Keep) (option_name t)) (λ t. same_setting settings.Keep t) refl b
 same_names settings.As b = by_table (λ t. bytes_eq (option_name settings.As) (option_name t)) (λ t. same_setting settings.As t) refl b
+same_names settings.Formula b = by_table (λ t. bytes_eq (option_name settings.Formula) (option_name t)) (λ t. same_setting settings.Formula t) refl b
 
 -- how an option's word is read
 pub long_of-option : (s : Setting) (value : List ℕ) → long_of (option_word s value) ≡ Some (option_name s, Some value)

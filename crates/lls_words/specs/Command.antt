@@ -28,7 +28,8 @@ setting_of name =
     if bytes_eq name (codes "differ") then Some settings.Differ else
     if bytes_eq name (codes "budget") then Some settings.Budget else
     if bytes_eq name (codes "keep") then Some settings.Keep else
-    if bytes_eq name (codes "as") then Some settings.As else None
+    if bytes_eq name (codes "as") then Some settings.As else
+    if bytes_eq name (codes "formula") then Some settings.Formula else None
 
 abbrev pub operand_count : Command → ℕ
 operand_count commands.Check = 2
@@ -44,16 +45,20 @@ operand_count commands.Make = 4
 abbrev pub problem_options : List Setting
 problem_options = settings.Rule ∷ settings.Edge ∷ settings.Symmetry ∷ settings.Period ∷ settings.Live ∷ settings.Differ ∷ []
 
+-- the form of a problem's formula
+abbrev pub formula_options : List Setting
+formula_options = settings.Formula ∷ []
+
 -- how far a search goes
 abbrev pub search_options : List Setting
 search_options = settings.Budget ∷ settings.Keep ∷ []
 
 -- the options that a command takes
 abbrev pub options_of : Command → List Setting
-options_of commands.Check = problem_options
-options_of commands.Search = problem_options ++ search_options ++ settings.As ∷ []
+options_of commands.Check = problem_options ++ formula_options
+options_of commands.Search = problem_options ++ search_options ++ settings.As ∷ formula_options
 options_of commands.Judge = problem_options ++ settings.As ∷ []
-options_of commands.Cnf = problem_options
+options_of commands.Cnf = problem_options ++ formula_options
 options_of commands.Sat = search_options
 options_of commands.Lrat = []
 options_of commands.Rule = []
@@ -70,6 +75,7 @@ table_place settings.Differ = 5
 table_place settings.Budget = 6
 table_place settings.Keep = 7
 table_place settings.As = 8
+table_place settings.Formula = 9
 
 abbrev pub same_setting : Setting → Setting → Bool
 same_setting a b = table_place a == table_place b

@@ -19,6 +19,7 @@ option_name settings.Differ = codes "differ"
 option_name settings.Budget = codes "budget"
 option_name settings.Keep = codes "keep"
 option_name settings.As = codes "as"
+option_name settings.Formula = codes "formula"
 
 -- an option and its value in one word
 abbrev pub option_word : Setting → List ℕ → List ℕ

@@ -9,6 +9,7 @@ use Rattle.lls_hensel.specs.Reading.{entries_of}
 use Rattle.lls_hensel.specs.Entries.{next_of}
 use Rattle.lls_symmetry.specs.Symmetry.{symmetry_of}
 use Rattle.lls_problem.specs.declared.demands.Edge.TheVariants.{Framed}
+use Rattle.lls_problem.specs.declared.form.Form.TheVariants.{Cover}
 use Rattle.lls_problem.specs.declared.demands.Demands.{Demands}
 use Rattle.lls_problem.specs.Bounds.{HasEnds}
 use Rattle.lls_problem.specs.Problem.{edge_alone, IsPeriod}
@@ -25,7 +26,7 @@ use Rattle.lls_words.specs.declared.error.WordsError.TheVariants.{NoCommand, Unk
 use Rattle.lls_words.specs.Command.{command_of, operand_count}
 use Rattle.lls_base.specs.Results.{and_then}
 use Rattle.lls_words.specs.Scan.{Operand, Given, scan}
-use Rattle.lls_words.specs.Values.{edge_in, period_in, bounds_in, generations_in, budget_in, keep_all_in, rle_in, seed_in, size_in, most_budget, default_budget}
+use Rattle.lls_words.specs.Values.{edge_in, period_in, bounds_in, generations_in, budget_in, keep_all_in, rle_in, form_in, seed_in, size_in, most_budget, default_budget}
 
 -- a rule text at a place
 abbrev pub rule_or : ℕ → Result (List Bool) RuleError → Result (List Bool) WordsError
@@ -62,6 +63,7 @@ setting_value s place text settings.Differ =
 setting_value s place text settings.Budget = and_then (value_or place (budget_in text)) (λ budget. Ok (record s { budget = budget }))
 setting_value s place text settings.Keep = and_then (value_or place (keep_all_in text)) (λ keep_all. Ok (record s { keep_all = keep_all }))
 setting_value s place text settings.As = and_then (value_or place (rle_in text)) (λ rle. Ok (record s { rle = rle }))
+setting_value s place text settings.Formula = and_then (value_or place (form_in text)) (λ form. Ok (record s { form = form }))
 
 -- the settings with the value of one option
 abbrev pub with_value : Settings → Given → Result Settings WordsError
@@ -72,9 +74,10 @@ abbrev pub settled : Settings → List Given → Result Settings WordsError
 settled s [] = Ok s
 settled s (given ∷ givens) = and_then (with_value s given) (λ more. settled more givens)
 
--- Life, `B3/S23`, under a closed edge, and nothing else demanded; half of the learnt clauses are kept, and patterns are rows
+-- Life, `B3/S23`, under a closed edge, and nothing else demanded; half of the learnt clauses are kept, patterns are
+-- rows, and formulas are by cover
 abbrev pub defaults : Settings
-defaults = record { rule = table_of (by_counts 8 12); demands = edge_alone Framed; budget = default_budget; keep_all = false; rle = false }
+defaults = record { rule = table_of (by_counts 8 12); demands = edge_alone Framed; budget = default_budget; keep_all = false; rle = false; form = Cover }
 
 -- the names of a file and of one that is written later, which have to differ
 abbrev pub names_apart : Operand → Operand → Result (List ℕ × List ℕ) WordsError
@@ -83,14 +86,14 @@ names_apart file written = if bytes_eq file.word written.word then Err (SameName
 -- the job of a command by its operands, whose number is the first test, and its options
 abbrev pub job_with : Command → List Operand → List Given → Result Job WordsError
 job_with commands.Check (search_file ∷ proof ∷ []) givens =
-    and_then (settled defaults givens) (λ s. Ok (jobs.Check search_file.word proof.word s.rule s.demands))
+    and_then (settled defaults givens) (λ s. Ok (jobs.Check search_file.word proof.word s.rule s.demands s.form))
 job_with commands.Search (search_file ∷ proof ∷ []) givens =
     and_then (settled defaults givens) (λ s.
-    and_then (names_apart search_file proof) (λ names. Ok (jobs.Search names.0 names.1 s.rule s.demands s.budget s.keep_all s.rle)))
+    and_then (names_apart search_file proof) (λ names. Ok (jobs.Search names.0 names.1 s.rule s.demands s.form s.budget s.keep_all s.rle)))
 job_with commands.Judge (search_file ∷ pattern ∷ []) givens =
     and_then (settled defaults givens) (λ s. Ok (jobs.Judge search_file.word pattern.word s.rule s.demands s.rle))
 job_with commands.Cnf (search_file ∷ []) givens =
-    and_then (settled defaults givens) (λ s. Ok (jobs.Cnf search_file.word s.rule s.demands))
+    and_then (settled defaults givens) (λ s. Ok (jobs.Cnf search_file.word s.rule s.demands s.form))
 job_with commands.Sat (formula ∷ proof ∷ []) givens =
     and_then (settled defaults givens) (λ s.
     and_then (names_apart formula proof) (λ names. Ok (jobs.Sat names.0 names.1 s.budget s.keep_all)))
@@ -125,10 +128,10 @@ pub record AreAllowed (rule : List Bool) (demands : Demands) (budget : ℕ) : Ty
 
 -- what the words keep: demands, budgets and sizes are within the limits, and a rule that is to be printed is isotropic
 abbrev pub KeepsLimits : Job → Type 0
-KeepsLimits (jobs.Check search_file proof rule demands) = AreWithinLimits demands
-KeepsLimits (jobs.Search search_file proof rule demands budget keep_all rle) = AreAllowed rule demands budget
+KeepsLimits (jobs.Check search_file proof rule demands form) = AreWithinLimits demands
+KeepsLimits (jobs.Search search_file proof rule demands form budget keep_all rle) = AreAllowed rule demands budget
 KeepsLimits (jobs.Judge search_file pattern rule demands rle) = AreWithinLimits demands
-KeepsLimits (jobs.Cnf search_file rule demands) = AreWithinLimits demands
+KeepsLimits (jobs.Cnf search_file rule demands form) = AreWithinLimits demands
 KeepsLimits (jobs.Sat formula proof budget keep_all) = budget ≤ most_budget
 KeepsLimits (jobs.Lrat formula proof) = Unit {0}
 KeepsLimits (jobs.Rule rule) = IsIsotropic rule

@@ -11,6 +11,8 @@ use Rattle.lls_problem.specs.declared.bounds.Bound.{Bound}
 use Rattle.lls_problem.specs.declared.demands.Edge.{Edge}
 use Rattle.lls_problem.specs.declared.demands.Edge.TheVariants.{Framed, Bare}
 use Rattle.lls_problem.specs.declared.demands.Period.{Period}
+use Rattle.lls_problem.specs.declared.form.Form.{Form}
+use Rattle.lls_problem.specs.declared.form.Form.TheVariants.{Rows, Cover}
 use Rattle.lls_problem.specs.Bounds.{most_end}
 use Rattle.lls_gen.specs.Made.{most_size}
 use Rattle.lls_words.specs.Items.{is_dash}
@@ -82,6 +84,12 @@ abbrev pub rle_in : List ℕ → Option Bool
 rle_in text =
     if bytes_eq text (codes "rle") then Some true else
     if bytes_eq text (codes "rows") then Some false else None
+
+-- the form of a formula, by its number
+abbrev pub form_in : List ℕ → Option Form
+form_in text =
+    if bytes_eq text (codes "1") then Some Rows else
+    if bytes_eq text (codes "2") then Some Cover else None
 
 -- a number of columns or rows, with a dash before it where it goes left or up
 abbrev pub shift_in : List ℕ → Option ℤ

@@ -29,19 +29,21 @@ pub enum Setting {
     Budget,
     Keep,
     As,
+    Formula,
 }
 
-/// The rule and the demands of a problem.
-static PROBLEM_OPTIONS: [Setting; 6] = [
+/// The rule and the demands of a problem, and the form of its formula.
+static FORMULA_OPTIONS: [Setting; 7] = [
     Setting::Rule,
     Setting::Edge,
     Setting::Symmetry,
     Setting::Period,
     Setting::Live,
     Setting::Differ,
+    Setting::Formula,
 ];
 
-static SEARCH_OPTIONS: [Setting; 9] = [
+static SEARCH_OPTIONS: [Setting; 10] = [
     Setting::Rule,
     Setting::Edge,
     Setting::Symmetry,
@@ -51,6 +53,7 @@ static SEARCH_OPTIONS: [Setting; 9] = [
     Setting::Budget,
     Setting::Keep,
     Setting::As,
+    Setting::Formula,
 ];
 
 static JUDGE_OPTIONS: [Setting; 7] = [
@@ -116,7 +119,7 @@ impl Command {
         ensures { result.now ≡ options_of self }
     {
         match self {
-            Command::Check | Command::Cnf => PROBLEM_OPTIONS.as_slice(),
+            Command::Check | Command::Cnf => FORMULA_OPTIONS.as_slice(),
             Command::Search => SEARCH_OPTIONS.as_slice(),
             Command::Judge => JUDGE_OPTIONS.as_slice(),
             Command::Sat => SAT_OPTIONS.as_slice(),
@@ -160,6 +163,7 @@ impl Setting {
             Setting::Budget => "budget",
             Setting::Keep => "keep",
             Setting::As => "as",
+            Setting::Formula => "formula",
         }
     }
 
@@ -185,6 +189,8 @@ impl Setting {
             Some(Setting::Keep)
         } else if name == b"as".as_slice() {
             Some(Setting::As)
+        } else if name == b"formula".as_slice() {
+            Some(Setting::Formula)
         } else {
             None
         }

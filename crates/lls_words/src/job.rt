@@ -1,6 +1,6 @@
 // What a command line asks for.
 use lls_base::Name;
-use lls_problem::Demands;
+use lls_problem::{Demands, Form};
 use lls_rule::Rule;
 
 /// What a command line asks for.
@@ -12,6 +12,8 @@ pub enum Job {
         proof: Name,
         rule: Rule,
         demands: Demands,
+        /// The form of the problem's formula, of which it is a proof.
+        form: Form,
     },
     /// Look for a solution of a search file, or write a proof that there is none.
     Search {
@@ -19,6 +21,8 @@ pub enum Job {
         proof: Name,
         rule: Rule,
         demands: Demands,
+        /// The form of the problem's formula.
+        form: Form,
         /// How many clauses may be learnt.
         budget: u32,
         /// Whether no learnt clause may be deleted.
@@ -40,6 +44,8 @@ pub enum Job {
         search: Name,
         rule: Rule,
         demands: Demands,
+        /// The form of the formula.
+        form: Form,
     },
     /// Look for an assignment that satisfies a formula, or write a proof that there is none.
     Sat {

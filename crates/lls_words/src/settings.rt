@@ -12,11 +12,11 @@ use crate::command::Setting;
 use crate::error::WordsError;
 use crate::scan::Given;
 use crate::values::{
-    DEFAULT_BUDGET, MOST_BUDGET, bounds_in, budget_in, edge_in, generations_in, keep_all_in,
-    period_in, rle_in,
+    DEFAULT_BUDGET, MOST_BUDGET, bounds_in, budget_in, edge_in, form_in, generations_in,
+    keep_all_in, period_in, rle_in,
 };
 use lls_hensel::read_rule;
-use lls_problem::{Bounds, Demands, Edge, Period};
+use lls_problem::{Bounds, Demands, Edge, Form, Period};
 use lls_rule::Rule;
 use lls_symmetry::read_symmetry;
 use std::alloc::Global;
@@ -29,11 +29,12 @@ pub struct Settings {
     pub budget: u32,
     pub keep_all: bool,
     pub rle: bool,
+    pub form: Form,
 }
 
 impl Settings {
     /// Life, `B3/S23`, under a closed edge, with no other demand; the default budget, half of the learnt clauses kept, and
-    /// patterns as rows.
+    /// patterns as rows; formulas by cover.
     fn default_values(alloc: Global) -> Settings
         ensures value { result ≡ defaults }
         ensures allowed { AreAllowed result.rule result.demands result.budget }
@@ -44,6 +45,7 @@ impl Settings {
             budget: DEFAULT_BUDGET,
             keep_all: false,
             rle: false,
+            form: Form::Cover,
         }
     }
 
@@ -70,6 +72,7 @@ impl Settings {
             Setting::Budget => settings.budget = budget_at(given.place, value)?,
             Setting::Keep => settings.keep_all = keep_all_in(value).ok_or(fault)?,
             Setting::As => settings.rle = rle_in(value).ok_or(fault)?,
+            Setting::Formula => settings.form = form_in(value).ok_or(fault)?,
         }
         Ok(settings)
     }

@@ -1,6 +1,6 @@
 // Command lines and the jobs or faults that they are read as.
 use crate::{Job, WordsError, read_job};
-use lls_problem::{Bound, Demands, Edge, Period};
+use lls_problem::{Bound, Demands, Edge, Form, Period};
 use lls_symmetry::Symmetry;
 use std::alloc::{AllocError, Global};
 use std::test::Fail;
@@ -106,6 +106,15 @@ sat f g --rule B3/S23 > UnknownOption 4
 sat f g --as rle > UnknownOption 4
 cnf f --budget 1 > UnknownOption 3
 judge f p --keep all > UnknownOption 4
+judge f p --formula 1 > UnknownOption 4
+sat f g --formula 2 > UnknownOption 4
+make 1 8 f p --formula=1 > UnknownOption 6
+check f p --formula 3 > BadValue 4
+search f p --formula 0 > BadValue 4
+search f p --formula 01 > BadValue 4
+cnf --formula=12 f > BadValue 2
+cnf f --formula 1 --formula 1 > RepeatedOption 5
+cnf f --formula > MissingValue 3
 search f g --keep some > BadValue 4
 search f g --as RLE > BadValue 4
 make 18446744073709551616 8 f p > BadValue 2
@@ -251,6 +260,39 @@ fn choices_of_a_search(rt: HostRuntime) -> Result<(), Fail> {
     ];
     for (line, want) in rows {
         assert!(rt; choices_of(job_of(alloc, line)?) == want, "at {line:?}");
+    }
+    Ok(())
+}
+
+/// The form of a job's formula, where it has one.
+fn form_of(job: Job) -> Option<Form> {
+    match job {
+        Job::Check { form, .. } => Some(form),
+        Job::Search { form, .. } => Some(form),
+        Job::Cnf { form, .. } => Some(form),
+        _ => None,
+    }
+}
+
+#[test]
+fn forms_of_formulas(rt: HostRuntime) -> Result<(), Fail> {
+    let alloc = rt.alloc();
+    let rows = [
+        ("check f p", Some(Form::Cover)),
+        ("check f p --formula 1", Some(Form::Rows)),
+        ("check --formula=2 f p", Some(Form::Cover)),
+        ("search f p", Some(Form::Cover)),
+        (
+            "search --as rle f --formula=1 p --keep all",
+            Some(Form::Rows),
+        ),
+        ("cnf f", Some(Form::Cover)),
+        ("cnf --formula 1 f", Some(Form::Rows)),
+        ("judge f p", None),
+        ("make 1 8 f p", None),
+    ];
+    for (line, want) in rows {
+        assert!(rt; form_of(job_of(alloc, line)?) == want, "at {line:?}");
     }
     Ok(())
 }

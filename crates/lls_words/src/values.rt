@@ -4,12 +4,12 @@ ghost use Rattle.std.specs.Option.{ForSome, option_map};
 ghost use Rattle.lls_grid.specs.Place.{IsWithin};
 ghost use Rattle.lls_problem.specs.Bounds.{HasEnds};
 ghost use Rattle.lls_problem.specs.Problem.{IsPeriod};
-ghost use Rattle.lls_words.specs.Values.{edge_in, budget_in, seed_in, size_in, keep_all_in, rle_in, cut_at, number_in, shift_in, period_in, generation_in, generations_in, low_in, high_in, bound_in, bounds_in};
+ghost use Rattle.lls_words.specs.Values.{edge_in, budget_in, seed_in, size_in, keep_all_in, rle_in, form_in, cut_at, number_in, shift_in, period_in, generation_in, generations_in, low_in, high_in, bound_in, bounds_in};
 ghost use Rattle.lls_words.specs.Seen.{seen_pair};
 
 use lls_gen::MOST_SIZE;
 use lls_grid::History;
-use lls_problem::{Bound, Bounds, Edge, Period};
+use lls_problem::{Bound, Bounds, Edge, Form, Period};
 use lls_symmetry::{MOST_PERIOD, MOST_SHIFT};
 use lls_text::digits_number;
 use std::alloc::{AllocError, Global};
@@ -108,6 +108,19 @@ pub fn rle_in(text: &[u8]) -> Option<bool>
         Some(true)
     } else if text == b"rows".as_slice() {
         Some(false)
+    } else {
+        None
+    }
+}
+
+/// The form of a formula that a text names by its number.
+pub fn form_in(text: &[u8]) -> Option<Form>
+    ensures { result ≡ form_in text.now }
+{
+    if text == b"1".as_slice() {
+        Some(Form::Rows)
+    } else if text == b"2".as_slice() {
+        Some(Form::Cover)
     } else {
         None
     }

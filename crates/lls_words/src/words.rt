@@ -62,12 +62,18 @@ fn check_job(
     ensures limits { IfOk result KeepsLimits }
 {
     let (search, proof, settings) = posing(alloc, search, proof, givens)?;
-    let Settings { rule, demands, .. } = settings;
+    let Settings {
+        rule,
+        demands,
+        form,
+        ..
+    } = settings;
     Ok(Job::Check {
         search,
         proof,
         rule,
         demands,
+        form,
     })
 }
 
@@ -90,12 +96,14 @@ fn search_job(
         budget,
         keep_all,
         rle,
+        form,
     } = settings;
     Ok(Job::Search {
         search,
         proof,
         rule,
         demands,
+        form,
         budget,
         keep_all,
         rle,
@@ -135,12 +143,18 @@ fn cnf_job(alloc: Global, search: &Operand, givens: &[Given]) -> Result<Job, Wor
         (job_with Command.Cnf (seen_operand search.now ∷ []) (map seen_given givens.now)) }
     ensures limits { IfOk result KeepsLimits }
 {
-    let Settings { rule, demands, .. } = settle(alloc, givens)?;
+    let Settings {
+        rule,
+        demands,
+        form,
+        ..
+    } = settle(alloc, givens)?;
     let search = name_of(alloc, search)?;
     Ok(Job::Cnf {
         search,
         rule,
         demands,
+        form,
     })
 }
 

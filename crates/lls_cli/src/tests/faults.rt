@@ -17,7 +17,7 @@ fn faults(rt: &impl Abort, alloc: Global, row: Row) -> Result<(), Fail> {
 
 #[test]
 fn faults_are_named(rt: HostRuntime) -> Result<(), Fail> {
-    let rows: [Row; 35] = [
+    let rows: [Row; 36] = [
         ("rule B1k/S", "", "", Status::Words, "words: BadLetter 2 3"),
         (
             "check f p --rule B9/S",
@@ -27,6 +27,13 @@ fn faults_are_named(rt: HostRuntime) -> Result<(), Fail> {
             "words: Stray 4 2",
         ),
         ("check f", "1\n", "", Status::Words, "words: Operands 2 1"),
+        (
+            "check f p --formula 3",
+            "1\n",
+            "",
+            Status::Words,
+            "words: BadValue 4",
+        ),
         ("check f p", "", "", Status::Content, "content: Empty"),
         (
             "check f p",

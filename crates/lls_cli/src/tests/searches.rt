@@ -127,13 +127,27 @@ fn formulas_are_decided(rt: HostRuntime) -> Result<(), Fail> {
 // Each problem has one solution, or none.
 #[test]
 fn problems_are_searched(rt: HostRuntime) -> Result<(), Fail> {
-    let rows: [Search; 11] = [
+    let rows: [Search; 13] = [
         (
             "search f q --budget 0",
             "1\n\n1\n",
             Status::NoPattern,
             "no pattern\n",
             "check f p",
+        ),
+        (
+            "search f q --formula 1",
+            "1\n\n1\n",
+            Status::NoPattern,
+            "no pattern\n",
+            "check f p --formula 1",
+        ),
+        (
+            "search f q --formula 1",
+            "0 0 0\n1 1 1\n0 0 0\n\n* * *\n* * *\n* * *\n",
+            Status::Pattern,
+            "0 0 0\n1 1 1\n0 0 0\n\n0 1 0\n0 1 0\n0 1 0\n",
+            "judge f p",
         ),
         (
             "search f q",

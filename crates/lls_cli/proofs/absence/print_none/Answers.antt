@@ -7,5 +7,5 @@ use Rattle.lls_cli.proofs.absence.print_none.Goals as goal
 
 pub returns-clause-absent : goal.returns-clause-absent
 returns-clause-absent g c =
-    let none : IsUnsatisfiable (formula_of c.args.problem.now) = subst IsUnsatisfiable (c.formula-formula.ensures.formula ∙ c.requires) c.formula-formula.ensures.unsatisfiable in
-    absent_from c.args.problem.now c.posed-posed.ensures.kept c.demands-demands.ensures.kept none
+    let none : IsUnsatisfiable (formula_of c.args.problem.now c.args.form) = subst IsUnsatisfiable (c.formula-formula.ensures.formula ∙ c.requires) c.formula-formula.ensures.unsatisfiable in
+    absent_from c.args.problem.now c.args.form c.posed-posed.ensures.kept c.demands-demands.ensures.kept none

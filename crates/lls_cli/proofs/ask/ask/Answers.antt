@@ -3,7 +3,7 @@ use Rattle.std.proofs.Common.{Ok, subst, sym}
 use Rattle.std.proofs.lemmas.Result.{err_from_is_err_and}
 use Rattle.lls_hensel.specs.Isotropy.{IsIsotropic}
 use Rattle.lls_base.specs.Results.{and_then}
-use Rattle.lls_cli.specs.Question.{checks, refutes, judges, encodes, problem_in, formula_in, pattern_in}
+use Rattle.lls_cli.specs.Question.{asked_with, checks, refutes, judges, encodes, problem_in, formula_in, pattern_in}
 use Rattle.lls_cli.proofs.Stopped.{Stops-along, first_refused, only_refused}
 use Rattle.lls_cli.proofs.ask.ask.Goals as goal
 
@@ -15,7 +15,7 @@ returns-in_err-problem-in-Check-clause-read g c =
       kept = read.kept;
       counts = read.counts;
       ok = tt;
-      err = Stops-along _ _ _ _ _ (first_refused _ _ c.in-Check.proof _ _ (λ first. and_then first (problem_in c.in-Check.rule c.in-Check.demands)) (λ second problem. and_then second (λ proof. Ok (checks problem proof))) _) read.err;
+      err = Stops-along _ _ _ _ _ (first_refused _ _ c.in-Check.proof _ _ (λ first. and_then first (problem_in c.in-Check.rule c.in-Check.demands)) (λ second problem. and_then second (λ proof. Ok (checks (asked_with c.in-Check.form problem) proof))) _) read.err;
     }
 
 pub returns-in_err-problem-in-Judge-clause-read : goal.returns-in_err-problem-in-Judge-clause-read
@@ -37,7 +37,7 @@ returns-in_err-problem-in-Cnf-clause-read g c =
       kept = read.kept;
       counts = read.counts;
       ok = tt;
-      err = Stops-along _ _ _ _ _ (only_refused _ _ _ (λ input. and_then input (problem_in c.in-Cnf.rule c.in-Cnf.demands)) (λ problem. Ok (encodes problem)) _) read.err;
+      err = Stops-along _ _ _ _ _ (only_refused _ _ _ (λ input. and_then input (problem_in c.in-Cnf.rule c.in-Cnf.demands)) (λ problem. Ok (encodes (asked_with c.in-Cnf.form problem))) _) read.err;
     }
 
 pub returns-in_err-formula-in-Lrat-clause-read : goal.returns-in_err-formula-in-Lrat-clause-read

@@ -10,7 +10,7 @@ use Rattle.lls_cli.proofs.check.check.Goals as goal
 
 pub returns : goal.returns
 returns c =
-    let p = c.args.problem.now in
+    let p = c.args.asked.now in
     let proof = c.args.proof.now in
     let made = c.in_ok-formula.ensures.formula in
     let absent = c.in_ok-formula.ensures.absent in

@@ -23,7 +23,7 @@ returns-in_ok-file-in-Unsat c =
     let checked = c.in_ok-_checked-in-Unsat.ensures in
     IfOk-weaker c.of_text.result _ _ (λ answer is.
     unsatisfied_answer c.args.formula.now (seen_effort c.args.effort) c.solve.new.log.steps file (seen_answer answer)
-    (same_file file _ _ made.name made.text) (c.in_ok-assignment.ensures.unsat (ap Ok c.in-Unsat.is)) (checked.accepted file.bytes made.read_again) checked.unsatisfiable is) c.of_text.ensures
+    (same_file file _ _ made.name made.text) c.solve.ensures.all_kept (c.in_ok-assignment.ensures.unsat (ap Ok c.in-Unsat.is)) (checked.accepted file.bytes made.read_again) checked.unsatisfiable is) c.of_text.ensures
 
 pub returns-in_ok-file-in-Undecided : goal.returns-in_ok-file-in-Undecided
 returns-in_ok-file-in-Undecided c =
@@ -31,4 +31,4 @@ returns-in_ok-file-in-Undecided c =
     let made = c.in_ok-file-in-Undecided.ensures in
     IfOk-weaker c.of_text-in-Undecided.result _ _ (λ answer is.
     unknown_answer c.args.formula.now (seen_effort c.args.effort) c.solve.new.log.steps file (seen_answer answer)
-    (same_file file _ _ made.name made.text) (c.in_ok-assignment.ensures.undecided (ap Ok c.in-Undecided.is)) is) c.of_text-in-Undecided.ensures
+    (same_file file _ _ made.name made.text) c.solve.ensures.all_kept (c.in_ok-assignment.ensures.undecided (ap Ok c.in-Undecided.is)) is) c.of_text-in-Undecided.ensures

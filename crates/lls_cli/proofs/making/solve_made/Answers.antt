@@ -26,5 +26,5 @@ returns-in_ok-log_file-in-Undecided c =
     let file = seen_file c.in_ok-log_file-in-Undecided.field-0 in
     let made = c.in_ok-log_file-in-Undecided.ensures in
     λ seed size name is. unsolved_answer seed size name (seen_effort c.args.effort) c.args.pair.now c.in_ok-formula.formula c.solve.new.log.steps file _ is c.in_ok-formula.ensures.formula
-    (same_file file _ _ made.name made.text) (c.in_ok-solve.ensures.undecided (ap Ok c.in-Undecided.is))
+    (same_file file _ _ made.name made.text) c.solve.ensures.all_kept (c.in_ok-solve.ensures.undecided (ap Ok c.in-Undecided.is))
     (ap (summed_behind file statuses.Undecided) c.in_ok-summary-in-Undecided.ensures)

@@ -4,7 +4,7 @@ use Rattle.lls_cli.proofs.run.give_answer.Goals as goal
 
 pub returns-in-Check-clause-end : goal.returns-in-Check-clause-end
 returns-in-Check-clause-end g c =
-    rw c.in-Check.is (c.give.ensures.end (checks c.in-Check.problem c.in-Check.proof.items) (rw c.deref.ensures.value at c.check.ensures))
+    rw c.in-Check.is (c.give.ensures.end (checks c.in-Check.asked c.in-Check.proof.items) (rw c.deref.ensures.value at c.check.ensures))
 
 pub returns-in-Refute-clause-end : goal.returns-in-Refute-clause-end
 returns-in-Refute-clause-end g c =
@@ -20,7 +20,7 @@ returns-in-Decide-clause-end g c =
 
 pub returns-in-Encode-clause-end : goal.returns-in-Encode-clause-end
 returns-in-Encode-clause-end g c =
-    rw c.in-Encode.is (c.give-in-Encode.ensures.end (encodes c.in-Encode.problem) c.print_formula.ensures)
+    rw c.in-Encode.is (c.give-in-Encode.ensures.end (encodes c.in-Encode.asked) c.print_formula.ensures)
 
 pub returns-in-Print-clause-end : goal.returns-in-Print-clause-end
 returns-in-Print-clause-end g c =

@@ -1,7 +1,7 @@
 use Rattle.std.proofs.Common.{ap, refl}
 use Rattle.std.specs.Prelude.{map, string_bytes}
 use Rattle.lls_cli.specs.Moment.{SinkMoment}
-use Rattle.lls_cli.proofs.Consequences.{yes_means, no_means, found_means, none_means, words_alone, words_all, caused, meant, stays_silent, counts_stay}
+use Rattle.lls_cli.proofs.Consequences.{yes_means, no_means, found_means, none_means, short_means, words_alone, words_all, caused, meant, stays_silent, counts_stay}
 use Rattle.lls_cli.proofs.Files.{changes_only, leaves_proof, leaves_log}
 use Rattle.lls_cli.proofs.Stands.{stands}
 use Rattle.lls_cli.proofs.Begun.{leaves_begun}
@@ -16,6 +16,9 @@ returns-clause-yes g c = yes_means _ _ _ _ c.run_words.ensures
 
 pub returns-clause-no : goal.returns-clause-no
 returns-clause-no g c = no_means _ _ _ _ c.run_words.ensures
+
+pub returns-clause-undecided : goal.returns-clause-undecided
+returns-clause-undecided g c = short_means _ _ _ _ c.run_words.ensures
 
 pub returns-clause-words : goal.returns-clause-words
 returns-clause-words g c = words_alone _ _ _ _ c.run_words.ensures

@@ -9,7 +9,7 @@ use Rattle.lls_encode.proofs.Sound.{IsSolution-history_of}
 use Rattle.lls_encode.proofs.decoding.decode.Goals as goal
 
 pub returns-clause-solution : goal.returns-clause-solution
-returns-clause-solution c = λ satisfied.
+returns-clause-solution c = λ form satisfied.
     let p = c.args.problem.now in
     let a = c.args.assignment.now in
     let posed = c.posed-posed.ensures.value in
@@ -21,4 +21,4 @@ returns-clause-solution c = λ satisfied.
     c.from_cells.ensures
     ∙ ap (λ (s : Sizes). folded s.generations s.height s.width c.in_ok-cells.cells.items) sizes
     ∙ ap (folded p.posed.generations p.posed.height p.posed.width) values in
-    subst (IsSolution p) (sym history) (IsSolution-history_of p c.posed-posed.ensures.kept c.demands-demands.ensures.kept a c.requires satisfied)
+    subst (IsSolution p) (sym history) (IsSolution-history_of p form c.posed-posed.ensures.kept c.demands-demands.ensures.kept a c.requires satisfied)

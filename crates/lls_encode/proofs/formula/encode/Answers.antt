@@ -23,7 +23,7 @@ push_bounds-requires-clause-room c =
     let p = c.args.problem.now in
     let cells : length c.items-cells.result.now ≡ length p.posed.cells = ap length (c.items-cells.ensures ∙ ap (λ f. f.cells) (c.behind-problem.view_is ∙ c.posed.ensures.value)) in
     let empty : c.new-formula.result ≡ empty_of p = c.new-formula.ensures ∙ ap with_vars cells in
-    let room = room_for_bounds p c.push_front.new.formula c.push_transitions.new.formula c.posed.ensures.kept
+    let room = room_for_bounds p c.args.form c.push_front.new.formula c.push_transitions.new.formula c.posed.ensures.kept
     (room_for_transitions p c.new-formula.result c.push_front.new.formula c.posed.ensures.kept c.demands-demands.ensures.kept empty c.in_ok-push_front.ensures)
     c.in_ok-push_transitions.ensures in
     omega (arith, room)
@@ -33,7 +33,7 @@ push_difference-requires-clause-room c =
     let p = c.args.problem.now in
     let cells : length c.items-cells.result.now ≡ length p.posed.cells = ap length (c.items-cells.ensures ∙ ap (λ f. f.cells) (c.behind-problem.view_is ∙ c.posed.ensures.value)) in
     let empty : c.new-formula.result ≡ empty_of p = c.new-formula.ensures ∙ ap with_vars cells in
-    let room = room_for_bounds p c.push_front.new.formula c.push_transitions.new.formula c.posed.ensures.kept
+    let room = room_for_bounds p c.args.form c.push_front.new.formula c.push_transitions.new.formula c.posed.ensures.kept
     (room_for_transitions p c.new-formula.result c.push_front.new.formula c.posed.ensures.kept c.demands-demands.ensures.kept empty c.in_ok-push_front.ensures)
     c.in_ok-push_transitions.ensures in
     room_for_difference p c.push_transitions.new.formula c.push_bounds.new.formula c.posed.ensures.kept c.demands-demands.ensures.kept room c.in_ok-push_bounds.ensures
@@ -43,28 +43,28 @@ returns-clause-formula c =
     let p = c.args.problem.now in
     let cells : length c.items-cells.result.now ≡ length p.posed.cells = ap length (c.items-cells.ensures ∙ ap (λ f. f.cells) (c.behind-problem.view_is ∙ c.posed.ensures.value)) in
     let empty : c.new-formula.result ≡ empty_of p = c.new-formula.ensures ∙ ap with_vars cells in
-    made p c.new-formula.result c.push_front.new.formula c.push_transitions.new.formula c.push_bounds.new.formula c.push_difference.new.formula empty
+    made p c.args.form c.new-formula.result c.push_front.new.formula c.push_transitions.new.formula c.push_bounds.new.formula c.push_difference.new.formula empty
     c.in_ok-push_front.ensures c.in_ok-push_transitions.ensures c.in_ok-push_bounds.ensures c.in_ok-push_difference.ensures
 
 pub returns-clause-few : goal.returns-clause-few
 returns-clause-few c =
-    subst (λ (f : Cnf). length f.clauses < 200000000) (sym (returns-clause-formula c)) (few_clauses c.args.problem.now c.posed.ensures.kept c.demands-demands.ensures.kept)
+    subst (λ (f : Cnf). length f.clauses < 200000000) (sym (returns-clause-formula c)) (few_clauses c.args.problem.now c.args.form c.posed.ensures.kept c.demands-demands.ensures.kept)
 
 pub returns-clause-complete : goal.returns-clause-complete
 returns-clause-complete c = λ history solution.
     subst (λ f. HasAssignment f history) (sym (returns-clause-formula c))
-    (HasAssignment-values_of c.args.problem.now c.posed.ensures.kept c.demands-demands.ensures.kept history solution)
+    (HasAssignment-values_of c.args.problem.now c.args.form c.posed.ensures.kept c.demands-demands.ensures.kept history solution)
 
 pub returns-clause-absent : goal.returns-clause-absent
 returns-clause-absent c = λ unsatisfiable.
-    absent_from c.args.problem.now c.posed.ensures.kept c.demands-demands.ensures.kept (subst IsUnsatisfiable (returns-clause-formula c) unsatisfiable)
+    absent_from c.args.problem.now c.args.form c.posed.ensures.kept c.demands-demands.ensures.kept (subst IsUnsatisfiable (returns-clause-formula c) unsatisfiable)
 
 pub returns-clause-sound : goal.returns-clause-sound
 returns-clause-sound c = λ values enough satisfied.
     let is = returns-clause-formula c in
-    IsSolution-history_of c.args.problem.now c.posed.ensures.kept c.demands-demands.ensures.kept values enough
+    IsSolution-history_of c.args.problem.now c.args.form c.posed.ensures.kept c.demands-demands.ensures.kept values enough
     (sym (ap (λ f. satisfies values f.clauses) is) ∙ satisfied)
 
 pub returns-clause-unsatisfiable : goal.returns-clause-unsatisfiable
 returns-clause-unsatisfiable c = λ absent.
-    subst IsUnsatisfiable (sym (returns-clause-formula c)) (unsatisfiable_from c.args.problem.now c.posed.ensures.kept c.demands-demands.ensures.kept absent)
+    subst IsUnsatisfiable (sym (returns-clause-formula c)) (unsatisfiable_from c.args.problem.now c.args.form c.posed.ensures.kept c.demands-demands.ensures.kept absent)

@@ -6,4 +6,4 @@ use Rattle.lls_encode.proofs.transition.push_generation.Given as goal
 
 -- the transitions into the lines so far
 abbrev pub invariant-loop-line : goal.invariant-loop-line
-invariant-loop-line l = l.formula ≡ with_clauses l.fn.formula (flat_map (λ k. line_clauses l.problem l.t (pos k -ℤ pos 1)) (range_with_len l.first l.line))
+invariant-loop-line l = l.formula ≡ with_clauses l.fn.formula (flat_map (λ k. line_clauses l.problem l.form l.cubes l.t (pos k -ℤ pos 1)) (range_with_len l.first l.line))

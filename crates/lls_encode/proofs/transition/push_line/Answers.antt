@@ -9,17 +9,17 @@ use Rattle.lls_encode.proofs.transition.push_line.Goals as goal
 
 pub push_place-requires-clause-room : goal.push_place-requires-clause-room
 push_place-requires-clause-room c =
-    HasRoom-after _ _ (λ k. place_clauses c.args.problem.now c.args.t (pos c.args.line -ℤ pos 1) (pos k -ℤ pos 1)) 512 c.first_framed-first.result c.loop-column.column 66 33792
-    (λ k. length-place_clauses c.args.problem.now c.args.t (pos c.args.line -ℤ pos 1) (pos k -ℤ pos 1)) c.loop-column.invariant (omega (arith, c.loop-column-test.true, c.framed_count-column-end.ensures.small, c.posed.ensures.kept.width)) (omega arith) c.requires.room
+    HasRoom-after _ _ (λ k. place_clauses c.args.problem.now c.args.form c.args.cubes.now c.args.t (pos c.args.line -ℤ pos 1) (pos k -ℤ pos 1)) 512 c.first_framed-first.result c.loop-column.column 66 33792
+    (λ k. length-place_clauses c.args.problem.now c.args.form c.args.cubes.now c.requires.cubes c.args.t (pos c.args.line -ℤ pos 1) (pos k -ℤ pos 1)) c.loop-column.invariant (omega (arith, c.loop-column-test.true, c.framed_count-column-end.ensures.small, c.posed.ensures.kept.width)) (omega arith) c.requires.room
 
 pub loop-column-preserved : goal.loop-column-preserved
 loop-column-preserved c =
-    pushed_more _ _ _ (λ k. place_clauses c.args.problem.now c.args.t (pos c.args.line -ℤ pos 1) (pos k -ℤ pos 1)) c.first_framed-first.result c.loop-column.column (c.first_framed-first.result + c.loop-column.column)
+    pushed_more _ _ _ (λ k. place_clauses c.args.problem.now c.args.form c.args.cubes.now c.args.t (pos c.args.line -ℤ pos 1) (pos k -ℤ pos 1)) c.first_framed-first.result c.loop-column.column (c.first_framed-first.result + c.loop-column.column)
     c.loop-column.invariant c.in_ok-push_place.ensures (omega arith)
 
 pub returns : goal.returns
 returns c =
-    let f : ℕ → List Clause = λ k. place_clauses c.args.problem.now c.args.t (pos c.args.line -ℤ pos 1) (pos k -ℤ pos 1) in
+    let f : ℕ → List Clause = λ k. place_clauses c.args.problem.now c.args.form c.args.cubes.now c.args.t (pos c.args.line -ℤ pos 1) (pos k -ℤ pos 1) in
     let edge : c.demands.result.now.edge ≡ c.args.problem.now.demands.edge = ap (λ d. d.edge) c.demands.ensures.value in
     let width : c.behind-problem.inside.width ≡ c.args.problem.now.posed.width = ap (λ p. p.width) (c.behind-problem.view_is ∙ c.posed.ensures.value) in
     let count : c.loop-column.column ≡ framed_count c.args.problem.now.demands.edge c.args.problem.now.posed.width =
@@ -27,4 +27,4 @@ returns c =
     let first : c.first_framed-first.result ≡ first_framed c.args.problem.now.demands.edge = c.first_framed-first.ensures.value ∙ ap first_framed edge in
     pushed_all _ _ f c.first_framed-first.result c.loop-column.column _ c.loop-column.invariant count
     ∙ ap (λ a. with_clauses c.args.formula.now (flat_map f (range_with_len a (framed_count c.args.problem.now.demands.edge c.args.problem.now.posed.width)))) first
-    ∙ ap (with_clauses c.args.formula.now) (sym (flat_map-map (place_clauses c.args.problem.now c.args.t (pos c.args.line -ℤ pos 1)) _ _))
+    ∙ ap (with_clauses c.args.formula.now) (sym (flat_map-map (place_clauses c.args.problem.now c.args.form c.args.cubes.now c.args.t (pos c.args.line -ℤ pos 1)) _ _))

@@ -1,17 +1,16 @@
 use Rattle.std.proofs.Common.{◌≡◌, ◌∙◌, ◌+◌, sym, ap, arith, ℤ, pos, ◌-ℤ◌, w32, rules}
 use mir.Val.{to_z, of_z}
 use Rattle.lls_problem.specs.Solution.{is_marked}
-use Rattle.lls_transition.specs.Transition.{transition_clauses}
-use Rattle.lls_transition.proofs.Obeyed.{length-cubes}
 use Rattle.lls_encode.specs.Place.{inputs_at}
+use Rattle.lls_encode.specs.Formula.{clauses_at}
 use Rattle.lls_encode.proofs.Steps.{with_clauses-unless}
 use Rattle.lls_encode.proofs.transition.push_place.Goals as goal
 
-pub push_cubes-requires-clause-room : goal.push_cubes-requires-clause-room
-push_cubes-requires-clause-room c =
-    let count = length-cubes c.args.problem.now.rule c.args.cubes.now c.requires.cubes in
+pub push_clauses_at-requires-clause-room : goal.push_clauses_at-requires-clause-room
+push_clauses_at-requires-clause-room c =
+    let few = c.requires.cubes in
     let room = c.requires.room in
-    omega (arith, count, room)
+    omega (arith, few, room)
 
 pub returns-else-not-is_marked : goal.returns-else-not-is_marked
 returns-else-not-is_marked c =
@@ -22,4 +21,4 @@ returns-else-not-is_marked c =
     let posed = c.args.problem.now.posed in
     let marked : is_marked posed (c.args.t + 1) y x ≡ c.is_marked.result =
     sym (c.is_marked.ensures ∙ ap (λ at. is_marked posed (c.args.t + 1) at (to_z w32 (of_z w32 (to_z w32 c.args.column -ℤ pos 1)))) row ∙ ap (is_marked posed (c.args.t + 1) y) column) in
-    with_clauses-unless c.args.formula.now (is_marked posed (c.args.t + 1) y x) (transition_clauses c.args.problem.now.rule (inputs_at c.args.problem.now c.args.t y x)) (marked ∙ c.if-not-is_marked.false)
+    with_clauses-unless c.args.formula.now (is_marked posed (c.args.t + 1) y x) (clauses_at c.args.form c.args.cubes.now (inputs_at c.args.problem.now c.args.t y x)) (marked ∙ c.if-not-is_marked.false)

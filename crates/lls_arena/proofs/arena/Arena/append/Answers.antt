@@ -1,7 +1,6 @@
-use Rattle.std.proofs.Common.{◌≡◌, ◌-◌, List, [], ◌∷◌, ◌++◌, drop, take, length, ap, refl, sym, ◌∙◌, arith}
-use Rattle.std.specs.Prelude.{ℤ}
+use Rattle.std.proofs.Common.{◌≡◌, [], ◌∷◌, take, length, ap, refl, sym, arith}
 use Rattle.std.proofs.lemmas.List.{drop-append-le, length_push, take-append-le}
-use Rattle.lls_arena.specs.Arena.{ArenaState, HeadState}
+use Rattle.lls_arena.specs.Arena.{ArenaState}
 use Rattle.lls_arena.proofs.Buffer.{AreAllWatched-same, heads_in-same}
 use Rattle.lls_arena.proofs.arena.Arena.append.Goals as goal
 

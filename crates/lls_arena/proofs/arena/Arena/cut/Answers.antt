@@ -1,6 +1,5 @@
-use Rattle.std.proofs.Common.{◌≡◌, ◌+◌, ◌-◌, ℕ, List, drop, take, length, ap, refl, sym, ◌∙◌, arith}
+use Rattle.std.proofs.Common.{◌≡◌, ◌+◌, ◌-◌, drop, take, length, ap, refl, sym, arith}
 use Rattle.std.proofs.lemmas.List.{drop-take, length-drop, length-take, take-take}
-use Rattle.lls_arena.specs.Arena.{ArenaState, HeadState}
 use Rattle.lls_arena.proofs.Buffer.{AreAllWatched-same, heads_in-same}
 use Rattle.lls_arena.proofs.arena.Arena.cut.Goals as goal
 

@@ -1,4 +1,4 @@
-use Rattle.std.proofs.Common.{◌≡◌, ◌≤◌, ℕ, List, [], false, take, drop, length, ap, refl, sym, subst, ◌∙◌, arith}
+use Rattle.std.proofs.Common.{◌≡◌, ◌≤◌, List, [], false, take, drop, length, ap, sym, subst, ◌∙◌, arith}
 use Rattle.std.specs.Prelude.{ℤ, filter, map}
 use Rattle.std.proofs.lemmas.List.{drop_all, length-drop, length-take, take-take, with_items_is}
 use Rattle.lls_arena.specs.Arena.{ArenaState, HeadState, unlinked}

@@ -1,5 +1,4 @@
 use Rattle.std.proofs.Common.{◌<◌, length, refl, ap, arith}
-use Rattle.lls_arena.specs.declared.edges.Edges.{Edges}
 use Rattle.lls_arena.specs.Arena.{ArenaState, HeadState}
 use Rattle.lls_arena.proofs.Heads.{inside, read_span}
 use Rattle.lls_arena.proofs.arena.Arena.id.Goals as goal

@@ -1,4 +1,4 @@
-use Rattle.std.proofs.Common.{◌≡◌, ◌<◌, List, drop, false, length, ap, refl, sym, ◌∙◌, arith}
+use Rattle.std.proofs.Common.{◌<◌, List, drop, false, length, ap, arith}
 use Rattle.std.proofs.lemmas.List.{length-set}
 use Rattle.lls_arena.specs.Arena.{ArenaState, HeadState}
 use Rattle.lls_arena.proofs.Heads.{live_inside}

@@ -1,5 +1,4 @@
-use Rattle.std.proofs.Common.{◌<◌, length, ap, ◌∙◌, sym, arith}
-use Rattle.std.proofs.Common.{Some}
+use Rattle.std.proofs.Common.{◌<◌, length, ap, arith}
 use Rattle.lls_arena.specs.Arena.{ArenaState}
 use Rattle.lls_arena.proofs.Heads.{inside, link_at, same_length}
 use Rattle.lls_arena.proofs.arena.Arena.link.Goals as goal

@@ -1,4 +1,4 @@
-use Rattle.std.proofs.Common.{◌<◌, length, refl, ap, sym, arith}
+use Rattle.std.proofs.Common.{◌<◌, length, refl, ap, arith}
 use Rattle.lls_arena.specs.Arena.{ArenaState, HeadState}
 use Rattle.lls_arena.proofs.Heads.{inside, read_span, span_at}
 use Rattle.lls_arena.proofs.arena.Arena.lits.Goals as goal

@@ -1,4 +1,4 @@
-use Rattle.std.proofs.Common.{◌≡◌, ◌<◌, true, length, ap, ◌∙◌, sym, arith}
+use Rattle.std.proofs.Common.{◌≡◌, ◌<◌, true, length, ap, ◌∙◌, arith}
 use Rattle.std.specs.Prelude.{unwrap_or, Option, ℕ}
 use Rattle.lls_arena.specs.Arena.{ArenaState}
 use Rattle.lls_arena.proofs.Heads.{live_inside, same_length}

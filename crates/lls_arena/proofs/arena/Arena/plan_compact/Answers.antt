@@ -1,8 +1,5 @@
-use Rattle.std.proofs.Common.{◌≡◌, length, ap, sym, subst, ◌∙◌, arith}
-use Rattle.std.specs.Prelude.{List}
+use Rattle.std.proofs.Common.{length, ap, sym, ◌∙◌, arith}
 use Rattle.std.proofs.lemmas.List.{with_items_is}
-use Rattle.lls_arena.specs.declared.edges.Edges.{Edges}
-use Rattle.lls_arena.specs.declared.arena.Span.{Span}
 use Rattle.lls_arena.specs.Parts.{AreTold}
 use Rattle.lls_arena.proofs.Heads.{same_length}
 use Rattle.lls_arena.proofs.Told.{AreAllWatched-told, unlinked-told}

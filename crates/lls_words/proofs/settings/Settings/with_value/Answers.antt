@@ -6,7 +6,7 @@ use Rattle.lls_problem.specs.Problem.{IsPeriod}
 use Rattle.lls_words.specs.Job.{AreAllowed}
 use Rattle.lls_words.specs.declared.settings.Settings as code
 use Rattle.lls_words.proofs.settings.Settings.with_value.Goals as goal
-use Rattle.lls_words.proofs.settings.Settings.with_value.Goals.{in-Rule+in_ok-settings-in-Rule, in-Edge+in_ok-settings-in-Edge, in-Symmetry+in_ok-settings-in-Symmetry, in-Period+in_ok-period_at-in-Period, in-Live+in_ok-settings-in-Live, in-Differ+in_ok-ok_or-in-Differ, in-Budget+in_ok-settings-in-Budget, in-Keep+in_ok-settings-in-Keep, in-As+in_ok-settings-in-As}
+use Rattle.lls_words.proofs.settings.Settings.with_value.Goals.{in-Rule+in_ok-settings-in-Rule, in-Edge+in_ok-settings-in-Edge, in-Symmetry+in_ok-settings-in-Symmetry, in-Period+in_ok-period_at-in-Period, in-Live+in_ok-settings-in-Live, in-Differ+in_ok-ok_or-in-Differ, in-Budget+in_ok-settings-in-Budget, in-Keep+in_ok-settings-in-Keep, in-As+in_ok-settings-in-As, in-Formula+in_ok-settings-in-Formula}
 
 Allowed : code.Settings → Type 0
 Allowed s = AreAllowed s.rule s.demands s.budget
@@ -31,4 +31,5 @@ returns-clause-allowed c =
       | in-Budget+in_ok-settings-in-Budget w ↦ subst Allowed (sym w.settings-is) (record { demanded = record { period = period; bounds = bounds }; isotropic = isotropic; budgeted = w.in_ok-settings-in-Budget.ensures.within })
       | in-Keep+in_ok-settings-in-Keep w ↦ subst Allowed (sym w.settings-is) (record { demanded = record { period = period; bounds = bounds }; isotropic = isotropic; budgeted = budgeted })
       | in-As+in_ok-settings-in-As w ↦ subst Allowed (sym w.settings-is) (record { demanded = record { period = period; bounds = bounds }; isotropic = isotropic; budgeted = budgeted })
+      | in-Formula+in_ok-settings-in-Formula w ↦ subst Allowed (sym w.settings-is) (record { demanded = record { period = period; bounds = bounds }; isotropic = isotropic; budgeted = budgeted })
     ]
