@@ -134,7 +134,7 @@ impl Edge {
         let lit = if k < lits.len() {
             lits[k]
         } else {
-            some_literal(lits)
+            some_literal()
         };
         Edge {
             next: Link::new(None),
@@ -143,10 +143,7 @@ impl Edge {
     }
 }
 
-fn some_literal(lits: &[Lit]) -> Lit {
-    match Lit::from_number(1) {
-        Some(lit) => lit,
-        // 1 is a literal, so this never comes.
-        None => lits[0],
-    }
+// Stands where there is no literal to watch.
+fn some_literal() -> Lit {
+    Lit::from_number(1).unwrap()
 }
