@@ -5,10 +5,10 @@ use Rattle.std.specs.List.{list_any}
 use Rattle.std.proofs.Math.Dec.{eqb}
 use Rattle.std.proofs.lemmas.List.{get_or-set_same, get_or-set_other, length-set, append_assoc}
 use Rattle.std.proofs.lemmas.Bool.{eq-eqb, eqb-true, eqb-false}
-use Rattle.lls_lit.specs.Literal.{index_of, literal_at}
-use Rattle.lls_lit.specs.Indices.{index_of-literal_at}
+use Rattle.lls_lit.specs.Literal.{IsLiteral, index_of, literal_at}
+use Rattle.lls_lit.specs.Indices.{index_of-literal_at, literal_at-index_of}
 use Rattle.lls_arena.specs.Arena.{HeadState, changed_at, with_link, link_of}
-use Rattle.lls_watch.specs.Watches.{WatchState, Lists, LeadsOn, IsWatching, IsSegment, IsOnce, IsThreaded, has, watched, side_of, with_list, with_link_at, with_first, WatchesAt, IsNotIn, list_of, with_attached}
+use Rattle.lls_watch.specs.Watches.{WatchState, Lists, LeadsOn, IsWatching, IsSegment, IsOnce, IsThreaded, has, watched, side_of, with_list, with_link_at, with_first, WatchesAt, IsNotIn, list_of, with_attached, BeginsWith, ComesAfter, HasLiteral}
 use Rattle.std.specs.Option.{option_map_or}
 use Rattle.lls_watch.proofs.Changes.{leads_on_kept, leads_on_changed}
 use Rattle.lls_watch.proofs.Chains.{segment_kept, segment_append, segment_split, leads_to_one, once_split, once_without}
@@ -165,3 +165,20 @@ attached_at state lists c w known literal threaded absent =
     let at : list_of state c w ≡ index_of (watched w known.head) = ap (λ o. index_of (option_map_or (watched w) o (pos 0))) known.is_head in
     subst (λ i. has (lists i) c ≡ false → IsThreaded (with_first i (Some c) (with_link_at c w (slice_index_or state.first i None) state)) (with_list i (c ∷ lists i) lists)) (sym at)
         (λ out. attached state lists c w (index_of (watched w known.head)) known.head known.is_head known.watching (sym literal) known.within out threaded) absent
+
+pub first_dropped_at : (state : WatchState) (lists : Lists) (lit : ℤ) (c : ℕ) (next : Option ℕ) (cs : List ℕ)
+    → IsLiteral lit → index_of lit < length state.first → BeginsWith state lists lit c next cs
+    → IsThreaded state lists → IsThreaded (with_first (index_of lit) next state) (with_list (index_of lit) cs lists)
+first_dropped_at state lists lit c next cs is within begins threaded =
+    first_dropped state lists (index_of lit) c next cs begins.list_is
+        (subst (λ l. LeadsOn state.arena.heads l c next) (sym (literal_at-index_of lit is)) begins.leads) within threaded
+
+pub next_dropped_at : (state : WatchState) (lists : Lists) (lit : ℤ) (p c : ℕ) (w : Bool) (next : Option ℕ) (before cs : List ℕ)
+    → (known : WatchesAt state p w) → HasLiteral state p w lit → ComesAfter state lists lit p c next before cs
+    → IsThreaded state lists → IsThreaded (with_link_at p w next state) (with_list (index_of lit) (before ++ p ∷ cs) lists)
+next_dropped_at state lists lit p c w next before cs known has_lit after threaded =
+    let read : watched w known.head ≡ lit = ap (λ o. option_map_or (watched w) o (pos 0)) (sym known.is_head) ∙ has_lit.read in
+    let at : watched w known.head ≡ literal_at (index_of lit) = read ∙ sym (literal_at-index_of lit has_lit.is_literal) in
+    next_dropped state lists (index_of lit) p c w known.head next before cs after.list_is known.is_head known.watching at
+        (subst (λ l. LeadsOn state.arena.heads l c next) (sym (literal_at-index_of lit has_lit.is_literal)) after.leads)
+        (subst (λ l. index_of l < length state.first) read known.within) threaded

@@ -3,7 +3,7 @@ use Rattle.std.specs.Prelude.{◌≡◌, ◌≢◌, ◌<◌, ◌≤◌, ◌+◌,
 use Rattle.std.specs.List.{list_any}
 use Rattle.std.specs.Option.{option_map_or}
 use Rattle.std.specs.Ordering.{int_eq}
-use Rattle.lls_lit.specs.Literal.{index_of, literal_at}
+use Rattle.lls_lit.specs.Literal.{IsLiteral, index_of, literal_at}
 use Rattle.lls_arena.specs.Arena.{ArenaState, HeadState, link_of, with_link, changed_at, swapped, place_of}
 
 -- the arena, and for each literal, by its place in a table, the first clause of its list
@@ -88,3 +88,18 @@ IsNotIn lists state c w = has (lists (list_of state c w)) c ≡ false
 
 abbrev pub with_attached : Lists → WatchState → ℕ → Bool → Lists
 with_attached lists state c w = with_list (list_of state c w) (c ∷ lists (list_of state c w)) lists
+
+-- the literal's list begins with that clause, which leads on so
+pub record BeginsWith (state : WatchState) (lists : Lists) (lit : ℤ) (c : ℕ) (next : Option ℕ) (cs : List ℕ) : Type 0 where
+  pub list_is : lists (index_of lit) ≡ c ∷ cs
+  pub leads : LeadsOn state.arena.heads lit c next
+
+-- in the literal's list that clause stands behind another one, and leads on so
+pub record ComesAfter (state : WatchState) (lists : Lists) (lit : ℤ) (p c : ℕ) (next : Option ℕ) (before cs : List ℕ) : Type 0 where
+  pub list_is : lists (index_of lit) ≡ before ++ p ∷ c ∷ cs
+  pub leads : LeadsOn state.arena.heads lit c next
+
+-- the edge of a clause has that literal, which is one
+pub record HasLiteral (state : WatchState) (c : ℕ) (w : Bool) (lit : ℤ) : Type 0 where
+  pub is_literal : IsLiteral lit
+  pub read : option_map_or (watched w) (slice_get state.arena.heads c) (pos 0) ≡ lit

@@ -3,7 +3,7 @@ ghost use Rattle.std.specs.Prelude.{◌≡◌, ◌≢◌, ◌<◌, ◌≤◌, �
 ghost use Rattle.std.specs.Option.{ForSome};
 ghost use Rattle.lls_lit.specs.Literal.{index_of, literal_at};
 ghost use Rattle.lls_arena.specs.Arena.{HeadState, IsLive, empty_arena};
-ghost use Rattle.lls_watch.specs.Watches.{AttachedAt, IsNotIn, IsThreaded, Lists, WatchesAt, with_attached};
+ghost use Rattle.lls_watch.specs.Watches.{AttachedAt, BeginsWith, ComesAfter, HasLiteral, IsNotIn, IsThreaded, Lists, WatchesAt, with_attached, with_first, with_link_at, with_list};
 
 use lls_arena::{Arena, MOST_HEADS};
 use lls_base::Memory;
@@ -75,5 +75,30 @@ impl Watches {
         let i = self.arena.watched(c, w).index();
         self.arena.set_link(c, w, self.first[i]);
         self.first[i] = Some(c);
+    }
+
+    /// Takes the first clause out of a literal's list: the list begins with the next one.
+    #[inline]
+    pub fn drop_first(&mut self, lit: Lit, next: Option<u32>)
+        requires within { index_of lit < length self.old.first }
+        requires fits { ForSome next (λ n. n < MOST_HEADS) }
+        ensures state { self.new ≡ with_first (index_of lit) next self.old }
+        ensures threaded { (lists : Lists) (c : ℕ) (cs : List ℕ) → IsThreaded self.old lists → BeginsWith self.old lists lit c next cs
+          → IsThreaded self.new (with_list (index_of lit) cs lists) }
+    {
+        self.first[lit.index()] = next;
+    }
+
+    /// Takes the clause behind another one out of the list of that one's first literal, or of its second where `w`: the other one
+    /// leads to the next.
+    #[inline]
+    pub fn drop_next(&mut self, p: u32, w: bool, next: Option<u32>)
+        requires clause { WatchesAt self.old p w }
+        requires fits { ForSome next (λ n. n < MOST_HEADS) }
+        ensures state { self.new ≡ with_link_at p w next self.old }
+        ensures threaded { (lists : Lists) (lit : ℤ) (c : ℕ) (before cs : List ℕ) → IsThreaded self.old lists → HasLiteral self.old p w lit
+          → ComesAfter self.old lists lit p c next before cs → IsThreaded self.new (with_list (index_of lit) (before ++ p ∷ cs) lists) }
+    {
+        self.arena.set_link(p, w, next);
     }
 }
