@@ -151,12 +151,12 @@ side_from h false watching =
     ] refl
 
 -- a clause of which a literal behind the first two takes the place of a watched one
-record IsRewatched (w : Bool) (n : ℕ) (h : HeadState) : Type 0 where
-  watching : IsWatching (swapped (place_of w) n h)
-  taken : watched w (swapped (place_of w) n h) ≡ slice_index_or h.lits n (pos 0)
-  other : watched (not w) (swapped (place_of w) n h) ≡ watched (not w) h
+pub record IsRewatched (w : Bool) (n : ℕ) (h : HeadState) : Type 0 where
+  pub watching : IsWatching (swapped (place_of w) n h)
+  pub taken : watched w (swapped (place_of w) n h) ≡ slice_index_or h.lits n (pos 0)
+  pub other : watched (not w) (swapped (place_of w) n h) ≡ watched (not w) h
 
-rewatched : (w : Bool) (n : ℕ) (h : HeadState) → IsWatching h → 1 < n → n < length h.lits → slice_index_or h.lits n (pos 0) ≢ watched (not w) h → IsRewatched w n h
+pub rewatched : (w : Bool) (n : ℕ) (h : HeadState) → IsWatching h → 1 < n → n < length h.lits → slice_index_or h.lits n (pos 0) ≢ watched (not w) h → IsRewatched w n h
 rewatched true n h watching behind within differ =
     let long = watching.long in
     let sw = swapped_from_swap h.lits (swap h.lits 1 n) 1 n (pos 0) long within refl in

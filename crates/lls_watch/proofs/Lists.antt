@@ -1,5 +1,5 @@
 -- The lists of all literals: what each change of a link or of a first clause makes of them.
-use Rattle.std.proofs.Common.{◌≡◌, ◌<◌, zero, suc, ℕ, Bool, true, false, not, ◌||◌, cond, List, [], ◌∷◌, ◌++◌, Option, Some, None, refl, sym, ap, ◌∙◌, subst, arith, length}
+use Rattle.std.proofs.Common.{inl, inr, ◌⊎◌, ◌≡◌, ◌<◌, zero, suc, ℕ, Bool, true, false, not, ◌||◌, cond, List, [], ◌∷◌, ◌++◌, Option, Some, None, refl, sym, ap, ◌∙◌, subst, arith, length}
 use Rattle.std.specs.Prelude.{◌≢◌, ℤ, pos, slice_get, ◌==◌, slice_set, slice_index_or}
 use Rattle.std.specs.List.{list_any}
 use Rattle.std.proofs.Math.Dec.{eqb}
@@ -7,10 +7,10 @@ use Rattle.std.proofs.lemmas.List.{get_or-set_same, get_or-set_other, length-set
 use Rattle.std.proofs.lemmas.Bool.{eq-eqb, eqb-true, eqb-false}
 use Rattle.lls_lit.specs.Literal.{IsLiteral, index_of, literal_at}
 use Rattle.lls_lit.specs.Indices.{index_of-literal_at, literal_at-index_of}
-use Rattle.lls_arena.specs.Arena.{HeadState, changed_at, with_link, link_of}
-use Rattle.lls_watch.specs.Watches.{WatchState, Lists, LeadsOn, IsWatching, IsSegment, IsOnce, IsThreaded, has, watched, side_of, with_list, with_link_at, with_first, WatchesAt, IsNotIn, list_of, with_attached, BeginsWith, ComesAfter, HasLiteral}
+use Rattle.lls_arena.specs.Arena.{HeadState, changed_at, with_link, link_of, swapped, place_of}
+use Rattle.lls_watch.specs.Watches.{WatchState, Lists, LeadsOn, IsWatching, IsSegment, IsOnce, IsThreaded, has, watched, side_of, with_list, with_link_at, with_first, WatchesAt, IsNotIn, list_of, with_attached, BeginsWith, ComesAfter, HasLiteral, CanRewatch, swapped_at}
 use Rattle.std.specs.Option.{option_map_or}
-use Rattle.lls_watch.proofs.Changes.{leads_on_kept, leads_on_changed}
+use Rattle.lls_watch.proofs.Changes.{leads_on_kept, leads_on_changed, leads_on_rewatched, rewatched, slice_get-changed_same}
 use Rattle.lls_watch.proofs.Chains.{segment_kept, segment_append, segment_split, leads_to_one, once_split, once_without}
 
 -- literals of two places differ
@@ -182,3 +182,79 @@ next_dropped_at state lists lit p c w next before cs known has_lit after threade
     next_dropped state lists (index_of lit) p c w known.head next before cs after.list_is known.is_head known.watching at
         (subst (λ l. LeadsOn state.arena.heads l c next) (sym (literal_at-index_of lit has_lit.is_literal)) after.leads)
         (subst (λ l. index_of l < length state.first) read known.within) threaded
+
+-- a clause of a list has an edge with its literal
+list_leads : (heads : List HeadState) (lit : ℤ) (start : Option ℕ) (cs : List ℕ) (end : Option ℕ) (c : ℕ) → IsSegment heads lit start cs end → has cs c ≡ true → (next : Option ℕ) × LeadsOn heads lit c next
+list_leads heads lit start [] end c chain among = absurd cc
+list_leads heads lit start (k ∷ ks) end c chain among =
+    elim (eqb k c) as (λ b. eqb k c ≡ b → (b || has ks c) ≡ true → (next : Option ℕ) × LeadsOn heads lit c next) [
+      | true ↦ λ is _. (chain.1.0, subst (λ n. LeadsOn heads lit n chain.1.0) (eqb-true k c is) chain.1.1.0)
+      | false ↦ λ _ later. list_leads heads lit chain.1.0 ks end c chain.1.1.1 later
+    ] refl among
+
+-- the lists stay where a clause watches another literal and is out of the list of the one that it watched
+pub rewatched_kept : (state : WatchState) (lists : Lists) (c : ℕ) (w : Bool) (n : ℕ) (can : CanRewatch state c w n) → literal_at (index_of (watched w can.head)) ≡ watched w can.head
+    → IsNotIn lists state c w → IsThreaded state lists → IsThreaded (swapped_at state c w n) lists
+rewatched_kept state lists c w n can literal absent threaded =
+    lists_kept state (changed_at (swapped (place_of w) n) c state.arena.heads) lists
+        (λ i k next i_in among leads. leads_on_rewatched state.arena.heads c k n w (literal_at i) next (apart i k among) leads) threaded
+  where
+    out : has (lists (index_of (watched w can.head))) c ≡ false
+    out = subst (λ o. has (lists (index_of (option_map_or (watched w) o (pos 0)))) c ≡ false) can.is_head absent
+
+    apart : (i k : ℕ) → has (lists i) k ≡ true → (h : HeadState) → k ≡ c → slice_get state.arena.heads c ≡ Some h
+        → (watched w h ≢ literal_at i) × ((1 < n) × ((n < length h.lits) × (slice_index_or h.lits n (pos 0) ≢ watched (not w) h)))
+    apart i k among h same found =
+        let one : can.head ≡ h = some_same can.head h (sym can.is_head ∙ found) in
+        (λ e.
+            let place : i ≡ index_of (watched w can.head) = sym (index_of-literal_at i) ∙ ap index_of (sym e) ∙ ap (λ g. index_of (watched w g)) (sym one) in
+            let both : true ≡ false = sym among ∙ ap (λ j. has (lists j) k) place ∙ ap (has (lists (index_of (watched w can.head)))) same ∙ out in
+            absurd cc,
+         (can.behind, (subst (λ g. n < length g.lits) one can.inside, subst (λ g. slice_index_or g.lits n (pos 0) ≢ watched (not w) g) one can.differ)))
+
+-- it then watches two literals again
+pub watches_again : (state : WatchState) (c : ℕ) (w : Bool) (n : ℕ) → CanRewatch state c w n → WatchesAt (swapped_at state c w n) c w
+watches_again state c w n can =
+    let is = rewatched w n can.head can.watching can.behind can.inside can.differ in
+    record {
+      head = swapped (place_of w) n can.head;
+      is_head = slice_get-changed_same (swapped (place_of w) n) c state.arena.heads can.head can.is_head;
+      watching = is.watching;
+      within = subst (λ l. index_of l < length state.first) (sym is.taken) can.within;
+    }
+
+-- and it isn't in the list of the literal yet
+pub not_in_yet : (state : WatchState) (lists : Lists) (c : ℕ) (w : Bool) (n : ℕ) (can : CanRewatch state c w n) → literal_at (index_of (slice_index_or can.head.lits n (pos 0))) ≡ slice_index_or can.head.lits n (pos 0)
+    → IsNotIn lists state c w → IsThreaded state lists → IsNotIn lists (swapped_at state c w n) c w
+not_in_yet state lists c w n can literal absent threaded =
+    let is = rewatched w n can.head can.watching can.behind can.inside can.differ in
+    let here : list_of (swapped_at state c w n) c w ≡ index_of taken =
+        ap (λ o. index_of (option_map_or (watched w) o (pos 0))) (slice_get-changed_same (swapped (place_of w) n) c state.arena.heads can.head can.is_head) ∙ ap index_of is.taken in
+    ap (λ i. has (lists i) c) here ∙ elim (has (lists (index_of taken)) c) as (λ b. has (lists (index_of taken)) c ≡ b → b ≡ false) [
+      | true ↦ λ among. absurd (clash among)
+      | false ↦ λ _. refl
+    ] refl
+  where
+    taken : ℤ
+    taken = slice_index_or can.head.lits n (pos 0)
+
+    which : (w b : Bool) → (b ≡ w) ⊎ (b ≡ not w)
+    which true true = inl refl
+    which true false = inr refl
+    which false true = inr refl
+    which false false = inl refl
+
+    clash : has (lists (index_of taken)) c ≡ true → ⊥
+    clash among =
+        let found = list_leads state.arena.heads (literal_at (index_of taken)) (start_of state (index_of taken)) (lists (index_of taken)) None c (threaded.chained (index_of taken) can.within) among in
+        let leads = found.1 in
+        let one : leads.head ≡ can.head = some_same leads.head can.head (sym leads.is_head ∙ can.is_head) in
+        let seen : watched (side_of leads.head (literal_at (index_of taken))) can.head ≡ taken = ap (watched (side_of leads.head (literal_at (index_of taken)))) (sym one) ∙ leads.has ∙ literal in
+        elim (which w (side_of leads.head (literal_at (index_of taken)))) as (λ _. ⊥) [
+          | inl same ↦
+              let old : watched w can.head ≡ taken = ap (λ b. watched b can.head) (sym same) ∙ seen in
+              let out : has (lists (index_of taken)) c ≡ false = ap (λ l. has (lists (index_of l)) c) (sym old) ∙ ap (λ o. has (lists (index_of (option_map_or (watched w) o (pos 0)))) c) (sym can.is_head) ∙ absent in
+              let both : true ≡ false = sym among ∙ out in
+              absurd cc
+          | inr other ↦ can.differ (sym seen ∙ ap (λ b. watched b can.head) other)
+        ]

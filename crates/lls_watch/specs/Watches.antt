@@ -103,3 +103,19 @@ pub record ComesAfter (state : WatchState) (lists : Lists) (lit : ℤ) (p c : �
 pub record HasLiteral (state : WatchState) (c : ℕ) (w : Bool) (lit : ℤ) : Type 0 where
   pub is_literal : IsLiteral lit
   pub read : option_map_or (watched w) (slice_get state.arena.heads c) (pos 0) ≡ lit
+
+-- a clause of which a literal behind the first two can take the place of a watched one
+pub record CanRewatch (state : WatchState) (c : ℕ) (w : Bool) (n : ℕ) : Type 0 where
+  pub head : HeadState
+  pub is_head : slice_get state.arena.heads c ≡ Some head
+  pub watching : IsWatching head
+  pub behind : 1 < n
+  pub inside : n < length head.lits
+  pub differ : slice_index_or head.lits n (pos 0) ≢ watched (not w) head
+  pub was_literal : IsLiteral (watched w head)
+  pub is_literal : IsLiteral (slice_index_or head.lits n (pos 0))
+  pub within : index_of (slice_index_or head.lits n (pos 0)) < length state.first
+
+-- it took that place
+abbrev pub swapped_at : WatchState → ℕ → Bool → ℕ → WatchState
+swapped_at state c w n = record state { arena = record state.arena { heads = changed_at (swapped (place_of w) n) c state.arena.heads } }

@@ -2,8 +2,8 @@
 ghost use Rattle.std.specs.Prelude.{◌≡◌, ◌≢◌, ◌<◌, ◌≤◌, ◌*◌, ◌∷◌, ◌++◌, ℕ, ℤ, Bool, not, false, List, [], length, replicate, slice_get, slice_index_or, IfOk, IfSome, Option, None, Some};
 ghost use Rattle.std.specs.Option.{ForSome};
 ghost use Rattle.lls_lit.specs.Literal.{index_of, literal_at};
-ghost use Rattle.lls_arena.specs.Arena.{HeadState, IsLive, empty_arena};
-ghost use Rattle.lls_watch.specs.Watches.{AttachedAt, BeginsWith, ComesAfter, HasLiteral, IsNotIn, IsThreaded, Lists, WatchesAt, with_attached, with_first, with_link_at, with_list};
+ghost use Rattle.lls_arena.specs.Arena.{IsLive, empty_arena, place_of};
+ghost use Rattle.lls_watch.specs.Watches.{AttachedAt, BeginsWith, CanRewatch, ComesAfter, HasLiteral, IsNotIn, IsThreaded, Lists, WatchesAt, swapped_at, with_attached, with_first, with_link_at, with_list};
 
 use lls_arena::{Arena, MOST_HEADS};
 use lls_base::Memory;
@@ -101,4 +101,26 @@ impl Watches {
     {
         self.arena.set_link(p, w, next);
     }
+
+    /// Watches another literal of a live clause, the one at place n behind the first two, in place of its first literal, or of its
+    /// second where `w`. The clause is to be out of the list of the literal that it watched, and is put first in the list of the other.
+    #[inline]
+    pub fn rewatch(&mut self, c: u32, w: bool, n: usize)
+        requires live { IsLive self.old.arena.heads c }
+        requires clause { CanRewatch self.old c w n }
+        ensures state { AttachedAt c w (swapped_at self.old c w n) self.new }
+        ensures threaded { (lists : Lists) → IsThreaded self.old lists → IsNotIn lists self.old c w
+          → IsThreaded self.new (with_attached lists (swapped_at self.old c w n) c w) }
+    {
+        self.arena.swap(c, place(w), n);
+        self.attach(c, w);
+    }
+}
+
+// Where an edge's literal stands in its clause.
+#[inline]
+fn place(w: bool) -> usize
+    ensures { result ≡ place_of w }
+{
+    if w { 1 } else { 0 }
 }
