@@ -7,10 +7,10 @@ use Rattle.std.proofs.lemmas.List.{get_or-set_same, get_or-set_other, length-set
 use Rattle.std.proofs.lemmas.Bool.{eq-eqb, eqb-true, eqb-false}
 use Rattle.lls_lit.specs.Literal.{IsLiteral, index_of, literal_at}
 use Rattle.lls_lit.specs.Indices.{index_of-literal_at, literal_at-index_of}
-use Rattle.lls_arena.specs.Arena.{HeadState, changed_at, with_link, link_of, swapped, place_of}
+use Rattle.lls_arena.specs.Arena.{ArenaState, HeadState, changed_at, killed, with_link, link_of, swapped, place_of}
 use Rattle.lls_watch.specs.Watches.{WatchState, Lists, LeadsOn, IsWatching, IsSegment, IsOnce, IsThreaded, has, watched, side_of, with_list, with_link_at, with_first, WatchesAt, IsNotIn, list_of, with_attached, BeginsWith, ComesAfter, HasLiteral, CanRewatch, swapped_at}
 use Rattle.std.specs.Option.{option_map_or}
-use Rattle.lls_watch.proofs.Changes.{leads_on_kept, leads_on_changed, leads_on_rewatched, rewatched, slice_get-changed_same}
+use Rattle.lls_watch.proofs.Changes.{leads_on_kept, leads_on_changed, leads_on_killed, leads_on_more, leads_on_rewatched, rewatched, slice_get-changed_same}
 use Rattle.lls_watch.proofs.Chains.{segment_kept, segment_append, segment_split, leads_to_one, once_split, once_without}
 
 -- literals of two places differ
@@ -258,3 +258,21 @@ not_in_yet state lists c w n can literal absent threaded =
               absurd cc
           | inr other ↦ can.differ (sym seen ∙ ap (λ b. watched b can.head) other)
         ]
+
+pub sealed_kept : (state : WatchState) (lists : Lists) (more : List HeadState) → IsThreaded state lists
+    → (arena : ArenaState) → arena.heads ≡ state.arena.heads ++ more → IsThreaded (record state { arena = arena }) lists
+sealed_kept state lists more threaded arena is = record {
+    chained = λ k k_in. subst (λ heads. IsSegment heads (literal_at k) (start_of state k) (lists k) None) (sym is)
+        (segment_kept state.arena.heads (state.arena.heads ++ more) (literal_at k) (start_of state k) (lists k) None
+            (λ c next _ leads. leads_on_more state.arena.heads more c (literal_at k) next leads) (threaded.chained k k_in));
+    once = threaded.once;
+  }
+
+pub killed_kept : (state : WatchState) (lists : Lists) (c : ℕ) → IsThreaded state lists
+    → (arena : ArenaState) → arena.heads ≡ changed_at killed c state.arena.heads → IsThreaded (record state { arena = arena }) lists
+killed_kept state lists c threaded arena is = record {
+    chained = λ k k_in. subst (λ heads. IsSegment heads (literal_at k) (start_of state k) (lists k) None) (sym is)
+        (segment_kept state.arena.heads (changed_at killed c state.arena.heads) (literal_at k) (start_of state k) (lists k) None
+            (λ m next _ leads. leads_on_killed state.arena.heads c m (literal_at k) next leads) (threaded.chained k k_in));
+    once = threaded.once;
+  }

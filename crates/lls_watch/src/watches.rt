@@ -1,8 +1,8 @@
 // Lists of the clauses that watch each literal.
-ghost use Rattle.std.specs.Prelude.{◌≡◌, ◌≢◌, ◌<◌, ◌≤◌, ◌*◌, ◌∷◌, ◌++◌, ℕ, ℤ, Bool, not, false, List, [], length, replicate, slice_get, slice_index_or, IfOk, IfSome, Option, None, Some};
+ghost use Rattle.std.specs.Prelude.{OnOk, ◌-◌, ◌≡◌, ◌≢◌, ◌<◌, ◌≤◌, ◌*◌, ◌∷◌, ◌++◌, ℕ, ℤ, Bool, not, false, List, [], length, replicate, slice_get, slice_index_or, IfOk, IfSome, Option, None, Some};
 ghost use Rattle.std.specs.Option.{ForSome};
 ghost use Rattle.lls_lit.specs.Literal.{index_of, literal_at};
-ghost use Rattle.lls_arena.specs.Arena.{IsLive, empty_arena, place_of};
+ghost use Rattle.lls_arena.specs.Arena.{IsLive, changed_at, empty_arena, killed, place_of, sealed};
 ghost use Rattle.lls_watch.specs.Watches.{AttachedAt, BeginsWith, CanRewatch, ComesAfter, HasLiteral, IsNotIn, IsThreaded, Lists, WatchesAt, swapped_at, with_attached, with_first, with_link_at, with_list};
 
 use lls_arena::{Arena, MOST_HEADS};
@@ -62,6 +62,46 @@ impl Watches {
         ensures { slice_get self.now.first (index_of lit) ≡ Some result }
     {
         self.first[lit.index()]
+    }
+
+    /// Makes room for at least so many more clauses and literals. No other call but `new` takes memory.
+    pub fn reserve(&mut self, heads: u32, lits: usize) -> Result<(), Memory>
+        ensures ok_heads { OnOk result (heads ≤ self.new.arena.spare_heads) }
+        ensures ok_lits { OnOk result (lits ≤ self.new.arena.spare_lits) }
+        ensures same { self.new ≡ record self.old { arena = record self.old.arena { spare_heads = self.new.arena.spare_heads; spare_lits = self.new.arena.spare_lits } } }
+        ensures heads { self.old.arena.spare_heads ≤ self.new.arena.spare_heads }
+        ensures lits { self.old.arena.spare_lits ≤ self.new.arena.spare_lits }
+    {
+        self.arena.reserve(heads, lits)
+    }
+
+    /// Puts a literal at the end of the clause that is being built.
+    #[inline]
+    pub fn append(&mut self, lit: Lit)
+        requires { 0 < self.old.arena.spare_lits }
+        ensures { self.new ≡ record self.old { arena = record self.old.arena { tail = self.old.arena.tail ++ lit ∷ []; spare_lits = self.old.arena.spare_lits - 1 } } }
+    {
+        self.arena.append(lit);
+    }
+
+    /// Makes the clause that is being built a live one, which is in no list yet, and answers its number.
+    pub fn seal(&mut self, id: u64) -> u32
+        requires spare { 0 < self.old.arena.spare_heads }
+        requires most { length self.old.arena.heads < MOST_HEADS }
+        ensures number { result ≡ length self.old.arena.heads }
+        ensures state { self.new ≡ record self.old { arena = sealed self.old.arena id } }
+        ensures threaded { (lists : Lists) → IsThreaded self.old lists → IsThreaded self.new lists }
+    {
+        self.arena.seal(id)
+    }
+
+    /// Makes a live clause dead. It stays in its lists.
+    pub fn kill(&mut self, c: u32)
+        requires { IsLive self.old.arena.heads c }
+        ensures state { self.new ≡ record self.old { arena = record self.old.arena { heads = changed_at killed c self.old.arena.heads; planned = false } } }
+        ensures threaded { (lists : Lists) → IsThreaded self.old lists → IsThreaded self.new lists }
+    {
+        self.arena.kill(c);
     }
 
     /// Puts a clause first in the list of its first literal, or of its second where `w`.
