@@ -58,14 +58,16 @@ has_append (x ∷ xs) ys k = rw (has_append xs ys k) (or_assoc (x == k) (has xs 
 pub once_split : (xs : List ℕ) (c : ℕ) (ys : List ℕ) → IsOnce (xs ++ c ∷ ys) → (has xs c ≡ false) × (has ys c ≡ false)
 once_split [] c ys once = (refl, once.0)
 once_split (x ∷ xs) c ys once =
-    let rest = once_split xs c ys once.1 in
-    (elim (x == c) as (λ b. (x == c) ≡ b → (b || has xs c) ≡ false) [
-      | true ↦ λ is.
-          let there : has (xs ++ c ∷ ys) c ≡ true = has_append xs (c ∷ ys) c ∙ ap (λ b. has xs c || b) (has_first c ys) ∙ or_true (has xs c) in
-          let clash : true ≡ false = sym there ∙ ap (has (xs ++ c ∷ ys)) (sym (eqb-true x c is)) ∙ once.0 in
-          absurd cc
-      | false ↦ λ _. rest.0
-    ] refl, rest.1)
+    let rest = once_split xs c ys once.1 in (
+      elim (x == c) as (λ b. (x == c) ≡ b → (b || has xs c) ≡ false) [
+        | true ↦ λ is.
+            let there : has (xs ++ c ∷ ys) c ≡ true = has_append xs (c ∷ ys) c ∙ ap (λ b. has xs c || b) (has_first c ys) ∙ or_true (has xs c) in
+            let clash : true ≡ false = sym there ∙ ap (has (xs ++ c ∷ ys)) (sym (eqb-true x c is)) ∙ once.0 in
+            absurd cc
+        | false ↦ λ _. rest.0
+      ] refl,
+      rest.1,
+    )
   where
     or_true : (a : Bool) → (a || true) ≡ true
     or_true true = refl

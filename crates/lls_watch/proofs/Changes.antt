@@ -1,5 +1,5 @@
 -- The clauses of an arena of which one is changed.
-use Rattle.std.proofs.Common.{◌≡◌, zero, suc, ℕ, Bool, true, false, List, [], ◌∷◌, ◌++◌, get_or, Option, Some, None, refl, sym, ap, ◌∙◌, subst, arith}
+use Rattle.std.proofs.Common.{map, ◌≡◌, zero, suc, ℕ, Bool, true, false, List, [], ◌∷◌, ◌++◌, get_or, Option, Some, None, refl, sym, ap, ◌∙◌, subst, arith}
 use Rattle.std.specs.Prelude.{◌≢◌, ◌<◌, ℤ, pos, not, slice_get, slice_index_or, length}
 use Rattle.std.proofs.Math.Dec.{eqb}
 use Rattle.std.specs.Ordering.{int_eq}
@@ -8,7 +8,8 @@ use Rattle.std.proofs.lemmas.List.Edits.{length-swap, swapped_from_swap}
 use Rattle.std.proofs.lemmas.Bool.{eqb-true, eqb-false}
 use Rattle.std.proofs.lemmas.Bool.Decides.{Decides-int_eq}
 use Rattle.lls_arena.specs.Arena.{HeadState, changed_at, with_link, link_of, killed, swapped, place_of}
-use Rattle.lls_watch.specs.Watches.{LeadsOn, IsWatching, watched, side_of}
+use Rattle.lls_lit.specs.Literal.{index_of}
+use Rattle.lls_watch.specs.Watches.{LeadsOn, IsWatching, WatchState, WatchesAt, watched, side_of}
 
 pub slice_get-changed_other : (f : HeadState → HeadState) (c k : ℕ) (heads : List HeadState) → k ≢ c → slice_get (changed_at f c heads) k ≡ slice_get heads k
 slice_get-changed_other f c k [] other = refl
@@ -43,12 +44,12 @@ leads_on_kept heads c k w other next lit apart leads =
             next_is = linked w leads.head leads.has (apart leads.head same here) ∙ leads.next_is;
           }
       | false ↦ λ isnt. record {
-          head = leads.head;
-          is_head = slice_get-changed_other (with_link w other) c k heads (λ e. eqb-false k c isnt e) ∙ leads.is_head;
-          watching = leads.watching;
-          has = leads.has;
-          next_is = leads.next_is;
-        }
+        head = leads.head;
+        is_head = slice_get-changed_other (with_link w other) c k heads (λ e. eqb-false k c isnt e) ∙ leads.is_head;
+        watching = leads.watching;
+        has = leads.has;
+        next_is = leads.next_is;
+      }
     ] refl
   where
     watching : (w : Bool) (h : HeadState) → IsWatching h → IsWatching (with_link w other h)
@@ -67,12 +68,12 @@ leads_on_kept heads c k w other next lit apart leads =
 pub leads_on_changed : (heads : List HeadState) (c : ℕ) (w : Bool) (next : Option ℕ) (h : HeadState) → slice_get heads c ≡ Some h → IsWatching h
     → LeadsOn (changed_at (with_link w next) c heads) (watched w h) c next
 leads_on_changed heads c w next h is watching = record {
-    head = with_link w next h;
-    is_head = slice_get-changed_same (with_link w next) c heads h is;
-    watching = long w;
-    has = has w;
-    next_is = linked w;
-  }
+  head = with_link w next h;
+  is_head = slice_get-changed_same (with_link w next) c heads h is;
+  watching = long w;
+  has = has w;
+  next_is = linked w;
+}
   where
     long : (w : Bool) → IsWatching (with_link w next h)
     long false = record { long = watching.long; differ = watching.differ }
@@ -97,7 +98,7 @@ leads_on_changed heads c w next h is watching = record {
 -- a change that keeps literals and links keeps where edges lead
 pub leads_on_same : (change : HeadState → HeadState) (heads : List HeadState) (c k : ℕ) (lit : ℤ) (next : Option ℕ)
     → ((h : HeadState) → k ≡ c → slice_get heads c ≡ Some h → IsWatching h → watched (side_of h lit) h ≡ lit
-        → (IsWatching (change h)) × ((watched (side_of (change h) lit) (change h) ≡ lit) × (link_of (side_of (change h) lit) (change h) ≡ link_of (side_of h lit) h)))
+    → (IsWatching (change h)) × ((watched (side_of (change h) lit) (change h) ≡ lit) × (link_of (side_of (change h) lit) (change h) ≡ link_of (side_of h lit) h)))
     → LeadsOn heads lit k next → LeadsOn (changed_at change c heads) lit k next
 leads_on_same change heads c k lit next keeps leads =
     elim (eqb k c) as (λ b. eqb k c ≡ b → LeadsOn (changed_at change c heads) lit k next) [
@@ -113,12 +114,12 @@ leads_on_same change heads c k lit next keeps leads =
             next_is = kept.1.1 ∙ leads.next_is;
           }
       | false ↦ λ isnt. record {
-          head = leads.head;
-          is_head = slice_get-changed_other change c k heads (λ e. eqb-false k c isnt e) ∙ leads.is_head;
-          watching = leads.watching;
-          has = leads.has;
-          next_is = leads.next_is;
-        }
+        head = leads.head;
+        is_head = slice_get-changed_other change c k heads (λ e. eqb-false k c isnt e) ∙ leads.is_head;
+        watching = leads.watching;
+        has = leads.has;
+        next_is = leads.next_is;
+      }
     ] refl
 
 pub leads_on_killed : (heads : List HeadState) (c k : ℕ) (lit : ℤ) (next : Option ℕ) → LeadsOn heads lit k next → LeadsOn (changed_at killed c heads) lit k next
@@ -186,7 +187,7 @@ pub leads_on_rewatched : (heads : List HeadState) (c k n : ℕ) (w : Bool) (lit 
     → LeadsOn heads lit k next → LeadsOn (changed_at (swapped (place_of w) n) c heads) lit k next
 leads_on_rewatched heads c k n w lit next apart leads =
     leads_on_same (swapped (place_of w) n) heads c k lit next
-        (λ h e is watching watches. let a = apart h e is in kept h watching watches a.0 (rewatched w n h watching a.1.0 a.1.1.0 a.1.1.1)) leads
+    (λ h e is watching watches. let a = apart h e is in kept h watching watches a.0 (rewatched w n h watching a.1.0 a.1.1.0 a.1.1.1)) leads
   where
     which : (w b : Bool) (h : HeadState) → watched b h ≡ lit → watched w h ≢ lit → b ≡ not w
     which true true h e differ = absurd (differ e)
@@ -196,7 +197,7 @@ leads_on_rewatched heads c k n w lit next apart leads =
 
     kept : (h : HeadState) → IsWatching h → watched (side_of h lit) h ≡ lit → watched w h ≢ lit → IsRewatched w n h
         → (IsWatching (swapped (place_of w) n h)) × ((watched (side_of (swapped (place_of w) n h) lit) (swapped (place_of w) n h) ≡ lit)
-          × (link_of (side_of (swapped (place_of w) n h) lit) (swapped (place_of w) n h) ≡ link_of (side_of h lit) h))
+        × (link_of (side_of (swapped (place_of w) n h) lit) (swapped (place_of w) n h) ≡ link_of (side_of h lit) h))
     kept h watching watches differ is =
         let new = swapped (place_of w) n h in
         let side : side_of h lit ≡ not w = which w (side_of h lit) h watches differ in
@@ -208,3 +209,27 @@ pub read_some : (xs : List ℤ) (k : ℕ) (x : ℤ) → slice_get xs k ≡ Some 
 read_some [] k x e = absurd cc
 read_some (y ∷ ys) zero x e = cc
 read_some (y ∷ ys) (suc k) x e = read_some ys k x e
+
+-- what is read of a clause is of one that is there
+pub mapped_some : {Y : Type 0} (f : HeadState → Y) (heads : List HeadState) (k : ℕ) (y : Y) → slice_get (map f heads) k ≡ Some y → (h : HeadState) × ((slice_get heads k ≡ Some h) × (f h ≡ y))
+mapped_some f [] k y e = absurd cc
+mapped_some f (h ∷ hs) zero y e = (h, (refl, cc))
+mapped_some f (h ∷ hs) (suc k) y e = mapped_some f hs k y e
+
+-- a clause whose literals were read and found to be two different ones
+pub watches_from : (state : WatchState) (c : ℕ) (w : Bool) (lits : List ℤ) → slice_get (map (λ (h : HeadState). h.lits) state.arena.heads) c ≡ Some lits → 1 < length lits
+    → int_eq (slice_index_or lits 0 (pos 0)) (slice_index_or lits 1 (pos 0)) ≡ false → index_of (slice_index_or lits (place_of w) (pos 0)) < length state.first → WatchesAt state c w
+watches_from state c w lits read long differ within =
+    let found = mapped_some (λ (h : HeadState). h.lits) state.arena.heads c lits read in
+    record {
+      head = found.0;
+      is_head = found.1.0;
+      watching = record {
+        long = subst (λ ls. 1 < length ls) (sym found.1.1) long;
+        differ = λ e. clash (ap (λ ls. slice_index_or ls 0 (pos 0)) (sym found.1.1) ∙ e ∙ ap (λ ls. slice_index_or ls 1 (pos 0)) found.1.1);
+      };
+      within = subst (λ ls. index_of (slice_index_or ls (place_of w) (pos 0)) < length state.first) (sym found.1.1) within;
+    }
+  where
+    clash : slice_index_or lits 0 (pos 0) ≡ slice_index_or lits 1 (pos 0) → ⊥
+    clash e = let both : true ≡ false = sym ((Decides-int_eq (slice_index_or lits 0 (pos 0)) (slice_index_or lits 1 (pos 0))).1 e) ∙ differ in absurd cc

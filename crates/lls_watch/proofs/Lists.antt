@@ -34,7 +34,7 @@ others_kept : (heads : List HeadState) (c : ℕ) (w : Bool) (other : Option ℕ)
     → IsSegment heads (literal_at k) start cs end → IsSegment (changed_at (with_link w other) c heads) (literal_at k) start cs end
 others_kept heads c w other i h is lit k differ start cs end chain =
     segment_kept heads (changed_at (with_link w other) c heads) (literal_at k) start cs end
-        (λ m next _ leads. leads_on_kept heads c m w other next (literal_at k) (apart) leads) chain
+    (λ m next _ leads. leads_on_kept heads c m w other next (literal_at k) (apart) leads) chain
   where
     apart : {m : ℕ} (g : HeadState) → m ≡ c → slice_get heads c ≡ Some g → watched w g ≢ literal_at k
     apart g e found same =
@@ -46,7 +46,7 @@ part_kept : (heads : List HeadState) (c : ℕ) (w : Bool) (other : Option ℕ) (
     → has cs c ≡ false → IsSegment heads lit start cs end → IsSegment (changed_at (with_link w other) c heads) lit start cs end
 part_kept heads c w other lit start cs end absent chain =
     segment_kept heads (changed_at (with_link w other) c heads) lit start cs end
-        (λ m next among leads. leads_on_kept heads c m w other next lit (λ g e _ _. absurd (clash m among e)) leads) chain
+    (λ m next among leads. leads_on_kept heads c m w other next lit (λ g e _ _. absurd (clash m among e)) leads) chain
   where
     clash : (m : ℕ) → has cs m ≡ true → m ≡ c → ⊥
     clash m among e = let both : true ≡ false = sym among ∙ ap (has cs) e ∙ absent in absurd cc
@@ -64,15 +64,22 @@ pub attached : (state : WatchState) (lists : Lists) (c : ℕ) (w : Bool) (i : �
     → IsThreaded state lists
     → IsThreaded (with_first i (Some c) (with_link_at c w (slice_index_or state.first i None) state)) (with_list i (c ∷ lists i) lists)
 attached state lists c w i h is watching lit within absent threaded = record {
-    chained = λ k k_in. by_list (λ j list. IsSegment (relinked state c w (start_of state i)) (literal_at j) (slice_index_or (slice_set state.first i (Some c)) j None) list None) lists i (c ∷ lists i) k
-        here (λ differ. there k differ (rw (sym (length-set state.first i (Some c))) k_in));
-    once = λ k k_in. by_list (λ j list. IsOnce list) lists i (c ∷ lists i) k (absent, threaded.once i within) (λ _. threaded.once k (rw (sym (length-set state.first i (Some c))) k_in));
-  }
+  chained = λ k k_in. by_list (λ j list. IsSegment (relinked state c w (start_of state i)) (literal_at j) (slice_index_or (slice_set state.first i (Some c)) j None) list None) lists i (c ∷ lists i) k
+      here (λ differ. there k differ (rw (sym (length-set state.first i (Some c))) k_in));
+  once = λ k k_in. by_list (λ j list. IsOnce list) lists i (c ∷ lists i) k (absent, threaded.once i within) (λ _. threaded.once k (rw (sym (length-set state.first i (Some c))) k_in));
+}
   where
     here : IsSegment (relinked state c w (start_of state i)) (literal_at i) (slice_index_or (slice_set state.first i (Some c)) i None) (c ∷ lists i) None
-    here = (get_or-set_same state.first i (Some c) None within, ((start_of state i),
-        (subst (λ l. LeadsOn (relinked state c w (start_of state i)) l c (start_of state i)) lit (leads_on_changed state.arena.heads c w (start_of state i) h is watching),
-         part_kept state.arena.heads c w (start_of state i) (literal_at i) (start_of state i) (lists i) None absent (threaded.chained i within))))
+    here = (
+      get_or-set_same state.first i (Some c) None within,
+      (
+        (start_of state i),
+        (
+          subst (λ l. LeadsOn (relinked state c w (start_of state i)) l c (start_of state i)) lit (leads_on_changed state.arena.heads c w (start_of state i) h is watching),
+          part_kept state.arena.heads c w (start_of state i) (literal_at i) (start_of state i) (lists i) None absent (threaded.chained i within),
+        ),
+      ),
+    )
 
     there : (k : ℕ) → k ≢ i → k < length state.first → IsSegment (relinked state c w (start_of state i)) (literal_at k) (slice_index_or (slice_set state.first i (Some c)) k None) (lists k) None
     there k differ k_in = subst (λ s. IsSegment (relinked state c w (start_of state i)) (literal_at k) s (lists k) None) (sym (get_or-set_other state.first i k (Some c) None differ))
@@ -83,10 +90,10 @@ pub first_dropped : (state : WatchState) (lists : Lists) (i c : ℕ) (next : Opt
     → lists i ≡ c ∷ cs → LeadsOn state.arena.heads (literal_at i) c next → i < length state.first
     → IsThreaded state lists → IsThreaded (with_first i next state) (with_list i cs lists)
 first_dropped state lists i c next cs is leads within threaded = record {
-    chained = λ k k_in. by_list (λ j list. IsSegment state.arena.heads (literal_at j) (slice_index_or (slice_set state.first i next) j None) list None) lists i cs k
-        here (λ differ. there k differ (rw (sym (length-set state.first i next)) k_in));
-    once = λ k k_in. by_list (λ j list. IsOnce list) lists i cs k once (λ _. threaded.once k (rw (sym (length-set state.first i next)) k_in));
-  }
+  chained = λ k k_in. by_list (λ j list. IsSegment state.arena.heads (literal_at j) (slice_index_or (slice_set state.first i next) j None) list None) lists i cs k
+      here (λ differ. there k differ (rw (sym (length-set state.first i next)) k_in));
+  once = λ k k_in. by_list (λ j list. IsOnce list) lists i cs k once (λ _. threaded.once k (rw (sym (length-set state.first i next)) k_in));
+}
   where
     whole : IsSegment state.arena.heads (literal_at i) (start_of state i) (c ∷ cs) None
     whole = subst (λ list. IsSegment state.arena.heads (literal_at i) (start_of state i) list None) is (threaded.chained i within)
@@ -108,10 +115,10 @@ pub next_dropped : (state : WatchState) (lists : Lists) (i p c : ℕ) (w : Bool)
     → LeadsOn state.arena.heads (literal_at i) c next → i < length state.first
     → IsThreaded state lists → IsThreaded (with_link_at p w next state) (with_list i (xs ++ p ∷ cs) lists)
 next_dropped state lists i p c w h next xs cs is is_head watching lit leads within threaded = record {
-    chained = λ k k_in. by_list (λ j list. IsSegment (relinked state p w next) (literal_at j) (start_of state j) list None) lists i (xs ++ p ∷ cs) k
-        here (λ differ. others_kept state.arena.heads p w next i h is_head lit k differ (start_of state k) (lists k) None (threaded.chained k k_in));
-    once = λ k k_in. by_list (λ j list. IsOnce list) lists i (xs ++ p ∷ cs) k once (λ _. threaded.once k k_in);
-  }
+  chained = λ k k_in. by_list (λ j list. IsSegment (relinked state p w next) (literal_at j) (start_of state j) list None) lists i (xs ++ p ∷ cs) k
+      here (λ differ. others_kept state.arena.heads p w next i h is_head lit k differ (start_of state k) (lists k) None (threaded.chained k k_in));
+  once = λ k k_in. by_list (λ j list. IsOnce list) lists i (xs ++ p ∷ cs) k once (λ _. threaded.once k k_in);
+}
   where
     heads : List HeadState
     heads = state.arena.heads
@@ -139,7 +146,7 @@ next_dropped state lists i p c w h next xs cs is is_head watching lit leads with
         let first = part_kept state.arena.heads p w next (literal_at i) (start_of state i) xs split.0 apart.0 split.1.0 in
         let rest = part_kept state.arena.heads p w next (literal_at i) next cs None behind (subst (λ s. IsSegment state.arena.heads (literal_at i) s cs None) same at_c.1.1.1) in
         segment_append (relinked state p w next) (literal_at i) (start_of state i) split.0 None xs (p ∷ cs) first
-            (at_p.0, (next, (subst (λ l. LeadsOn (relinked state p w next) l p next) lit (leads_on_changed state.arena.heads p w next h is_head watching), rest)))
+        (at_p.0, (next, (subst (λ l. LeadsOn (relinked state p w next) l p next) lit (leads_on_changed state.arena.heads p w next h is_head watching), rest)))
       where
         later_absent : (c p : ℕ) (cs : List ℕ) → has (c ∷ cs) p ≡ false → has cs p ≡ false
         later_absent c p cs absent = right (c == p) (has cs p) absent
@@ -153,9 +160,9 @@ pub lists_kept : (state : WatchState) (new : List HeadState) (lists : Lists)
     → ((i c : ℕ) (next : Option ℕ) → i < length state.first → has (lists i) c ≡ true → LeadsOn state.arena.heads (literal_at i) c next → LeadsOn new (literal_at i) c next)
     → IsThreaded state lists → IsThreaded (record state { arena = record state.arena { heads = new } }) lists
 lists_kept state new lists each threaded = record {
-    chained = λ k k_in. segment_kept state.arena.heads new (literal_at k) (start_of state k) (lists k) None (λ c next among leads. each k c next k_in among leads) (threaded.chained k k_in);
-    once = threaded.once;
-  }
+  chained = λ k k_in. segment_kept state.arena.heads new (literal_at k) (start_of state k) (lists k) None (λ c next among leads. each k c next k_in among leads) (threaded.chained k k_in);
+  once = threaded.once;
+}
 
 -- the same by the clause's number and its edge
 pub attached_at : (state : WatchState) (lists : Lists) (c : ℕ) (w : Bool) (known : WatchesAt state c w) → literal_at (index_of (watched w known.head)) ≡ watched w known.head
@@ -164,14 +171,14 @@ pub attached_at : (state : WatchState) (lists : Lists) (c : ℕ) (w : Bool) (kno
 attached_at state lists c w known literal threaded absent =
     let at : list_of state c w ≡ index_of (watched w known.head) = ap (λ o. index_of (option_map_or (watched w) o (pos 0))) known.is_head in
     subst (λ i. has (lists i) c ≡ false → IsThreaded (with_first i (Some c) (with_link_at c w (slice_index_or state.first i None) state)) (with_list i (c ∷ lists i) lists)) (sym at)
-        (λ out. attached state lists c w (index_of (watched w known.head)) known.head known.is_head known.watching (sym literal) known.within out threaded) absent
+    (λ out. attached state lists c w (index_of (watched w known.head)) known.head known.is_head known.watching (sym literal) known.within out threaded) absent
 
 pub first_dropped_at : (state : WatchState) (lists : Lists) (lit : ℤ) (c : ℕ) (next : Option ℕ) (cs : List ℕ)
     → IsLiteral lit → index_of lit < length state.first → BeginsWith state lists lit c next cs
     → IsThreaded state lists → IsThreaded (with_first (index_of lit) next state) (with_list (index_of lit) cs lists)
 first_dropped_at state lists lit c next cs is within begins threaded =
     first_dropped state lists (index_of lit) c next cs begins.list_is
-        (subst (λ l. LeadsOn state.arena.heads l c next) (sym (literal_at-index_of lit is)) begins.leads) within threaded
+    (subst (λ l. LeadsOn state.arena.heads l c next) (sym (literal_at-index_of lit is)) begins.leads) within threaded
 
 pub next_dropped_at : (state : WatchState) (lists : Lists) (lit : ℤ) (p c : ℕ) (w : Bool) (next : Option ℕ) (before cs : List ℕ)
     → (known : WatchesAt state p w) → HasLiteral state p w lit → ComesAfter state lists lit p c next before cs
@@ -180,8 +187,8 @@ next_dropped_at state lists lit p c w next before cs known has_lit after threade
     let read : watched w known.head ≡ lit = ap (λ o. option_map_or (watched w) o (pos 0)) (sym known.is_head) ∙ has_lit.read in
     let at : watched w known.head ≡ literal_at (index_of lit) = read ∙ sym (literal_at-index_of lit has_lit.is_literal) in
     next_dropped state lists (index_of lit) p c w known.head next before cs after.list_is known.is_head known.watching at
-        (subst (λ l. LeadsOn state.arena.heads l c next) (sym (literal_at-index_of lit has_lit.is_literal)) after.leads)
-        (subst (λ l. index_of l < length state.first) read known.within) threaded
+    (subst (λ l. LeadsOn state.arena.heads l c next) (sym (literal_at-index_of lit has_lit.is_literal)) after.leads)
+    (subst (λ l. index_of l < length state.first) read known.within) threaded
 
 -- a clause of a list has an edge with its literal
 list_leads : (heads : List HeadState) (lit : ℤ) (start : Option ℕ) (cs : List ℕ) (end : Option ℕ) (c : ℕ) → IsSegment heads lit start cs end → has cs c ≡ true → (next : Option ℕ) × LeadsOn heads lit c next
@@ -197,7 +204,7 @@ pub rewatched_kept : (state : WatchState) (lists : Lists) (c : ℕ) (w : Bool) (
     → IsNotIn lists state c w → IsThreaded state lists → IsThreaded (swapped_at state c w n) lists
 rewatched_kept state lists c w n can literal absent threaded =
     lists_kept state (changed_at (swapped (place_of w) n) c state.arena.heads) lists
-        (λ i k next i_in among leads. leads_on_rewatched state.arena.heads c k n w (literal_at i) next (apart i k among) leads) threaded
+    (λ i k next i_in among leads. leads_on_rewatched state.arena.heads c k n w (literal_at i) next (apart i k among) leads) threaded
   where
     out : has (lists (index_of (watched w can.head))) c ≡ false
     out = subst (λ o. has (lists (index_of (option_map_or (watched w) o (pos 0)))) c ≡ false) can.is_head absent
@@ -205,12 +212,13 @@ rewatched_kept state lists c w n can literal absent threaded =
     apart : (i k : ℕ) → has (lists i) k ≡ true → (h : HeadState) → k ≡ c → slice_get state.arena.heads c ≡ Some h
         → (watched w h ≢ literal_at i) × ((1 < n) × ((n < length h.lits) × (slice_index_or h.lits n (pos 0) ≢ watched (not w) h)))
     apart i k among h same found =
-        let one : can.head ≡ h = some_same can.head h (sym can.is_head ∙ found) in
-        (λ e.
-            let place : i ≡ index_of (watched w can.head) = sym (index_of-literal_at i) ∙ ap index_of (sym e) ∙ ap (λ g. index_of (watched w g)) (sym one) in
-            let both : true ≡ false = sym among ∙ ap (λ j. has (lists j) k) place ∙ ap (has (lists (index_of (watched w can.head)))) same ∙ out in
-            absurd cc,
-         (can.behind, (subst (λ g. n < length g.lits) one can.inside, subst (λ g. slice_index_or g.lits n (pos 0) ≢ watched (not w) g) one can.differ)))
+        let one : can.head ≡ h = some_same can.head h (sym can.is_head ∙ found) in (
+          λ e.
+              let place : i ≡ index_of (watched w can.head) = sym (index_of-literal_at i) ∙ ap index_of (sym e) ∙ ap (λ g. index_of (watched w g)) (sym one) in
+              let both : true ≡ false = sym among ∙ ap (λ j. has (lists j) k) place ∙ ap (has (lists (index_of (watched w can.head)))) same ∙ out in
+              absurd cc,
+          (can.behind, (subst (λ g. n < length g.lits) one can.inside, subst (λ g. slice_index_or g.lits n (pos 0) ≢ watched (not w) g) one can.differ)),
+        )
 
 -- it then watches two literals again
 pub watches_again : (state : WatchState) (c : ℕ) (w : Bool) (n : ℕ) → CanRewatch state c w n → WatchesAt (swapped_at state c w n) c w
@@ -229,7 +237,7 @@ pub not_in_yet : (state : WatchState) (lists : Lists) (c : ℕ) (w : Bool) (n : 
 not_in_yet state lists c w n can literal absent threaded =
     let is = rewatched w n can.head can.watching can.behind can.inside can.differ in
     let here : list_of (swapped_at state c w n) c w ≡ index_of taken =
-        ap (λ o. index_of (option_map_or (watched w) o (pos 0))) (slice_get-changed_same (swapped (place_of w) n) c state.arena.heads can.head can.is_head) ∙ ap index_of is.taken in
+    ap (λ o. index_of (option_map_or (watched w) o (pos 0))) (slice_get-changed_same (swapped (place_of w) n) c state.arena.heads can.head can.is_head) ∙ ap index_of is.taken in
     ap (λ i. has (lists i) c) here ∙ elim (has (lists (index_of taken)) c) as (λ b. has (lists (index_of taken)) c ≡ b → b ≡ false) [
       | true ↦ λ among. absurd (clash among)
       | false ↦ λ _. refl
@@ -262,17 +270,17 @@ not_in_yet state lists c w n can literal absent threaded =
 pub sealed_kept : (state : WatchState) (lists : Lists) (more : List HeadState) → IsThreaded state lists
     → (arena : ArenaState) → arena.heads ≡ state.arena.heads ++ more → IsThreaded (record state { arena = arena }) lists
 sealed_kept state lists more threaded arena is = record {
-    chained = λ k k_in. subst (λ heads. IsSegment heads (literal_at k) (start_of state k) (lists k) None) (sym is)
-        (segment_kept state.arena.heads (state.arena.heads ++ more) (literal_at k) (start_of state k) (lists k) None
-            (λ c next _ leads. leads_on_more state.arena.heads more c (literal_at k) next leads) (threaded.chained k k_in));
-    once = threaded.once;
-  }
+  chained = λ k k_in. subst (λ heads. IsSegment heads (literal_at k) (start_of state k) (lists k) None) (sym is)
+      (segment_kept state.arena.heads (state.arena.heads ++ more) (literal_at k) (start_of state k) (lists k) None
+      (λ c next _ leads. leads_on_more state.arena.heads more c (literal_at k) next leads) (threaded.chained k k_in));
+  once = threaded.once;
+}
 
 pub killed_kept : (state : WatchState) (lists : Lists) (c : ℕ) → IsThreaded state lists
     → (arena : ArenaState) → arena.heads ≡ changed_at killed c state.arena.heads → IsThreaded (record state { arena = arena }) lists
 killed_kept state lists c threaded arena is = record {
-    chained = λ k k_in. subst (λ heads. IsSegment heads (literal_at k) (start_of state k) (lists k) None) (sym is)
-        (segment_kept state.arena.heads (changed_at killed c state.arena.heads) (literal_at k) (start_of state k) (lists k) None
-            (λ m next _ leads. leads_on_killed state.arena.heads c m (literal_at k) next leads) (threaded.chained k k_in));
-    once = threaded.once;
-  }
+  chained = λ k k_in. subst (λ heads. IsSegment heads (literal_at k) (start_of state k) (lists k) None) (sym is)
+      (segment_kept state.arena.heads (changed_at killed c state.arena.heads) (literal_at k) (start_of state k) (lists k) None
+      (λ m next _ leads. leads_on_killed state.arena.heads c m (literal_at k) next leads) (threaded.chained k k_in));
+  once = threaded.once;
+}

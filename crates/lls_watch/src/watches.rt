@@ -55,6 +55,13 @@ impl Watches {
         &self.arena
     }
 
+    /// How many literals have a list.
+    pub fn len(&self) -> usize
+        ensures { result ≡ length self.now.first }
+    {
+        self.first.len()
+    }
+
     /// The first clause of a literal's list.
     #[inline]
     pub fn first(&self, lit: Lit) -> Option<u32>
@@ -124,7 +131,7 @@ impl Watches {
         requires fits { ForSome next (λ n. n < MOST_HEADS) }
         ensures state { self.new ≡ with_first (index_of lit) next self.old }
         ensures threaded { (lists : Lists) (c : ℕ) (cs : List ℕ) → IsThreaded self.old lists → BeginsWith self.old lists lit c next cs
-          → IsThreaded self.new (with_list (index_of lit) cs lists) }
+            → IsThreaded self.new (with_list (index_of lit) cs lists) }
     {
         self.first[lit.index()] = next;
     }
@@ -137,7 +144,7 @@ impl Watches {
         requires fits { ForSome next (λ n. n < MOST_HEADS) }
         ensures state { self.new ≡ with_link_at p w next self.old }
         ensures threaded { (lists : Lists) (lit : ℤ) (c : ℕ) (before cs : List ℕ) → IsThreaded self.old lists → HasLiteral self.old p w lit
-          → ComesAfter self.old lists lit p c next before cs → IsThreaded self.new (with_list (index_of lit) (before ++ p ∷ cs) lists) }
+            → ComesAfter self.old lists lit p c next before cs → IsThreaded self.new (with_list (index_of lit) (before ++ p ∷ cs) lists) }
     {
         self.arena.set_link(p, w, next);
     }
@@ -150,7 +157,7 @@ impl Watches {
         requires clause { CanRewatch self.old c w n }
         ensures state { AttachedAt c w (swapped_at self.old c w n) self.new }
         ensures threaded { (lists : Lists) → IsThreaded self.old lists → IsNotIn lists self.old c w
-          → IsThreaded self.new (with_attached lists (swapped_at self.old c w n) c w) }
+            → IsThreaded self.new (with_attached lists (swapped_at self.old c w n) c w) }
     {
         self.arena.swap(c, place(w), n);
         self.attach(c, w);

@@ -18,5 +18,5 @@ returns-clause-threaded c = λ lists threaded absent.
     let here : slice_get c.self.inside.arena.heads c.args.c ≡ Some known.head = ap (λ (s : WatchState). slice_get s.arena.heads c.args.c) c.self.view_is ∙ known.is_head in
     let read : watched c.args.w known.head ≡ c.watched.result = read_some known.head.lits (place_of c.args.w) c.watched.result (subst (λ o. IfSome o (λ (head : HeadState). slice_get head.lits (place_of c.args.w) ≡ Some c.watched.result)) here c.watched.ensures) in
     let literal : literal_at (index_of (watched c.args.w known.head)) ≡ watched c.args.w known.head =
-        ap (λ l. literal_at (index_of l)) read ∙ literal_at-index_of c.watched.result c.index-i.ensures.literal ∙ sym read in
+    ap (λ l. literal_at (index_of l)) read ∙ literal_at-index_of c.watched.result c.index-i.ensures.literal ∙ sym read in
     rw (returns-clause-state c) (attached_at c.args.self.now lists c.args.c c.args.w known literal threaded absent)
