@@ -1,0 +1,9 @@
+//! Watched literals: lists of the clauses that watch each literal, threaded through the links of an arena, so that a clause goes from
+//! one list to another without memory being taken.
+#![tactic(auto)]
+
+#[cfg(test)]
+mod tests;
+mod watches;
+
+pub use watches::Watches;

@@ -1,0 +1,173 @@
+// Lists of the clauses that watch each literal.
+ghost use Rattle.std.specs.Prelude.{OnOk, ◌-◌, ◌≡◌, ◌≢◌, ◌<◌, ◌≤◌, ◌*◌, ◌∷◌, ◌++◌, ℕ, ℤ, Bool, not, false, List, [], length, replicate, slice_get, slice_index_or, IfOk, IfSome, Option, None, Some};
+ghost use Rattle.std.specs.Option.{ForSome};
+ghost use Rattle.lls_lit.specs.Literal.{index_of, literal_at};
+ghost use Rattle.lls_arena.specs.Arena.{IsLive, changed_at, empty_arena, killed, place_of, sealed};
+ghost use Rattle.lls_watch.specs.Watches.{AttachedAt, BeginsWith, CanRewatch, ComesAfter, HasLiteral, IsNotIn, IsThreaded, Lists, WatchesAt, swapped_at, with_attached, with_first, with_link_at, with_list};
+
+use lls_arena::{Arena, MOST_HEADS};
+use lls_base::Memory;
+use lls_lit::{Lit, Var};
+use std::alloc::Global;
+use std::marker::Model;
+
+/// An arena, and for each literal a list of the clauses that watch it, threaded through their links.
+#[derive(Debug, Drop)]
+pub struct Watches {
+    arena: Arena,
+    // By literal, the first clause of its list.
+    first: Vec<Option<u32>>,
+}
+
+impl Model for Watches {
+    ghost use Rattle.std.specs.Prelude.{◌<◌, All};
+    ghost use Rattle.std.specs.Option.{ForSome};
+    ghost use Rattle.lls_arena.specs.declared.TheConstants.{MOST_HEADS};
+    ghost use Rattle.lls_watch.specs.Watches.{WatchState};
+
+    ghost Value = { WatchState };
+
+    ghost view = { λ w. record { arena = w.arena; first = w.first.items } };
+
+    ghost invariant = { λ w. All (λ o. ForSome o (λ n. n < MOST_HEADS)) w.first.items };
+}
+
+impl Watches {
+    /// Empty lists for so many variables, and no clause.
+    pub fn new(alloc: Global, vars: u32) -> Result<Watches, Memory>
+        requires { vars ≤ Var.MOST }
+        ensures arena { IfOk result (λ w. w.arena ≡ empty_arena) }
+        ensures first { IfOk result (λ w. w.first ≡ replicate (2 * vars) None) }
+        ensures threaded { IfOk result (λ w. IsThreaded w (λ _. [])) }
+    {
+        let first = vec![in alloc; None; 2 * vars as usize]?;
+        Ok(Watches {
+            arena: Arena::new(alloc),
+            first,
+        })
+    }
+
+    /// The arena.
+    #[inline]
+    pub fn arena(&self) -> &Arena
+        ensures { result.now ≡ self.now.arena }
+    {
+        &self.arena
+    }
+
+    /// How many literals have a list.
+    pub fn len(&self) -> usize
+        ensures { result ≡ length self.now.first }
+    {
+        self.first.len()
+    }
+
+    /// The first clause of a literal's list.
+    #[inline]
+    pub fn first(&self, lit: Lit) -> Option<u32>
+        requires { index_of lit < length self.now.first }
+        ensures { slice_get self.now.first (index_of lit) ≡ Some result }
+    {
+        self.first[lit.index()]
+    }
+
+    /// Makes room for at least so many more clauses and literals. No other call but `new` takes memory.
+    pub fn reserve(&mut self, heads: u32, lits: usize) -> Result<(), Memory>
+        ensures ok_heads { OnOk result (heads ≤ self.new.arena.spare_heads) }
+        ensures ok_lits { OnOk result (lits ≤ self.new.arena.spare_lits) }
+        ensures same { self.new ≡ record self.old { arena = record self.old.arena { spare_heads = self.new.arena.spare_heads; spare_lits = self.new.arena.spare_lits } } }
+        ensures heads { self.old.arena.spare_heads ≤ self.new.arena.spare_heads }
+        ensures lits { self.old.arena.spare_lits ≤ self.new.arena.spare_lits }
+    {
+        self.arena.reserve(heads, lits)
+    }
+
+    /// Puts a literal at the end of the clause that is being built.
+    #[inline]
+    pub fn append(&mut self, lit: Lit)
+        requires { 0 < self.old.arena.spare_lits }
+        ensures { self.new ≡ record self.old { arena = record self.old.arena { tail = self.old.arena.tail ++ lit ∷ []; spare_lits = self.old.arena.spare_lits - 1 } } }
+    {
+        self.arena.append(lit);
+    }
+
+    /// Makes the clause that is being built a live one, which is in no list yet, and answers its number.
+    pub fn seal(&mut self, id: u64) -> u32
+        requires spare { 0 < self.old.arena.spare_heads }
+        requires most { length self.old.arena.heads < MOST_HEADS }
+        ensures number { result ≡ length self.old.arena.heads }
+        ensures state { self.new ≡ record self.old { arena = sealed self.old.arena id } }
+        ensures threaded { (lists : Lists) → IsThreaded self.old lists → IsThreaded self.new lists }
+    {
+        self.arena.seal(id)
+    }
+
+    /// Makes a live clause dead. It stays in its lists.
+    pub fn kill(&mut self, c: u32)
+        requires { IsLive self.old.arena.heads c }
+        ensures state { self.new ≡ record self.old { arena = record self.old.arena { heads = changed_at killed c self.old.arena.heads; planned = false } } }
+        ensures threaded { (lists : Lists) → IsThreaded self.old lists → IsThreaded self.new lists }
+    {
+        self.arena.kill(c);
+    }
+
+    /// Puts a clause first in the list of its first literal, or of its second where `w`.
+    #[inline]
+    pub fn attach(&mut self, c: u32, w: bool)
+        requires clause { WatchesAt self.old c w }
+        ensures state { AttachedAt c w self.old self.new }
+        ensures threaded { (lists : Lists) → IsThreaded self.old lists → IsNotIn lists self.old c w → IsThreaded self.new (with_attached lists self.old c w) }
+    {
+        let _count = self.arena.count();
+        let i = self.arena.watched(c, w).index();
+        self.arena.set_link(c, w, self.first[i]);
+        self.first[i] = Some(c);
+    }
+
+    /// Takes the first clause out of a literal's list: the list begins with the next one.
+    #[inline]
+    pub fn drop_first(&mut self, lit: Lit, next: Option<u32>)
+        requires within { index_of lit < length self.old.first }
+        requires fits { ForSome next (λ n. n < MOST_HEADS) }
+        ensures state { self.new ≡ with_first (index_of lit) next self.old }
+        ensures threaded { (lists : Lists) (c : ℕ) (cs : List ℕ) → IsThreaded self.old lists → BeginsWith self.old lists lit c next cs
+            → IsThreaded self.new (with_list (index_of lit) cs lists) }
+    {
+        self.first[lit.index()] = next;
+    }
+
+    /// Takes the clause behind another one out of the list of that one's first literal, or of its second where `w`: the other one
+    /// leads to the next.
+    #[inline]
+    pub fn drop_next(&mut self, p: u32, w: bool, next: Option<u32>)
+        requires clause { WatchesAt self.old p w }
+        requires fits { ForSome next (λ n. n < MOST_HEADS) }
+        ensures state { self.new ≡ with_link_at p w next self.old }
+        ensures threaded { (lists : Lists) (lit : ℤ) (c : ℕ) (before cs : List ℕ) → IsThreaded self.old lists → HasLiteral self.old p w lit
+            → ComesAfter self.old lists lit p c next before cs → IsThreaded self.new (with_list (index_of lit) (before ++ p ∷ cs) lists) }
+    {
+        self.arena.set_link(p, w, next);
+    }
+
+    /// Watches another literal of a live clause, the one at place n behind the first two, in place of its first literal, or of its
+    /// second where `w`. The clause is to be out of the list of the literal that it watched, and is put first in the list of the other.
+    #[inline]
+    pub fn rewatch(&mut self, c: u32, w: bool, n: usize)
+        requires live { IsLive self.old.arena.heads c }
+        requires clause { CanRewatch self.old c w n }
+        ensures state { AttachedAt c w (swapped_at self.old c w n) self.new }
+        ensures threaded { (lists : Lists) → IsThreaded self.old lists → IsNotIn lists self.old c w
+            → IsThreaded self.new (with_attached lists (swapped_at self.old c w n) c w) }
+    {
+        self.arena.swap(c, place(w), n);
+        self.attach(c, w);
+    }
+}
+
+// Where an edge's literal stands in its clause.
+#[inline]
+fn place(w: bool) -> usize
+    ensures { result ≡ place_of w }
+{
+    if w { 1 } else { 0 }
+}
