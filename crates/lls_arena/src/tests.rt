@@ -3,6 +3,8 @@ ghost use Rattle.std.specs.Prelude.{◌≡◌, ◌<◌, true, slice_get, length}
 ghost use Rattle.std.specs.Option.{ForSome};
 ghost use Rattle.lls_arena.specs.Arena.{IsLive};
 
+mod random;
+
 use crate::{Arena, MOST_HEADS};
 use lls_lit::Lit;
 use std::alloc::Global;
@@ -21,11 +23,11 @@ enum Step {
 }
 
 // A clause: its id, whether it is live, its literals, and its two links.
-type Shown = (u64, bool, &'static [i32], Option<u32>, Option<u32>);
+type Shown<'a> = (u64, bool, &'a [i32], Option<u32>, Option<u32>);
 
 struct Row {
     step: Step,
-    heads: &'static [Shown],
+    heads: &'static [Shown<'static>],
 }
 
 const ROWS: [Row; 14] = [
@@ -179,8 +181,8 @@ fn swapped(arena: &mut Arena, c: u32, i: usize, j: usize) -> Result<(), Fail> {
 }
 
 fn linked(arena: &mut Arena, c: u32, w: bool, next: Option<u32>) -> Result<(), Fail> {
-    if c >= arena.count() || !arena.live(c) {
-        return Err(Fail::from("a live clause"));
+    if c >= arena.count() {
+        return Err(Fail::from("a clause"));
     }
     match next {
         Some(n) => {
@@ -240,7 +242,7 @@ fn assert_head(
     alloc: Global,
     arena: &Arena,
     c: u32,
-    head: &Shown,
+    head: &Shown<'_>,
 ) -> Result<(), Fail>
     requires { c < length arena.now.heads }
 {
@@ -265,7 +267,7 @@ fn assert_heads(
     rt: &impl Abort,
     alloc: Global,
     arena: &Arena,
-    heads: &[Shown],
+    heads: &[Shown<'_>],
 ) -> Result<(), Fail> {
     let count = arena.count();
     assert_eq!(rt; count as usize, heads.len());
