@@ -73,7 +73,7 @@ pub unknown_answer : (formula : Cnf) (effort : Effort) (steps : List Step) (file
     → KeepsAll effort.keep_all steps → IsExhausted formula effort.budget steps → answer ≡ said_behind file statuses.Undecided (codes "s UNKNOWN") → IsAnswer (decides formula effort) answer
 unknown_answer formula effort steps file answer named kept exhausted is =
     subst (IsAnswer (decides formula effort)) (sym is)
-        (record { answers = unknown file (log_of formula effort steps file named kept exhausted); holds = short_of formula effort steps kept exhausted })
+    (record { answers = unknown file (log_of formula effort steps file named kept exhausted); holds = short_of formula effort steps kept exhausted })
 
 pub found_answer : (asked : Asked) (effort : Effort) (rle : Bool) (history : History) (answer : GivenAnswer) → IsSolution asked.problem history
     → answer ≡ shown statuses.Pattern (pattern_text rle asked.problem.rule history) → IsAnswer (searches asked effort rle) answer
@@ -92,7 +92,7 @@ pub undecided_answer : (asked : Asked) (effort : Effort) (rle : Bool) (steps : L
     → IsAnswer (searches asked effort rle) answer
 undecided_answer asked effort rle steps file answer named kept exhausted is =
     subst (IsAnswer (searches asked effort rle)) (sym is)
-        (record { answers = undecided file (log_of (formula_asked asked) effort steps file named kept exhausted); holds = short_of (formula_asked asked) effort steps kept exhausted })
+    (record { answers = undecided file (log_of (formula_asked asked) effort steps file named kept exhausted); holds = short_of (formula_asked asked) effort steps kept exhausted })
 
 -- there is a variable for each cell
 pub cells_fit : (asked : Asked) → length asked.problem.posed.cells ≤ (formula_asked asked).vars
