@@ -4,6 +4,8 @@ ghost use Rattle.std.specs.Option.{ForSome};
 ghost use Rattle.lls_problem.specs.Bounds.{HasEnds};
 ghost use Rattle.lls_problem.specs.Problem.{IsPeriod};
 
+mod parts;
+
 use crate::{decode, encode};
 use lls_cnf::{Assignment, Formula};
 use lls_grid::print_history;
