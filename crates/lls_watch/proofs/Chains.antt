@@ -1,10 +1,9 @@
 -- Segments of chains: what keeps them, and how they are put together.
-use Rattle.std.proofs.Common.{◌≡◌, ◌<◌, zero, suc, ℕ, Bool, true, false, not, ◌||◌, List, [], ◌∷◌, ◌++◌, Option, Some, None, refl, sym, ap, ◌∙◌, subst, arith}
-use Rattle.std.specs.Prelude.{◌≢◌, ℤ, slice_get, length, ◌==◌}
-use Rattle.std.specs.List.{list_any}
+use Rattle.std.proofs.Common.{◌≡◌, ℕ, Bool, true, false, ◌||◌, List, [], ◌∷◌, ◌++◌, Option, Some, refl, sym, ap, ◌∙◌, subst}
+use Rattle.std.specs.Prelude.{ℤ, ◌==◌}
 use Rattle.std.proofs.lemmas.Bool.{eq-eqb, eqb-true}
 use Rattle.lls_arena.specs.Arena.{HeadState, link_of}
-use Rattle.lls_watch.specs.Watches.{IsWatching, LeadsOn, IsSegment, IsOnce, has, side_of}
+use Rattle.lls_watch.specs.Watches.{LeadsOn, IsSegment, IsOnce, has, side_of}
 
 pub has_first : (c : ℕ) (cs : List ℕ) → has (c ∷ cs) c ≡ true
 has_first c cs = rw (eq-eqb c c refl) refl

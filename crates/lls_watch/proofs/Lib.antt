@@ -1,3 +1,5 @@
 pub mod Changes
 pub mod Chains
 pub mod Lists
+pub mod Passed
+pub mod Kept

@@ -1,13 +1,12 @@
 -- The lists of all literals: what each change of a link or of a first clause makes of them.
-use Rattle.std.proofs.Common.{inl, inr, ◌⊎◌, ◌≡◌, ◌<◌, zero, suc, ℕ, Bool, true, false, not, ◌||◌, cond, List, [], ◌∷◌, ◌++◌, Option, Some, None, refl, sym, ap, ◌∙◌, subst, arith, length}
+use Rattle.std.proofs.Common.{inl, inr, ◌⊎◌, ◌≡◌, ◌<◌, ℕ, Bool, true, false, not, ◌||◌, cond, List, [], ◌∷◌, ◌++◌, Option, Some, None, refl, sym, ap, ◌∙◌, subst, length}
 use Rattle.std.specs.Prelude.{◌≢◌, ℤ, pos, slice_get, ◌==◌, slice_set, slice_index_or}
-use Rattle.std.specs.List.{list_any}
 use Rattle.std.proofs.Math.Dec.{eqb}
 use Rattle.std.proofs.lemmas.List.{get_or-set_same, get_or-set_other, length-set, append_assoc}
-use Rattle.std.proofs.lemmas.Bool.{eq-eqb, eqb-true, eqb-false}
+use Rattle.std.proofs.lemmas.Bool.{eqb-true, eqb-false}
 use Rattle.lls_lit.specs.Literal.{IsLiteral, index_of, literal_at}
 use Rattle.lls_lit.specs.Indices.{index_of-literal_at, literal_at-index_of}
-use Rattle.lls_arena.specs.Arena.{ArenaState, HeadState, changed_at, killed, with_link, link_of, swapped, place_of}
+use Rattle.lls_arena.specs.Arena.{ArenaState, HeadState, changed_at, killed, with_link, swapped, place_of}
 use Rattle.lls_watch.specs.Watches.{WatchState, Lists, LeadsOn, IsWatching, IsSegment, IsOnce, IsThreaded, has, watched, side_of, with_list, with_link_at, with_first, WatchesAt, IsNotIn, list_of, with_attached, BeginsWith, ComesAfter, HasLiteral, CanRewatch, swapped_at}
 use Rattle.std.specs.Option.{option_map_or}
 use Rattle.lls_watch.proofs.Changes.{leads_on_kept, leads_on_changed, leads_on_killed, leads_on_more, leads_on_rewatched, rewatched, slice_get-changed_same}

@@ -1,4 +1,4 @@
-use Rattle.std.proofs.Common.{◌≡◌, arith}
+use Rattle.std.proofs.Common.{arith}
 use Rattle.std.proofs.lemmas.Grind.{common_steps}
 use Rattle.lls_watch.proofs.Lists.{first_dropped_at}
 use Rattle.lls_watch.proofs.watches.Watches.drop_first.Goals as goal

@@ -1,4 +1,4 @@
-use Rattle.std.proofs.Common.{◌≡◌, ap, arith, ◌∙◌, refl}
+use Rattle.std.proofs.Common.{arith, refl}
 use Rattle.std.proofs.lemmas.Grind.{common_steps}
 use Rattle.lls_watch.proofs.Lists.{sealed_kept}
 use Rattle.lls_watch.proofs.watches.Watches.seal.Goals as goal
