@@ -3,3 +3,5 @@ pub mod Chains
 pub mod Lists
 pub mod Passed
 pub mod Kept
+pub mod Changed
+pub mod Listed

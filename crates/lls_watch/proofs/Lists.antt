@@ -17,7 +17,7 @@ pub literals_differ : (i k : ℕ) → i ≢ k → literal_at i ≢ literal_at k
 literals_differ i k other same = other (sym (index_of-literal_at i) ∙ ap index_of same ∙ index_of-literal_at k)
 
 -- what is so of the changed list and of all others is so of each
-by_list : (P : ℕ → List ℕ → Type 0) (lists : Lists) (i : ℕ) (list : List ℕ) (k : ℕ) → P i list → (k ≢ i → P k (lists k)) → P k (with_list i list lists k)
+pub by_list : (P : ℕ → List ℕ → Type 0) (lists : Lists) (i : ℕ) (list : List ℕ) (k : ℕ) → P i list → (k ≢ i → P k (lists k)) → P k (with_list i list lists k)
 by_list P lists i list k here there =
     elim (eqb k i) as (λ b. eqb k i ≡ b → P k (cond b list (lists k))) [
       | true ↦ λ is. subst (λ j. P j list) (sym (eqb-true k i is)) here

@@ -1,12 +1,12 @@
 -- What a store sees of an arena's clauses, how far unit propagation has come, and what holds of the watched literals behind it.
 use Rattle.std.specs.Prelude.{◌≡◌, ◌≤◌, ◌<◌, ℕ, suc, ℤ, Bool, true, not, List, [], ◌∷◌, length, slice_get, nat_le, Option, Some, None, if◌then◌else◌, ◌⊎◌}
 use Rattle.std.specs.FinSet as set
-use Rattle.lls_lit.specs.Literal.{negation}
+use Rattle.lls_lit.specs.Literal.{index_of, negation}
 use Rattle.lls_store.specs.Trail.{Entry}
 use Rattle.lls_store.specs.Clauses.{LiveClause}
 use Rattle.lls_store.specs.Store.{StoreState}
 use Rattle.lls_arena.specs.Arena.{ArenaState, HeadState}
-use Rattle.lls_watch.specs.Watches.{IsWatching, watched}
+use Rattle.lls_watch.specs.Watches.{IsWatching, Lists, has, watched}
 
 -- the live clauses among these, of which the first has that number
 abbrev pub live_from : ℕ → List HeadState → List LiveClause
@@ -56,3 +56,8 @@ passed_before passed (Some mark) = if nat_le mark passed then mark else passed
 -- what is left of the progress where the trail is cut
 abbrev pub cut_progress : Progress → Progress
 cut_progress progress = record { passed = passed_before progress.passed progress.mark; mark = None }
+
+-- each live clause that watches two literals is in the lists of both
+abbrev pub AreListed : List HeadState → Lists → Type 0
+AreListed heads lists =
+    (c : ℕ) (head : HeadState) (w : Bool) → slice_get heads c ≡ Some head → head.live ≡ true → IsWatching head → has (lists (index_of (watched w head))) c ≡ true
