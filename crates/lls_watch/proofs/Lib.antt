@@ -5,3 +5,4 @@ pub mod Passed
 pub mod Kept
 pub mod Changed
 pub mod Listed
+pub mod Visiting

@@ -1,2 +1,3 @@
 pub mod Watches
 pub mod Passed
+pub mod Visiting
