@@ -505,4 +505,6 @@ class Terminal(Case):
 if __name__ == "__main__":
     # A gate that runs in the background has Ctrl-C ignored, and so would all that is started here.
     signal.signal(signal.SIGINT, signal.default_int_handler)
+    signal.signal(signal.SIGTERM, signal.SIG_DFL)
+    signal.signal(signal.SIGHUP, signal.SIG_DFL)
     sys.exit(not unittest.main(exit=False, verbosity=0).result.wasSuccessful())
