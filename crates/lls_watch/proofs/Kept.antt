@@ -20,7 +20,7 @@ get_from_front [] more k e within found = absurd (omega (arith, within))
 get_from_front (x ∷ es) more zero e within found = found
 get_from_front (x ∷ es) more (suc k) e within found = get_from_front es more k e (omega (arith, within)) found
 
-offset_grown : (es more : List Entry) (mark : Option ℕ) (place level : ℕ) (other : ℤ) → IsOffset es mark place level other → IsOffset (es ++ more) mark place level other
+pub offset_grown : (es more : List Entry) (mark : Option ℕ) (place level : ℕ) (other : ℤ) → IsOffset es mark place level other → IsOffset (es ++ more) mark place level other
 offset_grown es more mark place level other it =
     record { at = it.at; entry = it.entry; found = get_in_front es more it.at it.entry it.found; is_true = it.is_true; in_time = it.in_time }
 

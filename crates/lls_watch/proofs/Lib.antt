@@ -6,3 +6,4 @@ pub mod Kept
 pub mod Changed
 pub mod Listed
 pub mod Visiting
+pub mod Walks
