@@ -1,3 +1,4 @@
 pub mod Watches
 pub mod Passed
 pub mod Visiting
+pub mod Visit

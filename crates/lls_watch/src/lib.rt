@@ -4,6 +4,7 @@
 
 #[cfg(test)]
 mod tests;
+mod visit;
 mod watches;
 
 pub use watches::Watches;

@@ -1,0 +1,59 @@
+// A visit of a clause of which a watched literal became false.
+ghost use Rattle.std.specs.Prelude.{◌≡◌, true, slice_get, IfNone, IfSome, Some};
+ghost use Rattle.lls_lit.specs.Formula.{is_within};
+ghost use Rattle.lls_arena.specs.Arena.{HeadState};
+ghost use Rattle.lls_watch.specs.Visit.{AreRestFalse, CanBeVisited, IsNotFalseAt, IsVisit};
+
+use lls_arena::Arena;
+use lls_lit::Lit;
+use lls_store::Trail;
+
+// What is to be done at the clause.
+#[derive(Clone, Copy, Debug)]
+pub(crate) enum Visit {
+    // Nothing: its other watched literal is true.
+    Kept,
+    // It is dead, so no list needs it.
+    Dead,
+    // The literal at this place isn't false, so it can be watched in place of the false one.
+    Moves(usize),
+    // All are false but the other watched one, which has no value.
+    Forces(Lit),
+    // All are false.
+    Falsified,
+}
+
+// Looks at the other watched literal alone where that is true.
+#[inline]
+pub(crate) fn visit_clause(arena: &Arena, trail: &Trail, c: u32, w: bool) -> Visit
+    requires { CanBeVisited arena.now.heads trail.now.vars c }
+    ensures { (head : HeadState) → slice_get arena.now.heads c ≡ Some head → IsVisit head trail.now.entries w result }
+{
+    let other = arena.watched(c, !w);
+    let value = trail.value(other);
+    if value == Some(true) {
+        return Visit::Kept;
+    }
+    if !arena.live(c) {
+        return Visit::Dead;
+    }
+    match not_false(arena.lits(c), trail) {
+        Some(n) => Visit::Moves(n),
+        None if value.is_none() => Visit::Forces(other),
+        None => Visit::Falsified,
+    }
+}
+
+// The first place behind two whose literal isn't false.
+fn not_false(lits: &[Lit], trail: &Trail) -> Option<usize>
+    requires { is_within trail.now.vars lits.now ≡ true }
+    ensures found { IfSome result (IsNotFalseAt trail.now.entries lits.now) }
+    ensures none { IfNone result (AreRestFalse trail.now.entries lits.now) }
+{
+    for n in 2..lits.len() {
+        if trail.value(lits[n]) != Some(false) {
+            return Some(n);
+        }
+    }
+    None
+}
