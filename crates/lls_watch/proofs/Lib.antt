@@ -7,3 +7,4 @@ pub mod Changed
 pub mod Listed
 pub mod Visiting
 pub mod Walks
+pub mod Followed
