@@ -8,3 +8,4 @@ pub mod Listed
 pub mod Visiting
 pub mod Walks
 pub mod Followed
+pub mod Stays
