@@ -5,6 +5,7 @@
 #[cfg(test)]
 mod tests;
 mod visit;
+mod walk;
 mod watches;
 
 pub use watches::Watches;
