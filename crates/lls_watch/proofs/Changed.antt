@@ -5,7 +5,8 @@ use Rattle.lls_lit.specs.Literal.{negation}
 use Rattle.lls_store.specs.Trail.{Entry, Has, HasNegated, IsConsistent}
 use Rattle.lls_arena.specs.Arena.{HeadState, changed_at, killed, place_of, swapped, with_link}
 use Rattle.lls_watch.specs.Watches.{IsWatching, watched}
-use Rattle.lls_watch.specs.Passed.{Progress, IsOffset, ArePassed}
+use Rattle.lls_watch.specs.declared.progress.Progress.{Progress}
+use Rattle.lls_watch.specs.Passed.{IsOffset, ArePassed}
 use Rattle.lls_watch.proofs.Changes.{IsRewatched, rewatched}
 use Rattle.lls_watch.proofs.Passed.{has_at}
 

@@ -8,7 +8,8 @@ use Rattle.lls_store.specs.Trail.{Entry, TrailState, IsTrail, is_decision, level
 use Rattle.lls_store.specs.Changes.{entries_up_to}
 use Rattle.lls_arena.specs.Arena.{HeadState}
 use Rattle.lls_watch.specs.Watches.{IsWatching, watched}
-use Rattle.lls_watch.specs.Passed.{Progress, IsMarked, IsOffset, ArePassed, passed_before, cut_progress}
+use Rattle.lls_watch.specs.declared.progress.Progress.{Progress}
+use Rattle.lls_watch.specs.Passed.{IsMarked, IsOffset, ArePassed, passed_before, cut_progress}
 
 get_in_front : (es more : List Entry) (k : ℕ) (e : Entry) → slice_get es k ≡ Some e → slice_get (es ++ more) k ≡ Some e
 get_in_front [] more k e found = absurd cc

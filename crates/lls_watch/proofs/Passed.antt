@@ -14,7 +14,8 @@ use Rattle.lls_store.specs.Closed.{IsSettled, IsClosed}
 use Rattle.lls_store.proofs.Sets.{IsIn-from_Contains}
 use Rattle.lls_arena.specs.Arena.{HeadState, place_of}
 use Rattle.lls_watch.specs.Watches.{IsWatching, watched}
-use Rattle.lls_watch.specs.Passed.{live_from, Progress, ArePassed}
+use Rattle.lls_watch.specs.declared.progress.Progress.{Progress}
+use Rattle.lls_watch.specs.Passed.{live_from, ArePassed}
 
 -- where the trail has a literal
 pub record IsAt (entries : List Entry) (l : ℤ) : Type 0 where

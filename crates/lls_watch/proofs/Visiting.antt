@@ -7,7 +7,8 @@ use Rattle.lls_lit.specs.Indices.{literal_at-index_of}
 use Rattle.lls_store.specs.Trail.{Entry}
 use Rattle.lls_arena.specs.Arena.{HeadState}
 use Rattle.lls_watch.specs.Watches.{WatchState, Lists, IsSegment, IsThreaded, IsWatching, has, watched}
-use Rattle.lls_watch.specs.Passed.{Progress, IsOffset, ArePassed, AreListed}
+use Rattle.lls_watch.specs.declared.progress.Progress.{Progress}
+use Rattle.lls_watch.specs.Passed.{IsOffset, ArePassed, AreListed}
 use Rattle.lls_watch.specs.Visiting.{AreVisited, IsWalk}
 use Rattle.lls_watch.proofs.Chains.{has_append}
 use Rattle.lls_watch.proofs.Kept.{passed_one}

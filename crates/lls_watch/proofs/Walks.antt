@@ -6,7 +6,8 @@ use Rattle.lls_lit.specs.Indices.{literal_at-index_of}
 use Rattle.lls_store.specs.Trail.{Entry}
 use Rattle.lls_arena.specs.Arena.{HeadState, changed_at, place_of}
 use Rattle.lls_watch.specs.Watches.{WatchState, Lists, IsSegment, IsThreaded, IsWatching, has, watched}
-use Rattle.lls_watch.specs.Passed.{Progress, IsMarked, IsOffset, ArePassed, AreListed}
+use Rattle.lls_watch.specs.declared.progress.Progress.{Progress}
+use Rattle.lls_watch.specs.Passed.{IsMarked, IsOffset, ArePassed, AreListed}
 use Rattle.lls_watch.specs.Visiting.{AreVisited, IsWalk}
 use Rattle.lls_watch.proofs.Chains.{segment_split}
 use Rattle.lls_watch.proofs.Changed.{IsChanged, KeepsWatched, changed_found}

@@ -6,6 +6,7 @@ use Rattle.lls_store.specs.Trail.{Entry}
 use Rattle.lls_store.specs.Clauses.{LiveClause}
 use Rattle.lls_store.specs.Store.{StoreState}
 use Rattle.lls_arena.specs.Arena.{ArenaState, HeadState}
+use Rattle.lls_watch.specs.declared.progress.Progress.{Progress}
 use Rattle.lls_watch.specs.Watches.{IsWatching, Lists, has, watched}
 
 -- the live clauses among these, of which the first has that number
@@ -17,11 +18,6 @@ live_from n (head ∷ heads) =
 -- the store that an arena's clauses make
 abbrev pub store_of : ℕ → ArenaState → StoreState
 store_of vars arena = record { vars = vars; count = length arena.heads; live = live_from 0 arena.heads; tail = arena.tail }
-
--- how many of a trail's literals, from the first, propagation has passed, and the place that is marked, if one is
-pub record Progress : Type 0 where
-  pub passed : ℕ
-  pub mark : Option ℕ
 
 -- the place is the marked one or behind it
 abbrev pub IsMarked : Option ℕ → ℕ → Type 0

@@ -5,7 +5,8 @@ use Rattle.lls_lit.specs.Literal.{index_of}
 use Rattle.lls_store.specs.Trail.{Entry}
 use Rattle.lls_arena.specs.Arena.{HeadState}
 use Rattle.lls_watch.specs.Watches.{WatchState, Lists, IsSegment, IsThreaded, IsWatching, LeadsOn, has, side_of, watched, with_first, with_link_at}
-use Rattle.lls_watch.specs.Passed.{Progress, IsOffset, ArePassed, AreListed}
+use Rattle.lls_watch.specs.declared.progress.Progress.{Progress}
+use Rattle.lls_watch.specs.Passed.{IsOffset, ArePassed, AreListed}
 
 -- where these live clauses watch the literal, which became false at that level at the first place that isn't passed, their other watched literal is true in time
 abbrev pub AreVisited : List HeadState → List Entry → Progress → ℕ → ℤ → List ℕ → Type 0

@@ -4,6 +4,7 @@
 
 #[cfg(test)]
 mod tests;
+mod progress;
 mod visit;
 mod walk;
 mod watches;
