@@ -1,5 +1,5 @@
 -- What a visit finds of a clause of which a watched literal is false.
-use Rattle.std.specs.Prelude.{◌≡◌, ◌<◌, ℕ, ℤ, pos, Bool, true, false, not, List, length, slice_get, slice_index_or, Some}
+use Rattle.std.specs.Prelude.{◌≡◌, ◌≢◌, ◌<◌, ◌⊎◌, ℕ, ℤ, pos, Bool, true, false, not, List, length, slice_get, slice_index_or, Some}
 use Rattle.lls_lit.specs.Formula.{is_within}
 use Rattle.lls_store.specs.Trail.{Entry, Has, HasNegated, IsUnset}
 use Rattle.lls_arena.specs.Arena.{HeadState}
@@ -14,20 +14,22 @@ pub record CanBeVisited (heads : List HeadState) (vars c : ℕ) : Type 0 where
   pub watching : IsWatching head
   pub within : is_within vars head.lits ≡ true
 
--- the literals behind the first two are false
-abbrev pub AreRestFalse : List Entry → List ℤ → Type 0
-AreRestFalse entries lits = (n : ℕ) → 1 < n → n < length lits → HasNegated entries (slice_index_or lits n (pos 0))
+-- each literal behind the first two is false, or the other watched one once more
+abbrev pub AreRestFalse : List Entry → List ℤ → ℤ → Type 0
+AreRestFalse entries lits other =
+    (n : ℕ) → 1 < n → n < length lits → HasNegated entries (slice_index_or lits n (pos 0)) ⊎ (slice_index_or lits n (pos 0) ≡ other)
 
--- the literal at that place is behind the first two, and isn't false
-pub record IsNotFalseAt (entries : List Entry) (lits : List ℤ) (n : ℕ) : Type 0 where
+-- the literal at that place is behind the first two, isn't false, and isn't the other watched one
+pub record CanBeWatched (entries : List Entry) (lits : List ℤ) (other : ℤ) (n : ℕ) : Type 0 where
   pub behind : 1 < n
   pub inside : n < length lits
   pub not_false : ¬ HasNegated entries (slice_index_or lits n (pos 0))
+  pub differs : slice_index_or lits n (pos 0) ≢ other
 
 -- what the visit says of the clause whose first literal is false, or whose second is, and of the other watched literal
 abbrev pub IsVisit : HeadState → List Entry → Bool → Visit → Type 0
 IsVisit head entries w Kept = Has entries (watched (not w) head)
 IsVisit head entries w Dead = head.live ≡ false
-IsVisit head entries w (Moves n) = IsNotFalseAt entries head.lits n
-IsVisit head entries w (Forces other) = (other ≡ watched (not w) head) × IsUnset entries other × AreRestFalse entries head.lits
-IsVisit head entries w Falsified = HasNegated entries (watched (not w) head) × AreRestFalse entries head.lits
+IsVisit head entries w (Moves n) = CanBeWatched entries head.lits (watched (not w) head) n
+IsVisit head entries w (Forces other) = (other ≡ watched (not w) head) × IsUnset entries other × AreRestFalse entries head.lits other
+IsVisit head entries w Falsified = HasNegated entries (watched (not w) head) × AreRestFalse entries head.lits (watched (not w) head)

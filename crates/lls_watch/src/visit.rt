@@ -2,7 +2,7 @@
 ghost use Rattle.std.specs.Prelude.{◌≡◌, true, slice_get, IfNone, IfSome, Some};
 ghost use Rattle.lls_lit.specs.Formula.{is_within};
 ghost use Rattle.lls_arena.specs.Arena.{HeadState};
-ghost use Rattle.lls_watch.specs.Visit.{AreRestFalse, CanBeVisited, IsNotFalseAt, IsVisit};
+ghost use Rattle.lls_watch.specs.Visit.{AreRestFalse, CanBeVisited, CanBeWatched, IsVisit};
 
 use lls_arena::Arena;
 use lls_lit::Lit;
@@ -15,7 +15,7 @@ pub(crate) enum Visit {
     Kept,
     // It is dead, so no list needs it.
     Dead,
-    // The literal at this place isn't false, so it can be watched in place of the false one.
+    // The literal at this place isn't false, so it can be watched in place of the false one: it isn't the other watched one.
     Moves(usize),
     // All are false but the other watched one, which has no value.
     Forces(Lit),
@@ -37,21 +37,21 @@ pub(crate) fn visit_clause(arena: &Arena, trail: &Trail, c: u32, w: bool) -> Vis
     if !arena.live(c) {
         return Visit::Dead;
     }
-    match not_false(arena.lits(c), trail) {
+    match watchable(arena.lits(c), trail, other) {
         Some(n) => Visit::Moves(n),
         None if value.is_none() => Visit::Forces(other),
         None => Visit::Falsified,
     }
 }
 
-// The first place behind two whose literal isn't false.
-fn not_false(lits: &[Lit], trail: &Trail) -> Option<usize>
+// The first place behind the first two whose literal isn't false and isn't that one.
+fn watchable(lits: &[Lit], trail: &Trail, other: Lit) -> Option<usize>
     requires { is_within trail.now.vars lits.now ≡ true }
-    ensures found { IfSome result (IsNotFalseAt trail.now.entries lits.now) }
-    ensures none { IfNone result (AreRestFalse trail.now.entries lits.now) }
+    ensures found { IfSome result (CanBeWatched trail.now.entries lits.now other) }
+    ensures none { IfNone result (AreRestFalse trail.now.entries lits.now other) }
 {
     for n in 2..lits.len() {
-        if trail.value(lits[n]) != Some(false) {
+        if trail.value(lits[n]) != Some(false) && lits[n] != other {
             return Some(n);
         }
     }
