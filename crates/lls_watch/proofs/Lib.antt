@@ -9,3 +9,4 @@ pub mod Visiting
 pub mod Walks
 pub mod Followed
 pub mod Stays
+pub mod Steps

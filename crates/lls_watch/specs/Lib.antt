@@ -2,3 +2,4 @@ pub mod Watches
 pub mod Passed
 pub mod Visiting
 pub mod Visit
+pub mod Propagating

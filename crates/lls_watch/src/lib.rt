@@ -2,9 +2,9 @@
 //! one list to another without memory being taken.
 #![tactic(auto)]
 
+mod progress;
 #[cfg(test)]
 mod tests;
-mod progress;
 mod visit;
 mod walk;
 mod watches;
