@@ -11,7 +11,7 @@ use Rattle.lls_watch.specs.Watches.{IsWatching, watched}
 use Rattle.lls_watch.specs.declared.progress.Progress.{Progress}
 use Rattle.lls_watch.specs.Passed.{IsMarked, IsOffset, ArePassed, passed_before, cut_progress}
 
-get_in_front : (es more : List Entry) (k : ℕ) (e : Entry) → slice_get es k ≡ Some e → slice_get (es ++ more) k ≡ Some e
+pub get_in_front : (es more : List Entry) (k : ℕ) (e : Entry) → slice_get es k ≡ Some e → slice_get (es ++ more) k ≡ Some e
 get_in_front [] more k e found = absurd cc
 get_in_front (x ∷ es) more zero e found = found
 get_in_front (x ∷ es) more (suc k) e found = get_in_front es more k e found
