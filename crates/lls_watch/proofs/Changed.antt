@@ -43,14 +43,14 @@ passed_changed f c heads es progress keeps passed k new w place entry found live
         (passed k h w place entry was (keeps.live h (ap (λ (g : HeadState). g.live) to ∙ live)) (keeps.watching h (subst IsWatching (sym to) watching)) before there (is ∙ ap negation (seen w)))
     by_clause (IsChanged.other differ was) = passed k new w place entry was live watching before there is
 
-killed_keeps : KeepsWatched killed
+pub killed_keeps : KeepsWatched killed
 killed_keeps = record { live = λ h e. absurd cc; watching = λ h it. record { long = it.long; differ = it.differ }; lits = λ h. refl }
 
 -- a clause is dead
 pub passed_killed : (c : ℕ) (heads : List HeadState) (es : List Entry) (progress : Progress) → ArePassed heads es progress → ArePassed (changed_at killed c heads) es progress
 passed_killed c heads es progress passed = passed_changed killed c heads es progress killed_keeps passed
 
-link_keeps : (w : Bool) (next : Option ℕ) → KeepsWatched (with_link w next)
+pub link_keeps : (w : Bool) (next : Option ℕ) → KeepsWatched (with_link w next)
 link_keeps true next = record { live = λ h e. e; watching = λ h it. record { long = it.long; differ = it.differ }; lits = λ h. refl }
 link_keeps false next = record { live = λ h e. e; watching = λ h it. record { long = it.long; differ = it.differ }; lits = λ h. refl }
 

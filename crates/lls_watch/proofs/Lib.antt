@@ -10,3 +10,4 @@ pub mod Walks
 pub mod Followed
 pub mod Stays
 pub mod Steps
+pub mod Led
