@@ -11,3 +11,4 @@ pub mod Followed
 pub mod Stays
 pub mod Steps
 pub mod Led
+pub mod Moved
