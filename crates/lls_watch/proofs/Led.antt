@@ -20,7 +20,7 @@ use Rattle.lls_watch.proofs.Steps.{ahead}
 use Rattle.lls_watch.proofs.Walks.{visited_changed, walk_drops}
 
 -- what is so of the clauses, and where one of their links is changed, is so where one leads on
-led_heads : (P : List HeadState → Type 0) (last : Option ℕ) (lit : ℤ) (next : Option ℕ) (state : WatchState) → P state.arena.heads → ((w : Bool) (p : ℕ) → P (changed_at (with_link w next) p state.arena.heads))
+pub led_heads : (P : List HeadState → Type 0) (last : Option ℕ) (lit : ℤ) (next : Option ℕ) (state : WatchState) → P state.arena.heads → ((w : Bool) (p : ℕ) → P (changed_at (with_link w next) p state.arena.heads))
     → P (leading_on last lit next state).arena.heads
 led_heads P None lit next state same each = same
 led_heads P (Some p) lit next state same each = each (edge_of state lit p) p

@@ -12,3 +12,4 @@ pub mod Stays
 pub mod Steps
 pub mod Led
 pub mod Moved
+pub mod Moving
