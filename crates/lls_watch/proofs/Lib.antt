@@ -13,3 +13,4 @@ pub mod Steps
 pub mod Led
 pub mod Moved
 pub mod Moving
+pub mod OnItsWay

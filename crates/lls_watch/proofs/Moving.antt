@@ -41,7 +41,7 @@ gives_way es heads c w n h it live can is_false =
     }
 
 -- what a watched literal's list is, where the clause is found
-list_read : (state : WatchState) (c : ℕ) (w : Bool) (h : HeadState) → slice_get state.arena.heads c ≡ Some h → list_of state c w ≡ index_of (watched w h)
+pub list_read : (state : WatchState) (c : ℕ) (w : Bool) (h : HeadState) → slice_get state.arena.heads c ≡ Some h → list_of state c w ≡ index_of (watched w h)
 list_read state c w h found = ap (λ o. index_of (option_map_or (watched w) o (pos 0))) found
 
 -- a clause that moves, with what is known of it
@@ -56,7 +56,7 @@ pub record IsMoving (now : WatchState) (es : List Entry) (lit : ℤ) (c : ℕ) (
   pub new_within : index_of (slice_index_or leads.head.lits n (pos 0)) < length now.first
   pub is_false : HasNegated es lit
 
-watches_lit : (now : WatchState) (es : List Entry) (lit : ℤ) (c : ℕ) (next : Option ℕ) (w : Bool) (n : ℕ) → (it : IsMoving now es lit c next w n) → watched w it.leads.head ≡ lit
+pub watches_lit : (now : WatchState) (es : List Entry) (lit : ℤ) (c : ℕ) (next : Option ℕ) (w : Bool) (n : ℕ) → (it : IsMoving now es lit c next w n) → watched w it.leads.head ≡ lit
 watches_lit now es lit c next w n it = ap (λ b. watched b it.leads.head) (sym it.side) ∙ it.leads.has
 
 pub can_rewatch : (now : WatchState) (es : List Entry) (lit : ℤ) (last : Option ℕ) (c : ℕ) (next : Option ℕ) (w : Bool) (n : ℕ) → IsMoving now es lit c next w n → CanRewatch (leading_on last lit next now) c w n

@@ -35,7 +35,7 @@ live_from_linked w next c n heads = live_from_same (with_link w next) c n heads 
     by_side true h = record { live = refl; id = refl; lits = refl }
     by_side false h = record { live = refl; id = refl; lits = refl }
 
-from_list_swap : (lits : List ℤ) (i j : ℕ) → i < length lits → j < length lits → set.from_list {R = int_cmp} (swap lits i j) ≡ set.from_list {R = int_cmp} lits
+pub from_list_swap : (lits : List ℤ) (i j : ℕ) → i < length lits → j < length lits → set.from_list {R = int_cmp} (swap lits i j) ≡ set.from_list {R = int_cmp} lits
 from_list_swap lits i j first second =
     set.same_set int_cmp_total set.int_cmp-IsAntisymmetric (set.from_list (swap lits i j)) (set.from_list lits) (λ q.
     set.contains-from_list int_cmp_total (swap lits i j) q
