@@ -21,7 +21,8 @@ use Rattle.lls_analyse.specs.declared.visited.Seen.TheVariants.{No, Open, Kept, 
 use Rattle.lls_analyse.specs.Visited.{VisitedState, is_seen, is_open, is_held, status, status_of, AreVisited}
 use Rattle.lls_analyse.specs.Marked.{AreMarked, GivesWay, IsResolved, Follows, CanLeave}
 use Rattle.lls_analyse.proofs.Visits.{unlike}
-use Rattle.lls_analyse.proofs.Trails.{negation_twice, same_false, false_within, consistent_trail, apart, behind_current, none_decided, entry_of_here, has_here, has_more, has_wider, has_rest}
+use Rattle.lls_lit.proofs.Flipped.{negation_twice}
+use Rattle.lls_analyse.proofs.Trails.{same_false, false_within, consistent_trail, apart, behind_current, none_decided, entry_of_here, has_here, has_more, has_wider, has_rest}
 use Rattle.lls_analyse.proofs.Walk.{others_earlier, has_taken}
 use Rattle.lls_analyse.proofs.Holds.{visited_contains}
 use Rattle.lls_analyse.proofs.Resolvents.{of_resolvent, resolvent_keeps, resolvent_gains}

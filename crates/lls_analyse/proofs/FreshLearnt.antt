@@ -21,7 +21,8 @@ use Rattle.lls_store.proofs.Sets.{Contains-from_IsIn}
 use Rattle.lls_store.proofs.Values.{variable_of-negation}
 use Rattle.lls_analyse.specs.Spelled.{Spells}
 use Rattle.lls_analyse.specs.Learnt.{IsFreshOver}
-use Rattle.lls_analyse.proofs.Trails.{negation_twice, consistent_trail, entry_at, level_at, decisions_rise, entry_of_here, has_here}
+use Rattle.lls_lit.proofs.Flipped.{negation_twice}
+use Rattle.lls_analyse.proofs.Trails.{consistent_trail, entry_at, level_at, decisions_rise, entry_of_here, has_here}
 use Rattle.lls_analyse.proofs.Walk.{negated_at}
 use Rattle.lls_analyse.proofs.Learning.{false_entry}
 use Rattle.lls_analyse.proofs.Learned.{level_most}

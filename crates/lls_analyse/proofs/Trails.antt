@@ -1,6 +1,6 @@
 -- Where literals stand in a trail, on which level, and which of them a clause forced.
 use Rattle.std.proofs.Common.{◌≡◌, ℕ, zero, suc, ◌+◌, ◌<◌, ◌≤◌, Bool, true, false, ◌||◌, cond, List, [], ◌∷◌, ◌++◌, length, get_or, take, drop, Some, None, is_none, refl, sym, ap, ◌∙◌, inl, inr, arith, zero-add}
-use Rattle.std.specs.Prelude.{ℤ, pos, negsuc, ◌⊎◌, slice_get, nat_lt, ◌==◌}
+use Rattle.std.specs.Prelude.{ℤ, ◌⊎◌, slice_get, nat_lt, ◌==◌}
 use Rattle.std.specs.List.{position_or_len}
 use Rattle.std.specs.Ordering.{int_eq}
 use Rattle.std.proofs.lemmas.Bool.{and_parts, eq-eqb}
@@ -10,18 +10,12 @@ use Rattle.std.proofs.lemmas.List.Folds.{find_at, list_any_at, list_any-append, 
 use Rattle.std.proofs.lemmas.List.Sums.{count_by_more_yes, sum_by-take-le}
 use Rattle.std.proofs.lemmas.Option.{get_or_from_slice_get, slice_get_within}
 use Rattle.lls_lit.specs.Literal.{variable_of, negation}
+use Rattle.lls_lit.proofs.Flipped.{negation_twice}
 use Rattle.lls_store.specs.Trail.{Entry, TrailState, literals_of, has, HasNegated, IsConsistent, IsTrail, entry_of, place_of, is_decision, decisions, levels_after, has_variables_once}
 use Rattle.lls_store.proofs.Values.{same_variable, variable_of-negation, consistent}
 use Rattle.lls_store.proofs.Tabled.{variable_bounds}
 use Rattle.lls_lit.specs.Formula.{is_literal_of, is_within}
 use Rattle.lls_store.proofs.Entries.{entry_of-cons_same, entry_of-cons_other, variable-entry_of, decisions_cons}
-
-pub negation_twice : (l : ℤ) → negation (negation l) ≡ l
-negation_twice (pos zero) = refl
-negation_twice (pos (suc n)) = ap pos (omega arith)
-negation_twice (negsuc n) = ap (λ k. negation (pos k)) plus_one where
-  plus_one : n + 1 ≡ suc n
-  plus_one = omega arith
 
 -- two false literals of one variable are one
 pub same_false : (es : List Entry) (l m : ℤ) → IsConsistent es → HasNegated es l → HasNegated es m → variable_of l ≡ variable_of m → l ≡ m

@@ -27,7 +27,7 @@ use Rattle.lls_store.specs.Sound.{IsSound}
 use Rattle.lls_store.specs.Store.{StoreState, AreLive, IsNewId}
 use Rattle.lls_store.proofs.Values.{same_variable, variable_of-negation}
 use Rattle.lls_store.proofs.Sets.{IsIn-from_Contains}
-use Rattle.lls_analyse.proofs.Trails.{negation_twice}
+use Rattle.lls_lit.proofs.Flipped.{negation_twice}
 use Rattle.lls_analyse.specs.Spelled.{Spells, IsGoodOver}
 use Rattle.lls_analyse.specs.Hinted.{hint_at, StandsIn, IsCovered, IsFollowed}
 

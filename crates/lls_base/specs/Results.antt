@@ -10,3 +10,8 @@ and_then (Err fault) more = Err fault
 abbrev pub Gives : {X Y E : Type 0} → E → (X → Y) → Result X E → Result Y E → Type 0
 Gives memory view (Ok value) defined = defined ≡ Ok (view value)
 Gives memory view (Err fault) defined = fault ≢ memory → defined ≡ Err fault
+
+-- the same where a fault is wrapped in the error: where a call answered a fault, that is the defined one
+abbrev pub GivesWrapped : {X Y E F : Type 0} → (F → E) → (X → Y) → Result X E → Result Y F → Type 0
+GivesWrapped wrapped view (Ok value) defined = defined ≡ Ok (view value)
+GivesWrapped {F = F} wrapped view (Err error) defined = (fault : F) → error ≡ wrapped fault → defined ≡ Err fault

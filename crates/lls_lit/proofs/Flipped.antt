@@ -1,5 +1,5 @@
--- The last bit of a literal's place is its sign.
-use Rattle.std.proofs.Common.{◌≡◌, ℕ, suc, ◌+◌, ◌-◌, ◌*◌, ◌/◌, ◌%◌, ◌^◌, ◌<◌, Bool, true, false, cond, eqb, refl, sym, ap, ◌∙◌, arith, add-one}
+-- The last bit of a literal's place is its sign, and a literal negated twice is itself.
+use Rattle.std.proofs.Common.{◌≡◌, ℕ, zero, suc, ◌+◌, ◌-◌, ◌*◌, ◌/◌, ◌%◌, ◌^◌, ◌<◌, Bool, true, false, cond, eqb, refl, sym, ap, ◌∙◌, arith, add-one}
 use Rattle.std.specs.Prelude.{ℤ, pos, negsuc}
 use Rattle.std.proofs.lemmas.Bool.Decides.{nat_tests}
 use lib.Bits.{bit_xor, xor_block, xor_zero_r}
@@ -41,3 +41,10 @@ literal_at-flipped i =
       | true ↦ λ e. let even : i % 2 ≡ 0 = grind (arith, nat_tests) in ap literal_at (flipped-even i even) ∙ literal_at-odd (i / 2) ∙ sym (negation-next (i / 2))
       | false ↦ λ e. let odd : i % 2 ≡ 1 = grind (arith, nat_tests) in ap literal_at (flipped-odd i odd) ∙ literal_at-even (i / 2)
     ] refl
+
+pub negation_twice : (l : ℤ) → negation (negation l) ≡ l
+negation_twice (pos zero) = refl
+negation_twice (pos (suc n)) = ap pos (omega arith)
+negation_twice (negsuc n) =
+    let one_more : n + 1 ≡ suc n = omega arith in
+    ap (λ k. negation (pos k)) one_more

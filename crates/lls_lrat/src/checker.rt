@@ -5,7 +5,7 @@ ghost use Rattle.lls_prooflog.specs.Range.{IsInRange};
 ghost use Rattle.lls_prooflog.specs.Steps.{numbered};
 ghost use Rattle.lls_prooflog.specs.Lent.{hints_of};
 ghost use Rattle.lls_prooflog.specs.Log.{step_of_ref};
-ghost use Rattle.lls_prooflog.specs.Wrapped.{GivesWrapped};
+ghost use Rattle.lls_base.specs.Results.{GivesWrapped};
 ghost use Rattle.lls_prooflog.specs.declared.step.Step.TheVariants.{Add};
 
 use crate::checked::Checked;

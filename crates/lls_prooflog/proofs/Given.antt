@@ -5,7 +5,7 @@ use Rattle.std.specs.Result.{IsErrAnd}
 use Rattle.lls_prooflog.specs.declared.line_fault.LineFault.{LineFault}
 use Rattle.lls_prooflog.specs.declared.line_error.LineError.{LineError}
 use Rattle.lls_prooflog.specs.declared.line_error.LineError.TheVariants.{Fault}
-use Rattle.lls_prooflog.specs.Wrapped.{GivesWrapped}
+use Rattle.lls_base.specs.Results.{GivesWrapped}
 
 -- a call that answered the fault that is defined
 pub given_fault : {X Y : Type 0} (result : Result X LineError) (fault : LineFault) (view : X → Y) (defined : Result Y LineFault) → IsErrAnd result (λ error. error ≡ Fault fault) → defined ≡ Err fault → GivesWrapped Fault view result defined

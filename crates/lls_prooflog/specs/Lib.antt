@@ -3,7 +3,6 @@ pub mod Steps
 pub mod Worked
 pub mod Range
 pub mod FaultText
-pub mod Wrapped
 pub mod Number
 pub mod Line
 pub mod Fronts

@@ -3,7 +3,7 @@ ghost use Rattle.std.specs.Prelude.{◌≡◌, drop, Some, OnOk, IfOk, IfSome};
 ghost use Rattle.std.specs.Option.{option_map};
 ghost use Rattle.lls_prooflog.specs.Number.{id_in, literal_in, hint_in, item};
 ghost use Rattle.lls_prooflog.specs.Range.{IsInRange};
-ghost use Rattle.lls_prooflog.specs.Wrapped.{GivesWrapped};
+ghost use Rattle.lls_base.specs.Results.{GivesWrapped};
 ghost use Rattle.lls_prooflog.specs.Line.{behind_end, listed, step_of_line};
 ghost use Rattle.lls_prooflog.specs.Numeral.{next_item, unless_more, addition_from, deletion_from};
 ghost use Rattle.lls_prooflog.specs.declared.step.Step.TheVariants.{Add, Del};

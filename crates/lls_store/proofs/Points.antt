@@ -1,9 +1,10 @@
 -- From a set of false literals no two sets are reached.
-use Rattle.std.proofs.Common.{◌≡◌, zero, suc, ◌+◌, Bool, true, ◌||◌, List, [], ◌∷◌, ◌++◌, Some, refl, sym, ap, subst, ◌∙◌, inl, inr, arith}
-use Rattle.std.specs.Prelude.{ℤ, pos, negsuc, ◌⊎◌}
+use Rattle.std.proofs.Common.{◌≡◌, ◌+◌, Bool, true, ◌||◌, List, [], ◌∷◌, ◌++◌, Some, refl, sym, ap, subst, ◌∙◌, inl, inr, arith}
+use Rattle.std.specs.Prelude.{ℤ, ◌⊎◌}
 use Rattle.std.specs.Ordering.{int_eq}
 use Rattle.std.proofs.lemmas.Bool.Decides.{Decides-int_eq}
 use Rattle.lls_lit.specs.Literal.{negation}
+use Rattle.lls_lit.proofs.Flipped.{negation_twice}
 use Rattle.lls_store.specs.Trail.{Entry, TrailState, has, Has}
 use Rattle.lls_store.specs.Clauses.{LiveClause, Literals, clause_numbered}
 use Rattle.lls_store.specs.Uip.{HasOneCurrent, HasTwoCurrent, IsLast, resolved_on, LeadsTo, HasOnePoint}
@@ -13,13 +14,6 @@ use Rattle.lls_store.proofs.Reasons.{heads}
 -- not both one and two
 one_or_two : (trail : TrailState) (lits : Literals) → HasOneCurrent trail lits → HasTwoCurrent trail lits → ⊥
 one_or_two trail lits one two = two.apart (one.alone two.first two.first_current ∙ sym (one.alone two.second two.second_current))
-
-negation_twice : (l : ℤ) → negation (negation l) ≡ l
-negation_twice (pos zero) = refl
-negation_twice (pos (suc n)) = ap pos (omega arith)
-negation_twice (negsuc n) = ap (λ k. negation (pos k)) plus_one where
-  plus_one : n + 1 ≡ suc n
-  plus_one = omega arith
 
 or_true : (b c : Bool) → c ≡ true → (b || c) ≡ true
 or_true b c is = grind (arith)

@@ -1,9 +1,10 @@
 -- A walk along a literal's list begins, goes on and ends.
-use Rattle.std.proofs.Common.{◌≡◌, ◌<◌, ◌+◌, zero, suc, ℕ, ℤ, pos, negsuc, Bool, true, false, not, ◌||◌, List, [], ◌∷◌, ◌++◌, Option, Some, None, refl, sym, ap, ◌∙◌, subst, arith, length}
+use Rattle.std.proofs.Common.{◌≡◌, ◌<◌, ◌+◌, ℕ, ℤ, Bool, true, false, not, ◌||◌, List, [], ◌∷◌, ◌++◌, Option, Some, None, refl, sym, ap, ◌∙◌, subst, length}
 use Rattle.std.specs.Prelude.{slice_get, slice_index_or}
 use Rattle.std.proofs.lemmas.List.{append-nil}
 use Rattle.lls_lit.specs.Literal.{IsLiteral, index_of, negation}
 use Rattle.lls_lit.specs.Indices.{literal_at-index_of}
+use Rattle.lls_lit.proofs.Flipped.{negation_twice}
 use Rattle.lls_store.specs.Trail.{Entry}
 use Rattle.lls_arena.specs.Arena.{HeadState}
 use Rattle.lls_watch.specs.Watches.{WatchState, Lists, IsSegment, IsThreaded, IsWatching, has, watched}
@@ -48,13 +49,6 @@ walk_goes_on state lists entries progress level lit kept rest c start walk here 
         → watched w head ≡ lit → IsOffset entries progress.mark progress.passed level (watched (not w) head)
     by_part k head w true before _ = walk.visited k head w before
     by_part k head w false _ last = here k head w last
-
-negation_twice : (l : ℤ) → negation (negation l) ≡ l
-negation_twice (pos zero) = refl
-negation_twice (pos (suc n)) = ap pos (omega arith)
-negation_twice (negsuc n) =
-    let one_more : n + 1 ≡ suc n = omega arith in
-    ap (λ k. negation (pos k)) one_more
 
 -- at the end one literal more is passed
 pub walk_ends : (state : WatchState) (lists : Lists) (entries : List Entry) (progress : Progress) (lit : ℤ) (kept rest : List ℕ) (e : Entry)
