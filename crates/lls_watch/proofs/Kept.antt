@@ -4,8 +4,9 @@ use Rattle.std.specs.Prelude.{slice_get, nat_le, nat_lt}
 use Rattle.std.proofs.lemmas.List.Sums.{take_while-cons}
 use Rattle.std.proofs.lemmas.Bool.Decides.{nat_tests}
 use Rattle.lls_lit.specs.Literal.{negation}
-use Rattle.lls_store.specs.Trail.{Entry, TrailState, IsTrail, is_decision, levels_after}
+use Rattle.lls_store.specs.Trail.{Entry, TrailState, IsTrail, decisions, is_decision, levels_after}
 use Rattle.lls_store.specs.Changes.{entries_up_to}
+use Rattle.lls_store.proofs.Entries.{decisions_cons}
 use Rattle.lls_arena.specs.Arena.{HeadState}
 use Rattle.lls_watch.specs.Watches.{IsWatching, watched}
 use Rattle.lls_watch.specs.declared.progress.Progress.{Progress}
@@ -80,6 +81,19 @@ up_to_low level x es low = take_while-cons (λ y. nat_le y.level level) x es ∙
 
 up_to_high : (level : ℕ) (x : Entry) (es : List Entry) → nat_le x.level level ≡ false → entries_up_to level (x ∷ es) ≡ []
 up_to_high level x es high = take_while-cons (λ y. nat_le y.level level) x es ∙ ap (λ b. cond b (x ∷ entries_up_to level es) []) high
+
+level_sum : (b : Bool) (n : ℕ) → cond b (n + 1) n ≡ n + cond b 1 0
+level_sum true n = refl
+level_sum false n = omega arith
+
+-- no level is above the number of decisions
+pub level_most : (n : ℕ) (es : List Entry) (k : ℕ) (e : Entry) → map (λ x. x.level) es ≡ levels_after n es → slice_get es k ≡ Some e → e.level ≤ n + decisions es
+level_most n [] k e levels found = absurd cc
+level_most n (x ∷ es) zero e levels found =
+    let same : x ≡ e = cc in
+    omega (arith, level_sum (is_decision x) n, decisions_cons x es, (parts_of n x es levels).0, ap (λ (y : Entry). y.level) same)
+level_most n (x ∷ es) (suc k) e levels found =
+    omega (arith, level_sum (is_decision x) n, decisions_cons x es, level_most (level_after n x) es k e (parts_of n x es levels).1 found)
 
 is_low : (n level : ℕ) → n ≤ level → nat_le n level ≡ true
 is_low n level low = grind (arith, nat_tests)

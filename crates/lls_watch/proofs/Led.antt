@@ -81,10 +81,10 @@ all_but_one kept rest c k differ among =
 
 -- a dead clause is left out
 pub way_drops : (before now : WatchState) (start trail : TrailState) (progress : Progress) (lit : ℤ) (last : Option ℕ) (c : ℕ) (next : Option ℕ) → IsLiteral lit → index_of lit < length now.first
-    → IsOnItsWay before now start trail progress lit last (Some c) → LeadsOn now.arena.heads lit c next → ((h : HeadState) → slice_get now.arena.heads c ≡ Some h → h.live ≢ true)
+    → (way : IsOnItsWay before now start trail progress lit last (Some c)) → LeadsOn now.arena.heads lit c next → ((h : HeadState) → slice_get now.arena.heads c ≡ Some h → h.live ≢ true)
     → ((lists : Lists) (kept rest : List ℕ) → IsThreaded now lists → lists (index_of lit) ≡ kept ++ c ∷ rest → IsLast kept last
     → IsThreaded (leading_on last lit next now) (with_list (index_of lit) (kept ++ rest) lists))
-    → IsOnItsWay before (leading_on last lit next now) start trail progress lit last next
+    → (on : IsOnItsWay before (leading_on last lit next now) start trail progress lit last next) × (way.rest ≡ c ∷ on.rest)
 way_drops before now start trail progress lit last c next literal within way leads dead threads =
     let new = leading_on last lit next now in
     let heads = now.arena.heads in
@@ -101,18 +101,20 @@ way_drops before now start trail progress lit last c next literal within way lea
     (led_heads (λ hs. ArePassed hs trail.entries progress) last lit next now it.walk.passed (λ w p. passed_linked w next p heads trail.entries progress it.walk.passed))
     (led_heads (λ hs. AreListed hs others) last lit next now listed (λ w p. listed_changed (with_link w next) p heads others (link_keeps w next) listed))
     (led_heads (λ hs. AreVisited hs trail.entries progress way.entry.level lit way.kept) last lit next now it.walk.visited
-    (λ w p. visited_changed (with_link w next) p heads trail.entries progress way.entry.level lit way.kept (link_keeps w next) it.walk.visited)) in
-    record {
-      lists = others;
-      kept = way.kept;
-      rest = it.behind;
-      entry = way.entry;
-      found = way.found;
-      is_false = way.is_false;
-      walk = subst (IsWalk new others trail.entries progress way.entry.level lit way.kept it.behind) (leads_to_one heads lit c it.walk.leads.1.0 next it.walk.leads.1.1.0 leads) walk;
-      is_last = way.is_last;
-      fits = fits_led last lit next now trail.vars way.fits;
-      sound = subst (λ live. IsSound live trail) (sym (alike_led last lit next now).live) way.sound;
-      alike = alike_further before now new way.alike (alike_led last lit next now);
-      grown = way.grown;
-    }
+    (λ w p. visited_changed (with_link w next) p heads trail.entries progress way.entry.level lit way.kept (link_keeps w next) it.walk.visited)) in (
+      record {
+        lists = others;
+        kept = way.kept;
+        rest = it.behind;
+        entry = way.entry;
+        found = way.found;
+        is_false = way.is_false;
+        walk = subst (IsWalk new others trail.entries progress way.entry.level lit way.kept it.behind) (leads_to_one heads lit c it.walk.leads.1.0 next it.walk.leads.1.1.0 leads) walk;
+        is_last = way.is_last;
+        fits = fits_led last lit next now trail.vars way.fits;
+        sound = subst (λ live. IsSound live trail) (sym (alike_led last lit next now).live) way.sound;
+        alike = alike_further before now new way.alike (alike_led last lit next now);
+        grown = way.grown;
+      },
+      it.rest_is,
+    )

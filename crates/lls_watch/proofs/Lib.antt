@@ -14,3 +14,6 @@ pub mod Led
 pub mod Moved
 pub mod Moving
 pub mod OnItsWay
+pub mod Meeting
+pub mod Visited
+pub mod Turns

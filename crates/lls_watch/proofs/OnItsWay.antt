@@ -91,13 +91,13 @@ length_first_moved mid new c w n attached =
 -- a clause moves to the list of another of its literals
 pub way_moves : (before now new : WatchState) (start trail : TrailState) (progress : Progress) (lit : ℤ) (last : Option ℕ) (c : ℕ) (next : Option ℕ) (w : Bool) (n : ℕ)
     → index_of lit < length now.first → IsConsistent trail.entries
-    → IsOnItsWay before now start trail progress lit last (Some c) → IsMoving now trail.entries lit c next w n
+    → (way : IsOnItsWay before now start trail progress lit last (Some c)) → IsMoving now trail.entries lit c next w n
     → ((lists : Lists) (kept rest : List ℕ) → IsThreaded now lists → lists (index_of lit) ≡ kept ++ c ∷ rest → IsLast kept last
     → IsThreaded (leading_on last lit next now) (with_list (index_of lit) (kept ++ rest) lists))
     → AttachedAt c w (swapped_at (leading_on last lit next now) c w n) new
     → ((lists : Lists) → IsThreaded (leading_on last lit next now) lists → IsNotIn lists (leading_on last lit next now) c w
     → IsThreaded new (with_attached lists (swapped_at (leading_on last lit next now) c w n) c w))
-    → IsOnItsWay before new start trail progress lit last next
+    → (on : IsOnItsWay before new start trail progress lit last next) × (way.rest ≡ c ∷ on.rest)
 way_moves before now new start trail progress lit last c next w n within consistent way it threads attached rethreads =
     let es = trail.entries in
     let h = it.leads.head in
@@ -154,21 +154,23 @@ way_moves before now new start trail progress lit last c next w n within consist
     (subst (λ hs. ArePassed hs es progress) (sym new_heads) (passed_moved c w n link g mid.arena.heads es progress consistent gives passed_mid))
     (subst (λ hs. AreListed hs others) (sym new_heads)
     (listed_further c w n link mid.arena.heads others (listed_moved mid.arena.heads way.lists c w n left g moves listed_mid dropped (ap (λ j. with_list j left way.lists) (sym list_w)) m m_is)))
-    (subst (λ hs. AreVisited hs es progress way.entry.level lit way.kept) (sym new_heads) (visited_moved c w n link mid.arena.heads es progress way.entry.level lit way.kept apart.0 visited_mid)) in
-    record {
-      lists = others;
-      kept = way.kept;
-      rest = at.behind;
-      entry = way.entry;
-      found = way.found;
-      is_false = way.is_false;
-      walk = subst (IsWalk new others es progress way.entry.level lit way.kept at.behind) (leads_to_one heads lit c at.walk.leads.1.0 next at.walk.leads.1.1.0 it.leads) walk;
-      is_last = way.is_last;
-      fits = record {
-        lists = first_same ∙ way.fits.lists;
-        within = λ k lits read. fits_moved trail.vars c w n link mid.arena.heads g now_is.found gives.watching.long gives.inside (fits_led last lit next now trail.vars way.fits).within k lits (sym (ap (λ hs. slice_get (map (λ (x : HeadState). x.lits) hs) k) new_heads) ∙ read);
-      };
-      sound = subst (λ live. IsSound live trail) (sym alike_all.live) way.sound;
-      alike = alike_further before now new way.alike alike_all;
-      grown = way.grown;
-    }
+    (subst (λ hs. AreVisited hs es progress way.entry.level lit way.kept) (sym new_heads) (visited_moved c w n link mid.arena.heads es progress way.entry.level lit way.kept apart.0 visited_mid)) in (
+      record {
+        lists = others;
+        kept = way.kept;
+        rest = at.behind;
+        entry = way.entry;
+        found = way.found;
+        is_false = way.is_false;
+        walk = subst (IsWalk new others es progress way.entry.level lit way.kept at.behind) (leads_to_one heads lit c at.walk.leads.1.0 next at.walk.leads.1.1.0 it.leads) walk;
+        is_last = way.is_last;
+        fits = record {
+          lists = first_same ∙ way.fits.lists;
+          within = λ k lits read. fits_moved trail.vars c w n link mid.arena.heads g now_is.found gives.watching.long gives.inside (fits_led last lit next now trail.vars way.fits).within k lits (sym (ap (λ hs. slice_get (map (λ (x : HeadState). x.lits) hs) k) new_heads) ∙ read);
+        };
+        sound = subst (λ live. IsSound live trail) (sym alike_all.live) way.sound;
+        alike = alike_further before now new way.alike alike_all;
+        grown = way.grown;
+      },
+      at.rest_is,
+    )

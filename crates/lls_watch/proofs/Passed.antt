@@ -78,7 +78,7 @@ AreWatchingOrSettled heads entries =
     (c : ℕ) (head : HeadState) → slice_get heads c ≡ Some head → head.live ≡ true → IsWatching head ⊎ IsSettled entries (set.from_list head.lits)
 
 -- a clause has the literals that it watches
-watched_in : (head : HeadState) → IsWatching head → (w : Bool) → IsIn (set.from_list head.lits) (watched w head)
+pub watched_in : (head : HeadState) → IsWatching head → (w : Bool) → IsIn (set.from_list head.lits) (watched w head)
 watched_in head watching w =
     let within : place_of w < length head.lits = place_within w in
     IsIn-from_Contains head.lits (watched w head) (Contains-get_or head.lits (place_of w) (pos 0) within)

@@ -30,6 +30,6 @@ pub record CanBeWatched (entries : List Entry) (lits : List ℤ) (other : ℤ) (
 abbrev pub IsVisit : HeadState → List Entry → Bool → Visit → Type 0
 IsVisit head entries w Kept = Has entries (watched (not w) head)
 IsVisit head entries w Dead = head.live ≡ false
-IsVisit head entries w (Moves n) = CanBeWatched entries head.lits (watched (not w) head) n
-IsVisit head entries w (Forces other) = (other ≡ watched (not w) head) × IsUnset entries other × AreRestFalse entries head.lits other
-IsVisit head entries w Falsified = HasNegated entries (watched (not w) head) × AreRestFalse entries head.lits (watched (not w) head)
+IsVisit head entries w (Moves n) = (head.live ≡ true) × CanBeWatched entries head.lits (watched (not w) head) n
+IsVisit head entries w (Forces other) = (head.live ≡ true) × (other ≡ watched (not w) head) × IsUnset entries other × AreRestFalse entries head.lits other
+IsVisit head entries w Falsified = (head.live ≡ true) × HasNegated entries (watched (not w) head) × AreRestFalse entries head.lits (watched (not w) head)

@@ -1,13 +1,20 @@
 // A walk along the list of a literal.
-ghost use Rattle.std.specs.Prelude.{◌≡◌, ◌<◌, ◌∷◌, ◌++◌, ℕ, List, length};
+ghost use Rattle.std.specs.Prelude.{◌≡◌, ◌<◌, ◌+◌, ◌∷◌, ◌++◌, ℕ, List, length, slice_get, IfNone, IfSome, Some};
 ghost use Rattle.std.specs.Option.{ForSome};
-ghost use Rattle.lls_lit.specs.Literal.{index_of};
+ghost use Rattle.lls_lit.specs.Literal.{index_of, negation};
+ghost use Rattle.lls_store.specs.Trail.{literals_of};
+ghost use Rattle.lls_store.specs.Store.{GoesOn, IsConflict};
 ghost use Rattle.lls_arena.specs.declared.TheConstants.{MOST_HEADS};
 ghost use Rattle.lls_watch.specs.Watches.{IsThreaded, LeadsOn, Lists, with_list};
+ghost use Rattle.lls_watch.specs.Passed.{live_from};
+ghost use Rattle.lls_watch.specs.Propagating.{ArePropagating, LookAlike};
 ghost use Rattle.lls_watch.specs.Visiting.{HasEdge, IsLast, leading_on};
 
 use crate::Watches;
+use crate::progress::Progress;
+use crate::visit::{Visit, visit_clause};
 use lls_lit::Lit;
+use lls_store::Trail;
 
 // Has the last clause that was kept lead on, or the list begin, behind the clause that is taken out.
 #[inline]
@@ -26,4 +33,56 @@ pub(crate) fn lead_on(watches: &mut Watches, lit: Lit, last: Option<u32>, next: 
         }
         None => watches.drop_first(lit, next),
     }
+}
+
+// Visits the clauses that watch a literal which became false at the first place that isn't passed, and passes it. Answers a
+// clause that is false, where it finds one.
+pub(crate) fn visit_list(
+    watches: &mut Watches,
+    trail: &mut Trail,
+    progress: &mut Progress,
+    lit: Lit,
+) -> Option<u32>
+    requires ready { ArePropagating watches.old trail.old progress.old }
+    requires lit { slice_get (literals_of trail.old.entries) progress.old.passed ≡ Some (negation lit) }
+    ensures conflict { IfSome result (IsConflict (live_from 0 watches.new.arena.heads) trail.new) }
+    ensures passed { IfNone result (progress.new.passed ≡ progress.old.passed + 1) }
+    ensures kept { ArePropagating watches.new trail.new progress.new }
+    ensures grown { GoesOn trail.old trail.new }
+    ensures alike { LookAlike watches.old watches.new }
+{
+    // What holds of every trail is known from here on.
+    let current = trail.current();
+    let late = trail.known_level(lit.var()) < current;
+    let mut last = None;
+    let mut next = watches.first(lit);
+    while let Some(c) = next {
+        // So it is of the trail as it has grown.
+        let _len = trail.len();
+        let w = watches.arena().watched(c, true) == lit;
+        next = watches.arena().link(c, w);
+        match visit_clause(watches.arena(), trail, c, w) {
+            Visit::Kept => {
+                if late {
+                    progress.lower();
+                }
+                last = Some(c);
+            }
+            Visit::Dead => lead_on(watches, lit, last, next),
+            Visit::Moves(n) => {
+                lead_on(watches, lit, last, next);
+                watches.rewatch(c, w, n);
+            }
+            Visit::Forces(other) => {
+                trail.force(other, c);
+                if late {
+                    progress.lower();
+                }
+                last = Some(c);
+            }
+            Visit::Falsified => return Some(c),
+        }
+    }
+    progress.passed += 1;
+    None
 }
