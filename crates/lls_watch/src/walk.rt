@@ -1,5 +1,5 @@
 // A walk along the list of a literal.
-ghost use Rattle.std.specs.Prelude.{◌≡◌, ◌<◌, ◌+◌, ◌∷◌, ◌++◌, ℕ, List, length, slice_get, IfNone, IfSome, Some};
+ghost use Rattle.std.specs.Prelude.{◌≡◌, ◌≤◌, ◌<◌, ◌+◌, ◌∷◌, ◌++◌, ℕ, List, length, slice_get, IfNone, IfSome, Some};
 ghost use Rattle.std.specs.Option.{ForSome};
 ghost use Rattle.lls_lit.specs.Literal.{index_of, negation};
 ghost use Rattle.lls_store.specs.Trail.{literals_of};
@@ -84,5 +84,28 @@ pub(crate) fn visit_list(
         }
     }
     progress.passed += 1;
+    None
+}
+
+// Passes the trail's literals one after the other, those with them that are forced meanwhile. Answers a clause that is false,
+// where it finds one.
+pub(crate) fn pass_all(
+    watches: &mut Watches,
+    trail: &mut Trail,
+    progress: &mut Progress,
+) -> Option<u32>
+    requires ready { ArePropagating watches.old trail.old progress.old }
+    ensures conflict { IfSome result (IsConflict (live_from 0 watches.new.arena.heads) trail.new) }
+    ensures passed { IfNone result (length trail.new.entries ≤ progress.new.passed) }
+    ensures kept { ArePropagating watches.new trail.new progress.new }
+    ensures grown { GoesOn trail.old trail.new }
+    ensures alike { LookAlike watches.old watches.new }
+{
+    while progress.passed < trail.len() {
+        let lit = trail.lit(progress.passed).negated();
+        if let Some(c) = visit_list(watches, trail, progress, lit) {
+            return Some(c);
+        }
+    }
     None
 }
