@@ -17,3 +17,4 @@ pub mod OnItsWay
 pub mod Meeting
 pub mod Visited
 pub mod Turns
+pub mod Shorts

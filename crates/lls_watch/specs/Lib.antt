@@ -3,3 +3,4 @@ pub mod Passed
 pub mod Visiting
 pub mod Visit
 pub mod Propagating
+pub mod Short

@@ -3,6 +3,7 @@
 #![tactic(auto)]
 
 mod progress;
+mod short;
 #[cfg(test)]
 mod tests;
 mod visit;
