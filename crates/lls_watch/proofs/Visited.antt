@@ -1,10 +1,10 @@
 -- What a visit makes of one clause: its other watched literal is true in time, or it forces one, or it is false.
-use Rattle.std.proofs.Common.{◌≡◌, ◌≤◌, ◌<◌, ◌+◌, zero, suc, ℕ, ℤ, pos, Bool, true, false, not, ◌||◌, cond, List, [], ◌∷◌, Option, Some, refl, sym, ap, ◌∙◌, subst, arith, length, zero-add, ◌⊎◌, inl, inr, ⊎_elim}
+use Rattle.std.proofs.Common.{◌≡◌, ◌≤◌, ◌<◌, ◌+◌, zero, suc, ℕ, ℤ, pos, Bool, true, false, not, ◌||◌, cond, List, [], ◌∷◌, Option, Some, None, refl, sym, ap, ◌∙◌, subst, arith, length, zero-add, ◌⊎◌, inl, inr, ⊎_elim}
 use Rattle.std.specs.Prelude.{◌≢◌, slice_get, slice_index_or, ◌==◌}
 use Rattle.std.specs.FinSet as set
 use Rattle.std.proofs.lemmas.Bool.{eq-eqb, eqb-true}
 use Rattle.lls_store.specs.Trail.{Entry, TrailState, Has, HasNegated, IsTrail}
-use Rattle.lls_store.specs.Clauses.{IsIn, clause_numbered}
+use Rattle.lls_store.specs.Clauses.{LiveClause, IsIn, clause_numbered}
 use Rattle.lls_store.specs.Sound.{IsForced}
 use Rattle.lls_store.specs.Store.{IsConflict}
 use Rattle.lls_store.proofs.Sets.{Contains-from_IsIn}
@@ -97,6 +97,55 @@ head_numbered n (h ∷ hs) (suc c) head found live = by_live h.live (head_number
     by_live true later =
         ap (λ b. cond b (Some (record { number = n; id = h.id; lits = set.from_list h.lits })) (clause_numbered (live_from (suc n) hs) (n + suc c))) apart
         ∙ subst (λ k. clause_numbered (live_from (suc n) hs) k ≡ Some (record { number = k; id = head.id; lits = set.from_list head.lits })) more later
+
+-- below the first number nothing is found
+none_below : (n k : ℕ) (heads : List HeadState) → k < n → clause_numbered (live_from n heads) k ≡ None
+none_below n k [] below = refl
+none_below n k (h ∷ hs) below = by_live h.live (none_below (suc n) k hs (omega (arith, below)))
+  where
+    apart : (n == k) ≡ false
+    apart =
+        elim (n == k) as (λ b. (n == k) ≡ b → b ≡ false) [
+          | true ↦ λ is. absurd (omega (arith, eqb-true n k is, below))
+          | false ↦ λ _. refl
+        ] refl
+
+    by_live : (b : Bool) → clause_numbered (live_from (suc n) hs) k ≡ None
+        → clause_numbered (cond b (record { number = n; id = h.id; lits = set.from_list h.lits } ∷ live_from (suc n) hs) (live_from (suc n) hs)) k ≡ None
+    by_live false later = later
+    by_live true later = ap (λ b. cond b (Some (record { number = n; id = h.id; lits = set.from_list h.lits })) (clause_numbered (live_from (suc n) hs) k)) apart ∙ later
+
+-- what is found is live
+pub live_numbered : (n : ℕ) (heads : List HeadState) (c : ℕ) (clause : LiveClause) → clause_numbered (live_from n heads) (n + c) ≡ Some clause → (h : HeadState) × ((slice_get heads c ≡ Some h) × (h.live ≡ true))
+live_numbered n [] c clause found = absurd cc
+live_numbered n (h ∷ hs) zero clause found = by_live h.live refl found
+  where
+    by_live : (b : Bool) → h.live ≡ b → clause_numbered (cond b (record { number = n; id = h.id; lits = set.from_list h.lits } ∷ live_from (suc n) hs) (live_from (suc n) hs)) (n + zero) ≡ Some clause
+        → (g : HeadState) × ((slice_get (h ∷ hs) zero ≡ Some g) × (g.live ≡ true))
+    by_live true is _ = (h, (refl, is))
+    by_live false _ there =
+        let none : None ≡ Some clause = sym (none_below (suc n) (n + zero) hs (omega arith)) ∙ there in
+        absurd cc
+live_numbered n (h ∷ hs) (suc c) clause found = by_live h.live (live_numbered (suc n) hs c clause) found
+  where
+    more : suc n + c ≡ n + suc c
+    more = omega arith
+
+    apart : (n == (n + suc c)) ≡ false
+    apart =
+        elim (n == (n + suc c)) as (λ b. (n == (n + suc c)) ≡ b → b ≡ false) [
+          | true ↦ λ is. absurd (omega (arith, eqb-true n (n + suc c) is))
+          | false ↦ λ _. refl
+        ] refl
+
+    by_live : (b : Bool) → (clause_numbered (live_from (suc n) hs) (suc n + c) ≡ Some clause → (g : HeadState) × ((slice_get hs c ≡ Some g) × (g.live ≡ true)))
+        → clause_numbered (cond b (record { number = n; id = h.id; lits = set.from_list h.lits } ∷ live_from (suc n) hs) (live_from (suc n) hs)) (n + suc c) ≡ Some clause
+        → (g : HeadState) × ((slice_get hs c ≡ Some g) × (g.live ≡ true))
+    by_live false later there = later (subst (λ k. clause_numbered (live_from (suc n) hs) k ≡ Some clause) (sym more) there)
+    by_live true later there =
+        later
+        (subst (λ k. clause_numbered (live_from (suc n) hs) k ≡ Some clause) (sym more)
+        (sym (ap (λ b. cond b (Some (record { number = n; id = h.id; lits = set.from_list h.lits })) (clause_numbered (live_from (suc n) hs) (n + suc c))) apart) ∙ there))
 
 -- each literal of a clause is a watched one or behind them
 each_literal : (head : HeadState) (w : Bool) (P : ℤ → Type 0) → P (watched w head) → P (watched (not w) head) → ((n : ℕ) → 1 < n → n < length head.lits → P (slice_index_or head.lits n (pos 0)))

@@ -1,5 +1,5 @@
 // Clauses without two different literals, which no list watches.
-ghost use Rattle.std.specs.Prelude.{◌≡◌, ◌≤◌, true, false, length, IfNone, IfSome};
+ghost use Rattle.std.specs.Prelude.{◌≡◌, ◌<◌, ◌≤◌, true, false, length, All, IfNone, IfSome};
 ghost use Rattle.lls_store.specs.Sound.{IsSound};
 ghost use Rattle.lls_store.specs.Store.{GoesOn, IsConflict};
 ghost use Rattle.lls_watch.specs.Passed.{live_from};
@@ -10,9 +10,10 @@ use lls_store::Trail;
 
 // Forces the literal of a live clause that has no other, unless it is true. False where the clause is false.
 fn settle(arena: &Arena, trail: &mut Trail, c: u32) -> bool
-    requires short { IsShort arena.now.heads trail.old.vars c }
+    requires there { c < length arena.now.heads }
+    requires short { IsShort (live_from 0 arena.now.heads) trail.old.vars c }
     requires sound { IsSound (live_from 0 arena.now.heads) trail.old }
-    ensures satisfied { result ≡ true → IsSatisfied arena.now.heads trail.new.entries c }
+    ensures satisfied { result ≡ true → IsSatisfied (live_from 0 arena.now.heads) trail.new.entries c }
     ensures conflict { result ≡ false → IsConflict (live_from 0 arena.now.heads) trail.new c }
     ensures grown { GoesOn trail.old trail.new }
     ensures sound { IsSound (live_from 0 arena.now.heads) trail.new }
@@ -40,10 +41,11 @@ pub(crate) fn settle_all(
     from: usize,
 ) -> Option<u32>
     requires from { from ≤ length clauses.now }
-    requires short { AreShort arena.now.heads trail.old.vars clauses.now }
+    requires there { All (λ c. c < length arena.now.heads) clauses.now }
+    requires short { AreShort (live_from 0 arena.now.heads) trail.old.vars clauses.now }
     requires sound { IsSound (live_from 0 arena.now.heads) trail.old }
-    requires before { AreSatisfied arena.now.heads trail.old.entries clauses.now from }
-    ensures satisfied { IfNone result (AreSatisfied arena.now.heads trail.new.entries clauses.now (length clauses.now)) }
+    requires before { AreSatisfied (live_from 0 arena.now.heads) trail.old.entries clauses.now from }
+    ensures satisfied { IfNone result (AreSatisfied (live_from 0 arena.now.heads) trail.new.entries clauses.now (length clauses.now)) }
     ensures conflict { IfSome result (IsConflict (live_from 0 arena.now.heads) trail.new) }
     ensures grown { GoesOn trail.old trail.new }
     ensures sound { IsSound (live_from 0 arena.now.heads) trail.new }
