@@ -1,6 +1,6 @@
 -- A clause that is dead is taken out of a list on the way along it.
-use Rattle.std.proofs.Common.{◌≡◌, ◌<◌, zero, suc, ℕ, ℤ, Bool, true, false, ◌||◌, cond, List, [], ◌∷◌, ◌++◌, Option, Some, None, refl, sym, ap, ◌∙◌, subst, length, map}
-use Rattle.std.specs.Prelude.{◌≢◌, slice_get, ◌==◌}
+use Rattle.std.proofs.Common.{◌≡◌, ◌<◌, zero, suc, ℕ, ℤ, pos, Bool, true, false, ◌||◌, cond, List, [], ◌∷◌, ◌++◌, Option, Some, None, refl, sym, ap, ◌∙◌, subst, length, map}
+use Rattle.std.specs.Prelude.{◌≢◌, slice_get, slice_index_or, ◌==◌}
 use Rattle.std.proofs.lemmas.List.{length-set}
 use Rattle.std.proofs.lemmas.Bool.{eq-eqb, eqb-true}
 use Rattle.lls_lit.specs.Literal.{IsLiteral, index_of}
@@ -8,12 +8,12 @@ use Rattle.lls_store.specs.Trail.{TrailState}
 use Rattle.lls_store.specs.Sound.{IsSound}
 use Rattle.lls_arena.specs.Arena.{HeadState, changed_at, with_link}
 use Rattle.lls_watch.specs.declared.progress.Progress.{Progress}
-use Rattle.lls_watch.specs.Watches.{WatchState, Lists, IsThreaded, LeadsOn, has, with_list}
+use Rattle.lls_watch.specs.Watches.{WatchState, Lists, IsThreaded, IsWatching, LeadsOn, has, with_list}
 use Rattle.lls_watch.specs.Passed.{ArePassed, AreListed}
 use Rattle.lls_watch.specs.Visiting.{AreVisited, IsLast, IsWalk, edge_of, leading_on}
-use Rattle.lls_watch.specs.Propagating.{Fits, IsOnItsWay, LookAlike}
+use Rattle.lls_watch.specs.Propagating.{Fits, IsOnItsWay, LookAlike, WatchesTwo}
 use Rattle.lls_watch.proofs.Chains.{has_append, leads_to_one}
-use Rattle.lls_watch.proofs.Changed.{link_keeps, passed_linked}
+use Rattle.lls_watch.proofs.Changed.{IsChanged, changed_found, link_keeps, passed_linked}
 use Rattle.lls_watch.proofs.Listed.{AllBut, listed_changed, listed_without}
 use Rattle.lls_watch.proofs.Stays.{live_from_linked}
 use Rattle.lls_watch.proofs.Steps.{ahead}
@@ -35,14 +35,28 @@ lits_changed f c [] same = refl
 lits_changed f zero (h ∷ hs) same = ap (λ ls. ls ∷ map (λ (h : HeadState). h.lits) hs) (same h)
 lits_changed f (suc c) (h ∷ hs) same = ap (λ ls. h.lits ∷ ls) (lits_changed f c hs same)
 
+-- a clause watches two literals whatever its links
+pub watching_linked : (w : Bool) (next : Option ℕ) (p c : ℕ) (heads : List HeadState) → WatchesTwo heads c → WatchesTwo (changed_at (with_link w next) p heads) c
+watching_linked w next p c heads watching head found = by_clause (changed_found (with_link w next) p heads c head found)
+  where
+    by_clause : IsChanged (with_link w next) p heads c head → IsWatching head
+    by_clause (IsChanged.same g e was to) =
+        subst IsWatching to (same_lits g (with_link w next g) (sym ((link_keeps w next).lits g)) (watching g was))
+      where
+        same_lits : (a b : HeadState) → a.lits ≡ b.lits → IsWatching a → IsWatching b
+        same_lits a b same two =
+            record { long = subst (λ ls. 1 < length ls) same two.long; differ = subst (λ ls. slice_index_or ls 0 (pos 0) ≢ slice_index_or ls 1 (pos 0)) same two.differ }
+    by_clause (IsChanged.other differ was) = watching head was
+
 pub alike_led : (last : Option ℕ) (lit : ℤ) (next : Option ℕ) (state : WatchState) → LookAlike state (leading_on last lit next state)
-alike_led None lit next state = record { live = refl; count = refl; tail = refl; spare_heads = refl; spare_lits = refl }
+alike_led None lit next state = record { live = refl; count = refl; tail = refl; spare_heads = refl; spare_lits = refl; watching = λ _ watching. watching }
 alike_led (Some p) lit next state = record {
   live = live_from_linked (edge_of state lit p) next p 0 state.arena.heads;
   count = length_changed (with_link (edge_of state lit p) next) p state.arena.heads;
   tail = refl;
   spare_heads = refl;
   spare_lits = refl;
+  watching = λ c watching. watching_linked (edge_of state lit p) next p c state.arena.heads watching;
 }
 
 pub alike_further : (a b c : WatchState) → LookAlike a b → LookAlike b c → LookAlike a c
@@ -52,6 +66,7 @@ alike_further a b c first second = record {
   tail = second.tail ∙ first.tail;
   spare_heads = second.spare_heads ∙ first.spare_heads;
   spare_lits = second.spare_lits ∙ first.spare_lits;
+  watching = λ k watching. second.watching k (first.watching k watching);
 }
 
 pub length_first_led : (last : Option ℕ) (lit : ℤ) (next : Option ℕ) (state : WatchState) → length (leading_on last lit next state).first ≡ length state.first

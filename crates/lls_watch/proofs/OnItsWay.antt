@@ -15,14 +15,14 @@ use Rattle.lls_store.specs.Store.{AreWithin}
 use Rattle.lls_store.proofs.Sets.{AreWithin-from_list, is_within-from_AreWithin}
 use Rattle.lls_arena.specs.Arena.{HeadState, changed_at, place_of, swapped, with_link}
 use Rattle.lls_watch.specs.declared.progress.Progress.{Progress}
-use Rattle.lls_watch.specs.Watches.{WatchState, Lists, AttachedAt, IsNotIn, IsThreaded, list_of, swapped_at, watched, with_attached, with_list}
+use Rattle.lls_watch.specs.Watches.{WatchState, IsWatching, Lists, AttachedAt, IsNotIn, IsThreaded, list_of, swapped_at, watched, with_attached, with_list}
 use Rattle.lls_watch.specs.Passed.{ArePassed, AreListed, live_from}
 use Rattle.lls_watch.specs.Visiting.{AreVisited, IsLast, IsWalk, leading_on}
-use Rattle.lls_watch.specs.Propagating.{IsOnItsWay, LookAlike}
+use Rattle.lls_watch.specs.Propagating.{IsOnItsWay, LookAlike, WatchesTwo}
 use Rattle.lls_watch.proofs.Chains.{leads_to_one}
 use Rattle.lls_watch.proofs.Changed.{IsChanged, changed_found, link_keeps, passed_linked, some_same}
 use Rattle.lls_watch.proofs.Changes.{mapped_some, rewatched, slice_get-changed_same}
-use Rattle.lls_watch.proofs.Led.{alike_further, alike_led, all_but_one, fits_led, led_heads, length_changed, length_first_led, lits_changed}
+use Rattle.lls_watch.proofs.Led.{alike_further, alike_led, all_but_one, fits_led, led_heads, length_changed, length_first_led, lits_changed, watching_linked}
 use Rattle.lls_watch.proofs.Listed.{AllBut, Moves, listed_changed, listed_moved}
 use Rattle.lls_watch.proofs.Lists.{by_list}
 use Rattle.lls_watch.proofs.Moved.{listed_further, moved_heads, passed_moved, visited_moved}
@@ -65,9 +65,9 @@ fits_moved vars c w n next heads g found long inside within k lits read =
     by_clause h is (IsChanged.other differ was) = subst (λ ls. is_within vars ls ≡ true) is (of_head h was)
 
 -- a store sees the same where a clause was moved
-alike_moved : (mid new : WatchState) (c : ℕ) (w : Bool) (n : ℕ) (g : HeadState) → slice_get mid.arena.heads c ≡ Some g → 1 < length g.lits → n < length g.lits
+alike_moved : (mid new : WatchState) (c : ℕ) (w : Bool) (n : ℕ) (g : HeadState) → slice_get mid.arena.heads c ≡ Some g → 1 < length g.lits → n < length g.lits → IsWatching (swapped (place_of w) n g)
     → AttachedAt c w (swapped_at mid c w n) new → LookAlike mid new
-alike_moved mid new c w n g found long inside attached =
+alike_moved mid new c w n g found long inside two attached =
     let heads = mid.arena.heads in
     let link = slice_index_or mid.first (list_of (swapped_at mid c w n) c w) None in
     let new_heads : new.arena.heads ≡ moved_heads c w n link heads = ap (λ (s : WatchState). s.arena.heads) attached in
@@ -77,8 +77,19 @@ alike_moved mid new c w n g found long inside attached =
       tail = ap (λ (s : WatchState). s.arena.tail) attached;
       spare_heads = ap (λ (s : WatchState). s.arena.spare_heads) attached;
       spare_lits = ap (λ (s : WatchState). s.arena.spare_lits) attached;
+      watching = λ k watching.
+          subst (λ hs. WatchesTwo hs k) (sym new_heads) (watching_linked w link c k (changed_at (swapped (place_of w) n) c heads) (watching_swapped k watching));
     }
   where
+    watching_swapped : (k : ℕ) → WatchesTwo mid.arena.heads k → WatchesTwo (changed_at (swapped (place_of w) n) c mid.arena.heads) k
+    watching_swapped k watching head there = by_clause head (changed_found (swapped (place_of w) n) c mid.arena.heads k head there)
+      where
+        by_clause : (h : HeadState) → IsChanged (swapped (place_of w) n) c mid.arena.heads k h → IsWatching h
+        by_clause h (IsChanged.same h0 e was to) =
+            let one : g ≡ h0 = some_same g h0 (sym found ∙ sym (ap (slice_get mid.arena.heads) e) ∙ was) in
+            subst IsWatching (ap (swapped (place_of w) n) one ∙ to) two
+        by_clause h (IsChanged.other differ was) = watching h was
+
     bounds : (h : HeadState) → slice_get mid.arena.heads c ≡ Some h → (place_of w < length h.lits) × (n < length h.lits)
     bounds h there =
         let one : g ≡ h = some_same g h (sym found ∙ there) in
@@ -144,7 +155,7 @@ way_moves before now new start trail progress lit last c next w n within consist
     let visited_mid : AreVisited mid.arena.heads es progress way.entry.level lit way.kept =
     led_heads (λ hs. AreVisited hs es progress way.entry.level lit way.kept) last lit next now at.walk.visited
     (λ v p. visited_changed (with_link v next) p heads es progress way.entry.level lit way.kept (link_keeps v next) at.walk.visited) in
-    let alike_new = alike_moved mid new c w n g now_is.found gives.watching.long gives.inside attached in
+    let alike_new = alike_moved mid new c w n g now_is.found gives.watching.long gives.inside moved.watching attached in
     let alike_all = alike_further now mid new (alike_led last lit next now) alike_new in
     let first_same : length new.first ≡ length now.first = length_first_moved mid new c w n attached ∙ length_first_led last lit next now in
     let walk : IsWalk new others es progress way.entry.level lit way.kept at.behind at.walk.leads.1.0 =

@@ -82,7 +82,7 @@ way_begins state trail progress lit e ready literal within found is = record {
   is_last = refl;
   fits = ready.fits;
   sound = ready.sound;
-  alike = record { live = refl; count = refl; tail = refl; spare_heads = refl; spare_lits = refl };
+  alike = record { live = refl; count = refl; tail = refl; spare_heads = refl; spare_lits = refl; watching = λ _ watching. watching };
   grown = GoesOn-same trail;
 }
 

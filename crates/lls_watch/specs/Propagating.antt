@@ -6,7 +6,8 @@ use Rattle.lls_store.specs.Trail.{Entry, TrailState}
 use Rattle.lls_store.specs.Sound.{IsSound}
 use Rattle.lls_store.specs.Store.{GoesOn}
 use Rattle.lls_watch.specs.declared.progress.Progress.{Progress}
-use Rattle.lls_watch.specs.Watches.{WatchState, Lists, IsThreaded}
+use Rattle.lls_arena.specs.Arena.{HeadState}
+use Rattle.lls_watch.specs.Watches.{WatchState, Lists, IsThreaded, IsWatching}
 use Rattle.lls_watch.specs.Passed.{ArePassed, AreListed, live_from}
 use Rattle.lls_watch.specs.Visiting.{IsLast, IsWalk}
 
@@ -24,13 +25,18 @@ pub record ArePropagating (state : WatchState) (trail : TrailState) (progress : 
   pub fits : Fits state trail.vars
   pub sound : IsSound (live_from 0 state.arena.heads) trail
 
--- a store sees the same of both
+-- a clause that is there under that number watches two literals
+abbrev pub WatchesTwo : List HeadState → ℕ → Type 0
+WatchesTwo heads c = (head : HeadState) → slice_get heads c ≡ Some head → IsWatching head
+
+-- a store sees the same of both, and what watched two literals does
 pub record LookAlike (old new : WatchState) : Type 0 where
   pub live : live_from 0 new.arena.heads ≡ live_from 0 old.arena.heads
   pub count : length new.arena.heads ≡ length old.arena.heads
   pub tail : new.arena.tail ≡ old.arena.tail
   pub spare_heads : new.arena.spare_heads ≡ old.arena.spare_heads
   pub spare_lits : new.arena.spare_lits ≡ old.arena.spare_lits
+  pub watching : (c : ℕ) → WatchesTwo old.arena.heads c → WatchesTwo new.arena.heads c
 
 -- where a walk along a literal's list stands, by the last clause that was kept and the one that comes next
 pub record IsOnItsWay (before now : WatchState) (start trail : TrailState) (progress : Progress) (lit : ℤ) (last next : Option ℕ) : Type 0 where

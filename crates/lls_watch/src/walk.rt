@@ -47,6 +47,7 @@ pub(crate) fn visit_list(
     requires lit { slice_get (literals_of trail.old.entries) progress.old.passed ≡ Some (negation lit) }
     ensures conflict { IfSome result (IsConflict (live_from 0 watches.new.arena.heads) trail.new) }
     ensures passed { IfNone result (progress.new.passed ≡ progress.old.passed + 1) }
+    ensures reach { progress.new.passed ≤ length trail.new.entries }
     ensures kept { ArePropagating watches.new trail.new progress.new }
     ensures grown { GoesOn trail.old trail.new }
     ensures alike { LookAlike watches.old watches.new }
@@ -95,8 +96,10 @@ pub(crate) fn pass_all(
     progress: &mut Progress,
 ) -> Option<u32>
     requires ready { ArePropagating watches.old trail.old progress.old }
+    requires reach { progress.old.passed ≤ length trail.old.entries }
     ensures conflict { IfSome result (IsConflict (live_from 0 watches.new.arena.heads) trail.new) }
     ensures passed { IfNone result (length trail.new.entries ≤ progress.new.passed) }
+    ensures reach { progress.new.passed ≤ length trail.new.entries }
     ensures kept { ArePropagating watches.new trail.new progress.new }
     ensures grown { GoesOn trail.old trail.new }
     ensures alike { LookAlike watches.old watches.new }

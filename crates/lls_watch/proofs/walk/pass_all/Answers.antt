@@ -5,7 +5,7 @@ use Rattle.lls_watch.proofs.Led.{alike_further}
 use Rattle.lls_watch.proofs.walk.pass_all.Goals as goal
 
 pub loop-progress-init : goal.loop-progress-init
-loop-progress-init c = (c.requires.ready, GoesOn-same c.args.trail.now, record { live = refl; count = refl; tail = refl; spare_heads = refl; spare_lits = refl })
+loop-progress-init c = (c.requires.ready, GoesOn-same c.args.trail.now, record { live = refl; count = refl; tail = refl; spare_heads = refl; spare_lits = refl; watching = λ _ watching. watching }, c.requires.reach)
 
 pub visit_list-requires-clause-ready : goal.visit_list-requires-clause-ready
 visit_list-requires-clause-ready c = c.loop-progress.invariant.0
@@ -26,6 +26,7 @@ loop-progress-preserved c = (
   c.visit_list.ensures.kept,
   GoesOn-further c.args.trail.now c.loop-progress.trail c.visit_list.new.trail c.loop-progress.invariant.1 c.visit_list.ensures.grown,
   alike_further c.args.watches.now c.loop-progress.watches c.visit_list.new.watches c.loop-progress.invariant.2 c.visit_list.ensures.alike,
+  c.visit_list.ensures.reach,
 )
 
 pub returns-clause-kept : goal.returns-clause-kept
@@ -36,3 +37,6 @@ returns-clause-grown c = c.loop-progress.invariant.1
 
 pub returns-clause-alike : goal.returns-clause-alike
 returns-clause-alike c = c.loop-progress.invariant.2
+
+pub returns-clause-reach : goal.returns-clause-reach
+returns-clause-reach c = c.loop-progress.invariant.3

@@ -443,3 +443,13 @@ pub returns-clause-kept : goal.returns-clause-kept
 returns-clause-kept c =
     way_ends c.args.watches.now c.loop-next.watches c.args.trail.now c.loop-next.trail c.loop-next.progress c.args.lit c.loop-next.last
     (subst (λ o. IsOnItsWay c.args.watches.now c.loop-next.watches c.args.trail.now c.loop-next.trail c.loop-next.progress c.args.lit c.loop-next.last o) c.in_default.is c.loop-next.invariant.0)
+
+pub returns-in-Falsified-clause-reach : goal.returns-in-Falsified-clause-reach
+returns-in-Falsified-clause-reach c =
+    let way = c.loop-next.invariant.0 in
+    omega (arith, slice_get_within c.loop-next.trail.entries c.loop-next.progress.passed way.entry way.found)
+
+pub returns-clause-reach : goal.returns-clause-reach
+returns-clause-reach c =
+    let way = c.loop-next.invariant.0 in
+    omega (arith, slice_get_within c.loop-next.trail.entries c.loop-next.progress.passed way.entry way.found)
