@@ -76,10 +76,10 @@ level_least n (x ∷ es) zero e levels found =
 level_least n (x ∷ es) (suc k) e levels found =
     omega (arith, least_first (is_decision x) n, level_least (level_after n x) es k e (parts_of n x es levels).1 found)
 
-up_to_low : (level : ℕ) (x : Entry) (es : List Entry) → nat_le x.level level ≡ true → entries_up_to level (x ∷ es) ≡ x ∷ entries_up_to level es
+pub up_to_low : (level : ℕ) (x : Entry) (es : List Entry) → nat_le x.level level ≡ true → entries_up_to level (x ∷ es) ≡ x ∷ entries_up_to level es
 up_to_low level x es low = take_while-cons (λ y. nat_le y.level level) x es ∙ ap (λ b. cond b (x ∷ entries_up_to level es) []) low
 
-up_to_high : (level : ℕ) (x : Entry) (es : List Entry) → nat_le x.level level ≡ false → entries_up_to level (x ∷ es) ≡ []
+pub up_to_high : (level : ℕ) (x : Entry) (es : List Entry) → nat_le x.level level ≡ false → entries_up_to level (x ∷ es) ≡ []
 up_to_high level x es high = take_while-cons (λ y. nat_le y.level level) x es ∙ ap (λ b. cond b (x ∷ entries_up_to level es) []) high
 
 level_sum : (b : Bool) (n : ℕ) → cond b (n + 1) n ≡ n + cond b 1 0

@@ -18,3 +18,5 @@ pub mod Meeting
 pub mod Visited
 pub mod Turns
 pub mod Shorts
+pub mod ForGood
+pub mod Tracked

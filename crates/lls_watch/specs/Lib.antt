@@ -4,3 +4,4 @@ pub mod Visiting
 pub mod Visit
 pub mod Propagating
 pub mod Short
+pub mod WatchStore
