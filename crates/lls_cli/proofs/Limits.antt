@@ -1,8 +1,9 @@
 -- The constants of the code are the limits of the definitions.
 use Rattle.std.proofs.Common.{◌≡◌, refl}
 use Rattle.lls_cnf.specs.declared.read.TheConstants.{MOST_DIMACS_BYTES}
+use Rattle.lls_gen.specs.Made as made
 use Rattle.lls_solver.specs.declared.solving.TheConstants as solving
-use Rattle.lls_words.specs.Values.{most_budget}
+use Rattle.lls_words.specs.Values.{most_budget, most_size}
 use Rattle.lls_cli.specs.declared.input.TheConstants.{SEARCH_LIMIT, PROOF_LIMIT}
 use Rattle.lls_cli.specs.declared.model.TheConstants.{NUMBERS_A_LINE}
 use Rattle.lls_cli.specs.ModelText.{numbers_a_line}
@@ -23,3 +24,7 @@ numbers_a_line-is = refl
 -- the greatest budget of the words is the one that the solver takes
 pub most_budget-is : solving.MOST_BUDGET ≡ most_budget
 most_budget-is = refl
+
+-- the greatest size of the words is the one that the maker of problems takes
+pub most_size-is : made.most_size ≡ most_size
+most_size-is = refl

@@ -13,7 +13,6 @@ use Rattle.lls_problem.specs.declared.form.Form.TheVariants.{Cover}
 use Rattle.lls_problem.specs.declared.demands.Demands.{Demands}
 use Rattle.lls_problem.specs.Bounds.{HasEnds}
 use Rattle.lls_problem.specs.Problem.{edge_alone, IsPeriod}
-use Rattle.lls_gen.specs.Made.{most_size}
 use Rattle.lls_words.specs.declared.command.Command.{Command}
 use Rattle.lls_words.specs.declared.command.Command.TheVariants as commands
 use Rattle.lls_words.specs.declared.command.Setting.{Setting}
@@ -26,7 +25,7 @@ use Rattle.lls_words.specs.declared.error.WordsError.TheVariants.{NoCommand, Unk
 use Rattle.lls_words.specs.Command.{command_of, operand_count}
 use Rattle.lls_base.specs.Results.{and_then}
 use Rattle.lls_words.specs.Scan.{Operand, Given, scan}
-use Rattle.lls_words.specs.Values.{edge_in, period_in, bounds_in, generations_in, budget_in, keep_all_in, rle_in, form_in, seed_in, size_in, most_budget, default_budget}
+use Rattle.lls_words.specs.Values.{edge_in, period_in, bounds_in, generations_in, budget_in, keep_all_in, rle_in, form_in, seed_in, size_in, most_budget, most_size, default_budget}
 
 -- a rule text at a place
 abbrev pub rule_or : ℕ → Result (List Bool) RuleError → Result (List Bool) WordsError

@@ -14,7 +14,6 @@ use Rattle.lls_problem.specs.declared.demands.Period.{Period}
 use Rattle.lls_problem.specs.declared.form.Form.{Form}
 use Rattle.lls_problem.specs.declared.form.Form.TheVariants.{Rows, Cover}
 use Rattle.lls_problem.specs.Bounds.{most_end}
-use Rattle.lls_gen.specs.Made.{most_size}
 use Rattle.lls_words.specs.Items.{is_dash}
 
 abbrev pub edge_in : List ℕ → Option Edge
@@ -37,6 +36,10 @@ default_budget = 100000
 -- the greatest number that a problem is made from: that of 64 bits
 abbrev pub most_seed : ℕ
 most_seed = 18446744073709551615
+
+-- the greatest size of a problem that is made: how many rows it has, of as many cells
+abbrev pub most_size : ℕ
+most_size = 64
 
 -- what separates the parts of a value
 abbrev pub comma : ℕ

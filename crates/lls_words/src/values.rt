@@ -7,7 +7,6 @@ ghost use Rattle.lls_problem.specs.Problem.{IsPeriod};
 ghost use Rattle.lls_words.specs.Values.{edge_in, budget_in, seed_in, size_in, keep_all_in, rle_in, form_in, cut_at, number_in, shift_in, period_in, generation_in, generations_in, low_in, high_in, bound_in, bounds_in};
 ghost use Rattle.lls_words.specs.Seen.{seen_pair};
 
-use lls_gen::MOST_SIZE;
 use lls_grid::History;
 use lls_problem::{Bound, Bounds, Edge, Form, Period};
 use lls_symmetry::{MOST_PERIOD, MOST_SHIFT};
@@ -25,6 +24,9 @@ pub const DEFAULT_BUDGET: u32 = 100_000;
 
 /// The greatest number that a problem is made from.
 pub const MOST_SEED: u64 = u64::MAX;
+
+/// The greatest size of a problem that is made.
+pub const MOST_SIZE: u32 = 64;
 
 /// The edge of a text.
 pub fn edge_in(text: &[u8]) -> Option<Edge>
