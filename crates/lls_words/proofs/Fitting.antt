@@ -1,4 +1,4 @@
--- What the scan takes fits into the one form.
+-- What the scan takes fits into canonical words.
 use Rattle.std.proofs.Common.{◌≡◌, ℕ, zero, suc, ◌+◌, true, false, cond, ◌||◌, List, [], ◌∷◌, ◌++◌, All, get_or, position, Option, Some, None, Result, Ok, Err, refl, sym, ap, subst, arith}
 use Rattle.std.specs.Prelude.{find}
 use Rattle.std.specs.List.{list_any}
@@ -11,9 +11,9 @@ use Rattle.lls_words.specs.declared.command.Command.{Command}
 use Rattle.lls_words.specs.declared.command.Setting.{Setting}
 use Rattle.lls_words.specs.declared.error.WordsError.TheVariants.{RepeatedOption, UnknownOption}
 use Rattle.lls_words.specs.Command.{same_setting, setting_of, takes}
-use Rattle.lls_words.specs.Items.{Item, plain, named, odd, operand, is_plain, option_form, option_text, cut_at, formed, is_equals_sign, item_of, items_of, takes_next}
+use Rattle.lls_words.specs.Items.{Item, plain, named, odd, operand, is_plain, option_shape, option_text, named_shape, shaped, is_equals_sign, item_of, items_of, takes_next}
 use Rattle.lls_words.specs.Scan.{Operand, Given, Scanned, nothing_scanned, setting_at, value_at, with_item, with_items, scan}
-use Rattle.lls_words.specs.Form.{FitsForm, value_of}
+use Rattle.lls_words.specs.Canonical.{FitsCanonical, value_of}
 use Rattle.lls_words.proofs.Rows.{true_false}
 use Rattle.lls_words.proofs.Table.{by_table}
 
@@ -27,17 +27,17 @@ abbrev AreFine : List Item → Type 0
 AreFine [] = Unit {0}
 AreFine (item ∷ items) = IsFine item × AreFine items
 
-fine_cut : (place : ℕ) (word : List ℕ) (next : Option (List ℕ)) (text : List ℕ) (at : Option ℕ) → IsFine (formed place word next (cut_at text at))
+fine_cut : (place : ℕ) (word : List ℕ) (next : Option (List ℕ)) (text : List ℕ) (at : Option ℕ) → IsFine (shaped place word next (named_shape text at))
 fine_cut place word next text None = tt
 fine_cut place word next text (Some at) = tt
 
-fine_option : (place : ℕ) (word : List ℕ) (next text : Option (List ℕ)) → IsFine (formed place word next (option_form text))
+fine_option : (place : ℕ) (word : List ℕ) (next text : Option (List ℕ)) → IsFine (shaped place word next (option_shape text))
 fine_option place word next None = tt
 fine_option place word next (Some text) = fine_cut place word next text (position is_equals_sign text)
 
 fine_item : (place : ℕ) (word : List ℕ) (next : Option (List ℕ)) → IsFine (item_of place word next)
 fine_item place word next =
-    elim (is_plain word) as (λ b. is_plain word ≡ b → IsFine (formed place word next (cond b operand (option_form (option_text word))))) [
+    elim (is_plain word) as (λ b. is_plain word ≡ b → IsFine (shaped place word next (cond b operand (option_shape (option_text word))))) [
       | true ↦ λ e. e
       | false ↦ λ e. fine_option place word next (option_text word)
     ] refl
@@ -118,14 +118,14 @@ is_new command givens place (Some setting) s e =
       | false ↦ λ taken e. err_ok _ s e
     ] refl e
 
-fits_operand : (command : Command) (s : Scanned) (o : Operand) → is_plain o.word ≡ true → FitsForm command s → FitsForm command (record s { operands = s.operands ++ o ∷ [] })
+fits_operand : (command : Command) (s : Scanned) (o : Operand) → is_plain o.word ≡ true → FitsCanonical command s → FitsCanonical command (record s { operands = s.operands ++ o ∷ [] })
 fits_operand command s o holds fits = record {
   taken = fits.taken;
   once = fits.once;
   plain = All-append (λ o. is_plain o.word ≡ true) s.operands (o ∷ []) fits.plain (all_one (λ o. is_plain o.word ≡ true) o holds);
 }
 
-fits_given : (command : Command) (s : Scanned) (g : Given) → IsNew command s.givens g.setting → FitsForm command s → FitsForm command (record s { givens = s.givens ++ g ∷ [] })
+fits_given : (command : Command) (s : Scanned) (g : Given) → IsNew command s.givens g.setting → FitsCanonical command s → FitsCanonical command (record s { givens = s.givens ++ g ∷ [] })
 fits_given command s g is fits = record {
   taken = All-append (λ given. takes command given.setting ≡ true) s.givens (g ∷ []) fits.taken (all_one (λ given. takes command given.setting ≡ true) g is.taken);
   once = All-append (λ given. value_of (s.givens ++ g ∷ []) given.setting ≡ Some given.value) s.givens (g ∷ [])
@@ -134,27 +134,27 @@ fits_given command s g is fits = record {
   plain = fits.plain;
 }
 
-fits_item : (command : Command) (s more : Scanned) (item : Item) → IsFine item → FitsForm command s → with_item command s item ≡ Ok more → FitsForm command more
-fits_item command s more (plain place word) fine fits e = subst (FitsForm command) (ok_ok _ more e) (fits_operand command s (record { place = place; word = word }) fine fits)
+fits_item : (command : Command) (s more : Scanned) (item : Item) → IsFine item → FitsCanonical command s → with_item command s item ≡ Ok more → FitsCanonical command more
+fits_item command s more (plain place word) fine fits e = subst (FitsCanonical command) (ok_ok _ more e) (fits_operand command s (record { place = place; word = word }) fine fits)
 fits_item command s more (odd place) fine fits e = err_ok _ more e
 fits_item command s more (named place name value) fine fits e =
     let one = passes (setting_at command s.givens place (setting_of name)) _ more e in
     let two = passes (value_at place value) _ more one.more_is in
     let given : Given = record { place = place; setting = one.between; value = two.between } in
-    subst (FitsForm command) (ok_ok _ more two.more_is) (fits_given command s given (is_new command s.givens place (setting_of name) one.between one.part_is) fits)
+    subst (FitsCanonical command) (ok_ok _ more two.more_is) (fits_given command s given (is_new command s.givens place (setting_of name) one.between one.part_is) fits)
 
-fits_items : (command : Command) (s more : Scanned) (items : List Item) → AreFine items → FitsForm command s → with_items command s items ≡ Ok more → FitsForm command more
-fits_items command s more [] fine fits e = subst (FitsForm command) (ok_ok s more e) fits
+fits_items : (command : Command) (s more : Scanned) (items : List Item) → AreFine items → FitsCanonical command s → with_items command s items ≡ Ok more → FitsCanonical command more
+fits_items command s more [] fine fits e = subst (FitsCanonical command) (ok_ok s more e) fits
 fits_items command s more (item ∷ items) fine fits e =
     let step = passes (with_item command s item) _ more e in
     fits_items command step.between more items fine.1 (fits_item command s step.between item fine.0 fits step.part_is) step.more_is
 
-fits_nothing : (command : Command) → FitsForm command nothing_scanned
+fits_nothing : (command : Command) → FitsCanonical command nothing_scanned
 fits_nothing command = record {
   taken = λ k d inside. absurd (omega (arith, inside));
   once = λ k d inside. absurd (omega (arith, inside));
   plain = λ k d inside. absurd (omega (arith, inside));
 }
 
-pub FitsForm-scan : (command : Command) (words : List (List ℕ)) (s : Scanned) → scan command words ≡ Ok s → FitsForm command s
-FitsForm-scan command words s e = fits_items command nothing_scanned s (items_of 2 words) (fine_items 2 words) (fits_nothing command) e
+pub FitsCanonical-scan : (command : Command) (words : List (List ℕ)) (s : Scanned) → scan command words ≡ Ok s → FitsCanonical command s
+FitsCanonical-scan command words s e = fits_items command nothing_scanned s (items_of 2 words) (fine_items 2 words) (fits_nothing command) e

@@ -1,4 +1,4 @@
--- The parser of each command takes words in one form, and finds what they say.
+-- The parser of each command takes canonical words, and finds what they say.
 use Rattle.std.proofs.Common.{◌≡◌, true, false, ◌&&◌, List, [], ◌∷◌, ◌++◌, All, map, fold, length, None, refl, ap, ap₂, ◌∙◌}
 use Rattle.std.specs.List.{list_all}
 use Rattle.clap.specs.Walk.{Row, Text, finished, is_empty, nothing_held, walked}
@@ -9,7 +9,7 @@ use Rattle.lls_words.specs.declared.command.Command.{Command}
 use Rattle.lls_words.specs.declared.command.Command.TheVariants as commands
 use Rattle.lls_words.specs.Command.{operand_count, options_of}
 use Rattle.lls_words.specs.Command as table
-use Rattle.lls_words.specs.Form.{form_words, option_words}
+use Rattle.lls_words.specs.Canonical.{canonical_words, option_words}
 use Rattle.lls_words.specs.Items.{is_plain}
 use Rattle.lls_words.specs.Parser.{parser_of, operand_names}
 use Rattle.lls_words.specs.Scan.{Given, Operand, Scanned}
@@ -49,11 +49,11 @@ adds command givens rest =
     let has = has_arguments command in
     adds-options command givens (options_of command) [] (operand_names command) rest has.taken has.distinct (fresh-nil (ids_of (options_of command) (operand_names command)))
 
--- the rows of what is put into the form
-abbrev pub form_rows : Command → Scanned → List Row
-form_rows command s = option_rows s.givens (options_of command) ++ operand_rows (operand_names command) s.operands
+-- the rows of canonical words
+abbrev pub canonical_rows : Command → Scanned → List Row
+canonical_rows command s = option_rows s.givens (options_of command) ++ operand_rows (operand_names command) s.operands
 
-pub operands_there : (command : Command) (s : Scanned) → length s.operands ≡ operand_count command → AreThere (operand_names command) s.operands (form_rows command s)
+pub operands_there : (command : Command) (s : Scanned) → length s.operands ≡ operand_count command → AreThere (operand_names command) s.operands (canonical_rows command s)
 operands_there command s count =
     let has = has_arguments command in
     are_there (operand_names command) s.operands (option_rows s.givens (options_of command)) (count ∙ has.count) has.apart (adds command s.givens []).fresh
@@ -64,20 +64,20 @@ pub record Reads (command : Command) (words : List Text) (rows : List Row) : Typ
   pub found : matches_of (parser_of command) words ≡ rows
 
 pub reads : (command : Command) (s : Scanned) → length s.operands ≡ operand_count command → All (λ o. is_plain o.word ≡ true) s.operands
-    → Reads command (form_words command s) (form_rows command s)
+    → Reads command (canonical_words command s) (canonical_rows command s)
 reads command s count plain =
     let has = has_arguments command in
     let words : List Text = map (λ (o : Operand). o.word) s.operands in
     let options = adds command s.givens words in
     let ends = ends-operands (shape command) 1 (operand_names command) s.operands (option_rows s.givens (options_of command)) (option_rows s.givens (options_of command)) None
     refl has.found (count ∙ has.count) plain has.apart options.fresh (record { rows_are = refl; passes = refl }) in
-    let end : finished (rules command) (fold (walked (rules command) []) (with_rows []) (form_words command s)).held ≡ form_rows command s =
+    let end : finished (rules command) (fold (walked (rules command) []) (with_rows []) (canonical_words command s)).held ≡ canonical_rows command s =
     ap (λ w. finished (rules command) w.held) options.walk ∙ (no_defaults (rules command) _ has.no_defaults ∙ ends.rows_are) in
-    let valid = ap (λ rows. is_valid (shape command) rows false) end ∙ (has.required (form_rows command s) ∙ (operands_there command s count).given) in
-    let level : level_passes (shape command) [] nothing_held (form_words command s) false ≡ true =
+    let valid = ap (λ rows. is_valid (shape command) rows false) end ∙ (has.required (canonical_rows command s) ∙ (operands_there command s count).given) in
+    let level : level_passes (shape command) [] nothing_held (canonical_words command s) false ≡ true =
     ap₂ (λ a b. a && b) (options.passes ∙ ends.passes)
     (ap₂ (λ a b. a && b) (ap (λ w. settle_passes (rules command) false w.held) options.walk ∙ ends.settles) (ap₂ (λ a b. a && b) has.default_passes valid)) in
     record {
-      taken = ap₂ (λ a b. a && b) (is_simple-parser command) (leaf_takes (built (parser_of command)) nothing_held (form_words command s) refl level);
+      taken = ap₂ (λ a b. a && b) (is_simple-parser command) (leaf_takes (built (parser_of command)) nothing_held (canonical_words command s) refl level);
       found = end;
     }

@@ -1,4 +1,4 @@
--- What a parse of words in one form found, by the ids of options and operands.
+-- What a parse of canonical words found, by the ids of options and operands.
 use Rattle.std.proofs.Common.{◌≡◌, ℕ, ◌==◌, true, false, cond, ◌||◌, List, [], ◌∷◌, ◌++◌, length, get_or, map, Option, Some, None, refl, ap, ap₂, ◌∙◌, arith}
 use Rattle.std.specs.Prelude.{find, slice_get}
 use Rattle.std.specs.List.{list_any}
@@ -13,13 +13,13 @@ use Rattle.clap.proofs.WalkLemmas.{first_value-rows}
 use Rattle.lls_words.specs.declared.command.Command.{Command}
 use Rattle.lls_words.specs.declared.command.Setting.{Setting}
 use Rattle.lls_words.specs.Command.{operand_count, options_of, same_setting, table_place}
-use Rattle.lls_words.specs.Form.{FitsForm, option_name, form_words, value_of}
+use Rattle.lls_words.specs.Canonical.{FitsCanonical, option_name, canonical_words, value_of}
 use Rattle.lls_words.specs.Parser.{ReadsBack, parser_of, operand_names}
 use Rattle.lls_words.specs.Scan.{Given, Scanned}
 use Rattle.lls_words.proofs.Table.{same_names}
 use Rattle.lls_words.proofs.Walks.{option_row, option_rows, row_of}
 use Rattle.lls_words.proofs.Operands.{operand_rows}
-use Rattle.lls_words.proofs.Parsers.{form_rows, operands_there, reads}
+use Rattle.lls_words.proofs.Parsers.{canonical_rows, operands_there, reads}
 
 map-agree : {X Y : Type 0} (f g : X → Y) → ((x : X) → f x ≡ g x) → (xs : List X) → map f xs ≡ map g xs
 map-agree f g same [] = refl
@@ -52,16 +52,16 @@ first_of-option givens (t ∷ ss) s value behind is there =
     ] refl there
 
 -- what a parse found, where it found what the command finds in these words
-pub ReadsBack-found : (command : Command) (s : Scanned) (found : Found) → length s.operands ≡ operand_count command → FitsForm command s
-    → rows_of found ≡ matches_of (parser_of command) (form_words command s) → ReadsBack command s found
+pub ReadsBack-found : (command : Command) (s : Scanned) (found : Found) → length s.operands ≡ operand_count command → FitsCanonical command s
+    → rows_of found ≡ matches_of (parser_of command) (canonical_words command s) → ReadsBack command s found
 ReadsBack-found command s found count fits same =
-    let rows_are : rows_of found ≡ form_rows command s = same ∙ (reads command s count fits.plain).found in
-    let value_is : (id : Text) → first_value found id ≡ first_of id (form_rows command s) = λ id. first_value-rows found id ∙ ap (first_of id) rows_are in
+    let rows_are : rows_of found ≡ canonical_rows command s = same ∙ (reads command s count fits.plain).found in
+    let value_is : (id : Text) → first_value found id ≡ first_of id (canonical_rows command s) = λ id. first_value-rows found id ∙ ap (first_of id) rows_are in
     let behind = operand_rows (operand_names command) s.operands in
     record {
       options = λ k d inside.
           let given = get_or s.givens k d in
           value_is (option_name given.setting)
           ∙ first_of-option s.givens (options_of command) given.setting given.value behind (fits.once k d inside) (fits.taken k d inside);
-      operands = map-agree (first_value found) (λ id. first_of id (form_rows command s)) value_is (operand_names command) ∙ (operands_there command s count).values;
+      operands = map-agree (first_value found) (λ id. first_of id (canonical_rows command s)) value_is (operand_names command) ∙ (operands_there command s count).values;
     }

@@ -10,7 +10,7 @@ use Rattle.lls_words.specs.declared.command.Command.TheVariants as commands
 use Rattle.lls_words.specs.declared.command.Setting.{Setting}
 use Rattle.lls_words.specs.declared.command.Setting.TheVariants as settings
 use Rattle.lls_words.specs.Command.{same_setting, takes}
-use Rattle.lls_words.specs.Form.{option_name, option_word}
+use Rattle.lls_words.specs.Canonical.{option_name, option_word}
 use Rattle.lls_words.specs.Parser.{parser_of, option_rule}
 
 abbrev pub all_options : List Setting

@@ -1,4 +1,4 @@
--- The walk of `clap` over words in one form.
+-- The walk of `clap` over canonical words.
 use Rattle.std.proofs.Common.{◌≡◌, true, false, ◌&&◌, List, [], ◌∷◌, ◌++◌, map, fold, Option, Some, None, refl, ap, ap₂, ◌∙◌, append_assoc, subst}
 use Rattle.std.specs.List.{list_all}
 use Rattle.std.specs.Str.{bytes_eq}
@@ -13,7 +13,7 @@ use Rattle.lls_words.specs.declared.command.Command.{Command}
 use Rattle.lls_words.specs.declared.command.Setting.{Setting}
 use Rattle.lls_words.specs.Command.{takes}
 use Rattle.lls_words.specs.Scan.{Given}
-use Rattle.lls_words.specs.Form.{option_name, option_word, word_of, value_of, option_words}
+use Rattle.lls_words.specs.Canonical.{option_name, option_word, word_of, value_of, option_words}
 use Rattle.lls_words.specs.Parser.{parser_of, option_rule}
 use Rattle.lls_words.proofs.Table.{rules, arg_by_long-option, long_of-option, no_dashes}
 use Rattle.lls_words.proofs.Rows.{at_row-missing, are_fresh, are_distinct, is_apart, fresh-head, fresh-tail, fresh-more}

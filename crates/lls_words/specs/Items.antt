@@ -20,24 +20,24 @@ option_text (a ∷ []) = None
 option_text (a ∷ b ∷ []) = None
 option_text (a ∷ b ∷ c ∷ text) = if is_dash a && is_dash b then Some (c ∷ text) else None
 
--- the form of a word: an operand; an option with its value in the same word; an option alone; none of these
-pub data Form : Type 0 where
-  operand : Form
-  inline : List ℕ → List ℕ → Form
-  spaced : List ℕ → Form
-  other : Form
+-- the shape of a word: an operand; an option with its value in the same word; an option alone; none of these
+pub data WordShape : Type 0 where
+  operand : WordShape
+  inline : List ℕ → List ℕ → WordShape
+  spaced : List ℕ → WordShape
+  other : WordShape
 
 -- an option's name, and its value behind the first equals sign, where there is one
-abbrev pub cut_at : List ℕ → Option ℕ → Form
-cut_at text None = spaced text
-cut_at text (Some place) = inline (take place text) (drop (place + 1) text)
+abbrev pub named_shape : List ℕ → Option ℕ → WordShape
+named_shape text None = spaced text
+named_shape text (Some place) = inline (take place text) (drop (place + 1) text)
 
-abbrev pub option_form : Option (List ℕ) → Form
-option_form None = other
-option_form (Some text) = cut_at text (position is_equals_sign text)
+abbrev pub option_shape : Option (List ℕ) → WordShape
+option_shape None = other
+option_shape (Some text) = named_shape text (position is_equals_sign text)
 
-abbrev pub form_of : List ℕ → Form
-form_of word = if is_plain word then operand else option_form (option_text word)
+abbrev pub shape_of : List ℕ → WordShape
+shape_of word = if is_plain word then operand else option_shape (option_text word)
 
 -- an item: an operand; an option by its name and its value, if it has one; a word that is neither. Each has its place
 pub data Item : Type 0 where
@@ -45,25 +45,25 @@ pub data Item : Type 0 where
   named : ℕ → List ℕ → Option (List ℕ) → Item
   odd : ℕ → Item
 
--- the item of a word by its form and the word behind it
-abbrev pub formed : ℕ → List ℕ → Option (List ℕ) → Form → Item
-formed place word next operand = plain place word
-formed place word next (inline name value) = named place name (Some value)
-formed place word next (spaced name) = named place name next
-formed place word next other = odd place
+-- the item of a word by its shape and the word behind it
+abbrev pub shaped : ℕ → List ℕ → Option (List ℕ) → WordShape → Item
+shaped place word next operand = plain place word
+shaped place word next (inline name value) = named place name (Some value)
+shaped place word next (spaced name) = named place name next
+shaped place word next other = odd place
 
 abbrev pub item_of : ℕ → List ℕ → Option (List ℕ) → Item
-item_of place word next = formed place word next (form_of word)
+item_of place word next = shaped place word next (shape_of word)
 
 -- an option alone takes the word behind it as its value
-abbrev pub is_spaced : Form → Bool
+abbrev pub is_spaced : WordShape → Bool
 is_spaced operand = false
 is_spaced (inline name value) = false
 is_spaced (spaced name) = true
 is_spaced other = false
 
 abbrev pub takes_next : List ℕ → Bool
-takes_next word = is_spaced (form_of word)
+takes_next word = is_spaced (shape_of word)
 
 -- how many words the item of a word takes, behind which stand that many
 abbrev pub words_taken : List ℕ → ℕ → ℕ

@@ -1,7 +1,7 @@
 pub mod Command
 pub mod Items
 pub mod Scan
-pub mod Form
+pub mod Canonical
 pub mod Parser
 pub mod Values
 pub mod Job

@@ -6,7 +6,7 @@ use Rattle.lls_words.specs.declared.command.Command.{Command}
 use Rattle.lls_words.specs.declared.command.Command.TheVariants as commands
 use Rattle.lls_words.specs.declared.command.Setting.{Setting}
 use Rattle.lls_words.specs.Command.{options_of}
-use Rattle.lls_words.specs.Form.{option_name}
+use Rattle.lls_words.specs.Canonical.{option_name}
 use Rattle.lls_words.specs.Scan.{Scanned}
 
 -- what the operands of a command are called

@@ -3,7 +3,7 @@ use Rattle.std.specs.Prelude.{ℕ, ◌+◌, List, map, take, drop, string_bytes,
 use Rattle.std.specs.Borrow.{Bor}
 use Rattle.std.specs.Option.{option_copied}
 use Rattle.lls_words.specs.declared.item.Item as items
-use Rattle.lls_words.specs.declared.item.Item.TheVariants as forms
+use Rattle.lls_words.specs.declared.item.Item.TheVariants as variants
 use Rattle.lls_words.specs.declared.items.Items as left
 use Rattle.lls_words.specs.declared.item.Operand as operands
 use Rattle.lls_words.specs.declared.scan.Given as givens
@@ -16,9 +16,9 @@ abbrev pub seen_operand : operands.Operand → Operand
 seen_operand operand = record { place = operand.place; word = operand.word.now }
 
 abbrev pub seen_item : items.Item → Item
-seen_item (forms.Operand operand) = plain operand.place operand.word.now
-seen_item (forms.Named place name value) = named place name.now (option_copied value)
-seen_item (forms.Odd place) = odd place
+seen_item (variants.Operand operand) = plain operand.place operand.word.now
+seen_item (variants.Named place name value) = named place name.now (option_copied value)
+seen_item (variants.Odd place) = odd place
 
 -- two parts of a text
 abbrev pub seen_pair : Bor (List ℕ) × Bor (List ℕ) → List ℕ × List ℕ

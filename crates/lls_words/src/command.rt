@@ -1,7 +1,7 @@
 // The table of commands: what each is called, how many operands it has and which options it takes.
 ghost use Rattle.std.specs.Prelude.{◌≡◌, map};
 ghost use Rattle.lls_words.specs.Command.{command_of, operand_count, options_of, setting_of, takes};
-ghost use Rattle.lls_words.specs.Form.{option_name};
+ghost use Rattle.lls_words.specs.Canonical.{option_name};
 ghost use Rattle.lls_words.specs.Parser.{operand_names};
 
 /// A command.

@@ -1,9 +1,9 @@
 //! The words of a command line and the job that they ask for.
 #![tactic(auto)]
 
+mod canonical;
 mod command;
 mod error;
-mod form;
 mod item;
 mod items;
 mod job;

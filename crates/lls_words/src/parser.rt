@@ -1,8 +1,8 @@
-// What `clap` reads of the words of a command in their one form.
+// What `clap` reads of the canonical words of a command.
 ghost use Rattle.std.specs.Prelude.{◌≡◌, map, string_bytes, false, All, Some, Ok, IfErr, IfOk};
 ghost use Rattle.clap.specs.Words.{app_of, first_value, found_of, kind_of, rule_of};
 ghost use Rattle.lls_base.specs.Results.{Gives};
-ghost use Rattle.lls_words.specs.Form.{IsForm, option_name};
+ghost use Rattle.lls_words.specs.Canonical.{IsCanonical, option_name};
 ghost use Rattle.lls_words.specs.Parser.{option_rule, operand_rule, parser_of, with_rules, ReadsBack};
 ghost use Rattle.lls_words.specs.Scan.{Scanned};
 ghost use Rattle.lls_words.specs.Seen.{seen_given, seen_operand, seen_scan};
@@ -75,15 +75,15 @@ fn with_operands<'f>(
     Ok(parser)
 }
 
-/// Parses words. Those in the one form are refused for want of memory alone.
+/// Parses words. Canonical ones are refused for want of memory alone.
 fn parse<'f>(
     alloc: Global,
     command: Command,
     words: &'f [String],
 ) -> Result<ArgMatches<'f>, clap::Error>
-    ensures found { IfOk result (λ matches. (s : Scanned) → IsForm command s (map string_bytes words.entry.now)
+    ensures found { IfOk result (λ matches. (s : Scanned) → IsCanonical command s (map string_bytes words.entry.now)
         → ReadsBack command s (found_of matches)) }
-    ensures memory { IfErr result (λ error. (s : Scanned) → IsForm command s (map string_bytes words.entry.now)
+    ensures memory { IfErr result (λ error. (s : Scanned) → IsCanonical command s (map string_bytes words.entry.now)
         → kind_of error ≡ ErrorKind.OutOfMemory) }
 {
     parser(alloc, command)?.try_get_matches_from(words)
@@ -146,14 +146,14 @@ fn read_givens<'f>(
     Ok(read)
 }
 
-/// The operands and options as they are parsed from the words in their one form.
+/// The operands and options as they are parsed from the canonical words.
 pub fn read_words<'f>(
     alloc: Global,
     command: Command,
     scan: &Scan,
     words: &'f [String],
 ) -> Result<Scan<'f>, WordsError>
-    requires { IsForm command (seen_scan scan.now) (map string_bytes words.now) }
+    requires { IsCanonical command (seen_scan scan.now) (map string_bytes words.now) }
     ensures { Gives WordsError.Memory seen_scan result (Ok (seen_scan scan.now)) }
 {
     let matches = match parse(alloc, command, words) {

@@ -1,13 +1,13 @@
 // The job of a command line.
 ghost use Rattle.std.specs.Prelude.{◌≡◌, Ok, [], ◌∷◌, map, string_bytes, IfOk};
 ghost use Rattle.lls_base.specs.Results.{and_then, Gives};
-ghost use Rattle.lls_words.specs.Form.{FitsForm};
+ghost use Rattle.lls_words.specs.Canonical.{FitsCanonical};
 ghost use Rattle.lls_words.specs.Job.{defaults, job_with, job_of, names_apart, settled, AreAllowed, KeepsLimits};
 ghost use Rattle.lls_words.specs.Seen.{seen_given, seen_operand, seen_scan};
 
+use crate::canonical::canonical_words;
 use crate::command::Command;
 use crate::error::WordsError;
-use crate::form::form_words;
 use crate::item::Operand;
 use crate::job::Job;
 use crate::parser::read_words;
@@ -239,7 +239,7 @@ fn job_with(alloc: Global, command: Command, scan: &Scan) -> Result<Job, WordsEr
 /// `clap` reads.
 #[tactic(auto, using(crate::proofs::Jobs::refused))]
 fn scanned_job(alloc: Global, command: Command, scan: &Scan) -> Result<Job, WordsError>
-    requires { FitsForm command (seen_scan scan.now) }
+    requires { FitsCanonical command (seen_scan scan.now) }
     ensures job { Gives WordsError.Memory (λ job. job) result
         (job_with command (seen_scan scan.now).operands (seen_scan scan.now).givens) }
     ensures limits { IfOk result KeepsLimits }
@@ -248,8 +248,8 @@ fn scanned_job(alloc: Global, command: Command, scan: &Scan) -> Result<Job, Word
     if found != command.operand_count() {
         return Err(WordsError::Operands(command.operand_count(), found));
     }
-    let form = form_words(alloc, command, scan)?;
-    let read = read_words(alloc, command, scan, &form)?;
+    let canonical = canonical_words(alloc, command, scan)?;
+    let read = read_words(alloc, command, scan, &canonical)?;
     job_with(alloc, command, &read)
 }
 

@@ -7,5 +7,5 @@ pub read_words-requires : goal.read_words-requires
 read_words-requires c = record {
   fits = c.requires;
   count = length-map c.args.scan.now.operands.items seen_operand ∙ (ap length (sym c.as_slice.ensures.value) ∙ (c.if-found-operand_count.false ∙ c.operand_count.ensures));
-  said = ap (map string_bytes) c.deref.ensures.value ∙ c.in_ok-form.ensures;
+  said = ap (map string_bytes) c.deref.ensures.value ∙ c.in_ok-canonical.ensures;
 }

@@ -1,9 +1,9 @@
-// The one form of the words of a command: each given option as one word with its value, in the
-// order of the table, then the operands.
+// The canonical words of a command: each given option as one word with its value, in the order
+// of the table, then the operands.
 ghost use Rattle.std.specs.Prelude.{◌≡◌, find, map, string_bytes, IfOk};
 ghost use Rattle.std.specs.Option.{option_copied};
 ghost use Rattle.lls_words.specs.Command.{same_setting};
-ghost use Rattle.lls_words.specs.Form.{form_words, option_word, option_words, value_of};
+ghost use Rattle.lls_words.specs.Canonical.{canonical_words, option_word, option_words, value_of};
 ghost use Rattle.lls_words.specs.Seen.{seen_given, seen_scan};
 
 use crate::command::{Command, Setting};
@@ -59,9 +59,13 @@ fn option_words(
     Ok(words)
 }
 
-/// The words of a command in the one form.
-pub fn form_words(alloc: Global, command: Command, scan: &Scan) -> Result<Vec<String>, AllocError>
-    ensures { IfOk result (λ words. map string_bytes words.items ≡ form_words command (seen_scan scan.now)) }
+/// The canonical words of a command.
+pub fn canonical_words(
+    alloc: Global,
+    command: Command,
+    scan: &Scan,
+) -> Result<Vec<String>, AllocError>
+    ensures { IfOk result (λ words. map string_bytes words.items ≡ canonical_words command (seen_scan scan.now)) }
 {
     let mut words = option_words(alloc, command.options(), &scan.givens)?;
     for operand in &scan.operands {

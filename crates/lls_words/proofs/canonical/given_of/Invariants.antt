@@ -1,7 +1,7 @@
 use Rattle.std.proofs.Common.{◌≡◌, drop}
 use Rattle.std.specs.Prelude.{find}
 use Rattle.lls_words.specs.Command.{same_setting}
-use Rattle.lls_words.proofs.form.given_of.Given as goal
+use Rattle.lls_words.proofs.canonical.given_of.Given as goal
 
 -- what is found among those left is what is found among all
 abbrev pub invariant-loop-given : goal.invariant-loop-given

@@ -1,4 +1,4 @@
--- The one form of the words of a command: each given option as one word with its value, in the order of the table, then the operands.
+-- The canonical words of a command: each given option as one word with its value, in the order of the table, then the operands.
 use Rattle.std.specs.Prelude.{ℕ, ◌≡◌, true, length, All, List, [], ◌∷◌, ◌++◌, map, codes, find, Option, None, Some}
 use Rattle.std.specs.Option.{option_map}
 use Rattle.lls_words.specs.declared.command.Command.{Command}
@@ -38,18 +38,18 @@ abbrev pub option_words : List Given → List Setting → List (List ℕ)
 option_words givens [] = []
 option_words givens (setting ∷ more) = word_of setting (value_of givens setting) ++ option_words givens more
 
-abbrev pub form_words : Command → Scanned → List (List ℕ)
-form_words command s = option_words s.givens (options_of command) ++ map (λ operand. operand.word) s.operands
+abbrev pub canonical_words : Command → Scanned → List (List ℕ)
+canonical_words command s = option_words s.givens (options_of command) ++ map (λ operand. operand.word) s.operands
 
--- operands and options that can be put into the form
-pub record FitsForm (command : Command) (s : Scanned) : Type 0 where
+-- operands and options that have canonical words
+pub record FitsCanonical (command : Command) (s : Scanned) : Type 0 where
   pub taken : All (λ given. takes command given.setting ≡ true) s.givens
   -- no option is given twice
   pub once : All (λ given. value_of s.givens given.setting ≡ Some given.value) s.givens
   pub plain : All (λ operand. is_plain operand.word ≡ true) s.operands
 
--- words in the one form, as many of them operands as the command has
-pub record IsForm (command : Command) (s : Scanned) (words : List (List ℕ)) : Type 0 where
-  pub fits : FitsForm command s
+-- canonical words, as many of them operands as the command has
+pub record IsCanonical (command : Command) (s : Scanned) (words : List (List ℕ)) : Type 0 where
+  pub fits : FitsCanonical command s
   pub count : length s.operands ≡ operand_count command
-  pub said : words ≡ form_words command s
+  pub said : words ≡ canonical_words command s

@@ -1,7 +1,7 @@
 use Rattle.std.proofs.Common.{◌≡◌, ◌++◌, map, drop, string_bytes}
-use Rattle.lls_words.specs.Form.{option_words}
+use Rattle.lls_words.specs.Canonical.{option_words}
 use Rattle.lls_words.specs.Seen.{seen_given}
-use Rattle.lls_words.proofs.form.option_words.Given as goal
+use Rattle.lls_words.proofs.canonical.option_words.Given as goal
 
 -- the words so far with those of the options left are the words of all
 abbrev pub invariant-loop-setting : goal.invariant-loop-setting

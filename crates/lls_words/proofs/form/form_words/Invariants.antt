@@ -1,9 +1,0 @@
-use Rattle.std.proofs.Common.{◌≡◌, ◌++◌, map, drop, string_bytes}
-use Rattle.lls_words.specs.Form.{form_words}
-use Rattle.lls_words.specs.Seen.{seen_operand, seen_scan}
-use Rattle.lls_words.proofs.form.form_words.Given as goal
-
--- the words so far with the operands left are all words
-abbrev pub invariant-loop-operand : goal.invariant-loop-operand
-invariant-loop-operand l =
-    map string_bytes l.words.items ++ map (λ operand. operand.word) (map seen_operand (drop l.operand-index l.operand-items)) ≡ form_words l.fn.command (seen_scan l.fn.scan)
