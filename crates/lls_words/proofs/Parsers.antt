@@ -7,11 +7,11 @@ use Rattle.clap.specs.Takes.{default_passes, is_given, is_valid, level_passes, s
 use Rattle.clap.proofs.TakesLemmas.{leaf_takes}
 use Rattle.lls_words.specs.declared.command.Command.{Command}
 use Rattle.lls_words.specs.declared.command.Command.TheVariants as commands
-use Rattle.lls_words.specs.Command.{operand_count, options_of}
+use Rattle.lls_words.specs.Command.{operand_count, operand_names, options_of}
 use Rattle.lls_words.specs.Command as table
 use Rattle.lls_words.specs.Canonical.{canonical_words, option_words}
 use Rattle.lls_words.specs.Items.{is_plain}
-use Rattle.lls_words.specs.Parser.{parser_of, operand_names}
+use Rattle.lls_words.specs.Parser.{parser_of}
 use Rattle.lls_words.specs.Scan.{Given, Operand, Scanned}
 use Rattle.lls_words.proofs.Table.{rules, is_simple-parser}
 use Rattle.lls_words.proofs.Rows.{are_distinct, are_fresh}

@@ -9,38 +9,22 @@ use Rattle.lls_words.specs.declared.command.Command.{Command}
 use Rattle.lls_words.specs.declared.command.Command.TheVariants as commands
 use Rattle.lls_words.specs.declared.command.Setting.{Setting}
 use Rattle.lls_words.specs.declared.command.Setting.TheVariants as settings
-use Rattle.lls_words.specs.Command.{same_setting, takes}
-use Rattle.lls_words.specs.Canonical.{option_name, option_word}
+use Rattle.lls_words.specs.Command.{all_options, option_name, takes}
+use Rattle.lls_words.specs.Canonical.{option_word}
 use Rattle.lls_words.specs.Parser.{parser_of, option_rule}
-
-abbrev pub all_options : List Setting
-all_options = settings.Rule ∷ settings.Edge ∷ settings.Symmetry ∷ settings.Period ∷ settings.Live ∷ settings.Differ ∷ settings.Budget ∷ settings.Keep ∷ settings.As ∷ settings.Formula ∷ []
 
 -- two functions that agree along the table agree at each option
 pub by_table : {X : Type 0} (f g : Setting → X) → map f all_options ≡ map g all_options → (s : Setting) → f s ≡ g s
-by_table f g same settings.Rule = ap (λ xs. get_or xs 0 (f settings.Rule)) same
-by_table f g same settings.Edge = ap (λ xs. get_or xs 1 (f settings.Rule)) same
-by_table f g same settings.Symmetry = ap (λ xs. get_or xs 2 (f settings.Rule)) same
-by_table f g same settings.Period = ap (λ xs. get_or xs 3 (f settings.Rule)) same
-by_table f g same settings.Live = ap (λ xs. get_or xs 4 (f settings.Rule)) same
-by_table f g same settings.Differ = ap (λ xs. get_or xs 5 (f settings.Rule)) same
-by_table f g same settings.Budget = ap (λ xs. get_or xs 6 (f settings.Rule)) same
-by_table f g same settings.Keep = ap (λ xs. get_or xs 7 (f settings.Rule)) same
-by_table f g same settings.As = ap (λ xs. get_or xs 8 (f settings.Rule)) same
-by_table f g same settings.Formula = ap (λ xs. get_or xs 9 (f settings.Rule)) same
-
--- options are the same by their names
-pub same_names : (a b : Setting) → bytes_eq (option_name a) (option_name b) ≡ same_setting a b
-same_names settings.Rule b = by_table (λ t. bytes_eq (option_name settings.Rule) (option_name t)) (λ t. same_setting settings.Rule t) refl b
-same_names settings.Edge b = by_table (λ t. bytes_eq (option_name settings.Edge) (option_name t)) (λ t. same_setting settings.Edge t) refl b
-same_names settings.Symmetry b = by_table (λ t. bytes_eq (option_name settings.Symmetry) (option_name t)) (λ t. same_setting settings.Symmetry t) refl b
-same_names settings.Period b = by_table (λ t. bytes_eq (option_name settings.Period) (option_name t)) (λ t. same_setting settings.Period t) refl b
-same_names settings.Live b = by_table (λ t. bytes_eq (option_name settings.Live) (option_name t)) (λ t. same_setting settings.Live t) refl b
-same_names settings.Differ b = by_table (λ t. bytes_eq (option_name settings.Differ) (option_name t)) (λ t. same_setting settings.Differ t) refl b
-same_names settings.Budget b = by_table (λ t. bytes_eq (option_name settings.Budget) (option_name t)) (λ t. same_setting settings.Budget t) refl b
-same_names settings.Keep b = by_table (λ t. bytes_eq (option_name settings.Keep) (option_name t)) (λ t. same_setting settings.Keep t) refl b
-same_names settings.As b = by_table (λ t. bytes_eq (option_name settings.As) (option_name t)) (λ t. same_setting settings.As t) refl b
-same_names settings.Formula b = by_table (λ t. bytes_eq (option_name settings.Formula) (option_name t)) (λ t. same_setting settings.Formula t) refl b
+by_table f g same settings.Formula = ap (λ xs. get_or xs 0 (f settings.Formula)) same
+by_table f g same settings.Rule = ap (λ xs. get_or xs 1 (f settings.Formula)) same
+by_table f g same settings.Edge = ap (λ xs. get_or xs 2 (f settings.Formula)) same
+by_table f g same settings.Symmetry = ap (λ xs. get_or xs 3 (f settings.Formula)) same
+by_table f g same settings.Period = ap (λ xs. get_or xs 4 (f settings.Formula)) same
+by_table f g same settings.Live = ap (λ xs. get_or xs 5 (f settings.Formula)) same
+by_table f g same settings.Differ = ap (λ xs. get_or xs 6 (f settings.Formula)) same
+by_table f g same settings.As = ap (λ xs. get_or xs 7 (f settings.Formula)) same
+by_table f g same settings.Budget = ap (λ xs. get_or xs 8 (f settings.Formula)) same
+by_table f g same settings.Keep = ap (λ xs. get_or xs 9 (f settings.Formula)) same
 
 -- how an option's word is read
 pub long_of-option : (s : Setting) (value : List ℕ) → long_of (option_word s value) ≡ Some (option_name s, Some value)

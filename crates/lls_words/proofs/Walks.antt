@@ -11,9 +11,9 @@ use Rattle.clap.specs.Takes.{turn_passes, use_passes, walk_passes}
 use Rattle.clap.specs.declared.parser.matches.ValueSource.TheVariants.{CommandLine}
 use Rattle.lls_words.specs.declared.command.Command.{Command}
 use Rattle.lls_words.specs.declared.command.Setting.{Setting}
-use Rattle.lls_words.specs.Command.{takes}
+use Rattle.lls_words.specs.Command.{option_name, takes}
 use Rattle.lls_words.specs.Scan.{Given}
-use Rattle.lls_words.specs.Canonical.{option_name, option_word, word_of, value_of, option_words}
+use Rattle.lls_words.specs.Canonical.{option_word, word_of, value_of, option_words}
 use Rattle.lls_words.specs.Parser.{parser_of, option_rule}
 use Rattle.lls_words.proofs.Table.{rules, arg_by_long-option, long_of-option, no_dashes}
 use Rattle.lls_words.proofs.Rows.{at_row-missing, are_fresh, are_distinct, is_apart, fresh-head, fresh-tail, fresh-more}

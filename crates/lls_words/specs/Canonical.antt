@@ -1,25 +1,11 @@
 -- The canonical words of a command: each given option as one word with its value, in the order of the table, then the operands.
-use Rattle.std.specs.Prelude.{ℕ, ◌≡◌, true, length, All, List, [], ◌∷◌, ◌++◌, map, codes, find, Option, None, Some}
+use Rattle.std.specs.Prelude.{ℕ, ◌≡◌, true, length, All, List, [], ◌∷◌, ◌++◌, map, find, Option, None, Some}
 use Rattle.std.specs.Option.{option_map}
 use Rattle.lls_words.specs.declared.command.Command.{Command}
 use Rattle.lls_words.specs.declared.command.Setting.{Setting}
-use Rattle.lls_words.specs.declared.command.Setting.TheVariants as settings
-use Rattle.lls_words.specs.Command.{same_setting, operand_count, options_of, takes}
+use Rattle.lls_words.specs.Command.{same_setting, operand_count, option_name, options_of, takes}
 use Rattle.lls_words.specs.Items.{is_plain}
 use Rattle.lls_words.specs.Scan.{Given, Scanned}
-
--- what an option is called, without its dashes
-abbrev pub option_name : Setting → List ℕ
-option_name settings.Rule = codes "rule"
-option_name settings.Edge = codes "edge"
-option_name settings.Symmetry = codes "symmetry"
-option_name settings.Period = codes "period"
-option_name settings.Live = codes "live"
-option_name settings.Differ = codes "differ"
-option_name settings.Budget = codes "budget"
-option_name settings.Keep = codes "keep"
-option_name settings.As = codes "as"
-option_name settings.Formula = codes "formula"
 
 -- an option and its value in one word
 abbrev pub option_word : Setting → List ℕ → List ℕ

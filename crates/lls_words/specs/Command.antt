@@ -1,5 +1,5 @@
--- The table of commands and options.
-use Rattle.std.specs.Prelude.{ℕ, ◌==◌, Bool, List, [], ◌∷◌, ◌++◌, Option, None, Some, codes, if◌then◌else◌}
+-- The tables of commands and options: what each is called, and which operands and options a command has.
+use Rattle.std.specs.Prelude.{ℕ, Bool, List, [], ◌∷◌, ◌++◌, Option, codes, find, take}
 use Rattle.std.specs.List.{list_any}
 use Rattle.std.specs.Str.{bytes_eq}
 use Rattle.lls_words.specs.declared.command.Command.{Command}
@@ -7,29 +7,22 @@ use Rattle.lls_words.specs.declared.command.Command.TheVariants as commands
 use Rattle.lls_words.specs.declared.command.Setting.{Setting}
 use Rattle.lls_words.specs.declared.command.Setting.TheVariants as settings
 
-abbrev pub command_of : List ℕ → Option Command
-command_of name =
-    if bytes_eq name (codes "check") then Some commands.Check else
-    if bytes_eq name (codes "search") then Some commands.Search else
-    if bytes_eq name (codes "judge") then Some commands.Judge else
-    if bytes_eq name (codes "cnf") then Some commands.Cnf else
-    if bytes_eq name (codes "sat") then Some commands.Sat else
-    if bytes_eq name (codes "lrat") then Some commands.Lrat else
-    if bytes_eq name (codes "rule") then Some commands.Rule else
-    if bytes_eq name (codes "make") then Some commands.Make else None
+abbrev pub all_commands : List Command
+all_commands = commands.Check ∷ commands.Search ∷ commands.Judge ∷ commands.Cnf ∷ commands.Sat ∷ commands.Lrat ∷ commands.Rule ∷ commands.Make ∷ []
 
-abbrev pub setting_of : List ℕ → Option Setting
-setting_of name =
-    if bytes_eq name (codes "rule") then Some settings.Rule else
-    if bytes_eq name (codes "edge") then Some settings.Edge else
-    if bytes_eq name (codes "symmetry") then Some settings.Symmetry else
-    if bytes_eq name (codes "period") then Some settings.Period else
-    if bytes_eq name (codes "live") then Some settings.Live else
-    if bytes_eq name (codes "differ") then Some settings.Differ else
-    if bytes_eq name (codes "budget") then Some settings.Budget else
-    if bytes_eq name (codes "keep") then Some settings.Keep else
-    if bytes_eq name (codes "as") then Some settings.As else
-    if bytes_eq name (codes "formula") then Some settings.Formula else None
+abbrev pub command_name : Command → List ℕ
+command_name commands.Check = codes "check"
+command_name commands.Search = codes "search"
+command_name commands.Judge = codes "judge"
+command_name commands.Cnf = codes "cnf"
+command_name commands.Sat = codes "sat"
+command_name commands.Lrat = codes "lrat"
+command_name commands.Rule = codes "rule"
+command_name commands.Make = codes "make"
+
+-- the command that has the name
+abbrev pub command_of : List ℕ → Option Command
+command_of name = find (λ command. bytes_eq (command_name command) name) all_commands
 
 abbrev pub operand_count : Command → ℕ
 operand_count commands.Check = 2
@@ -41,44 +34,60 @@ operand_count commands.Lrat = 2
 operand_count commands.Rule = 1
 operand_count commands.Make = 4
 
--- the rule and the demands of a problem
-abbrev pub problem_options : List Setting
-problem_options = settings.Rule ∷ settings.Edge ∷ settings.Symmetry ∷ settings.Period ∷ settings.Live ∷ settings.Differ ∷ []
+-- what the operands of a command are called, by their places
+abbrev pub operand_names : Command → List (List ℕ)
+operand_names command = take (operand_count command) (codes "first" ∷ codes "second" ∷ codes "third" ∷ codes "fourth" ∷ [])
 
 -- the form of a problem's formula
 abbrev pub formula_options : List Setting
 formula_options = settings.Formula ∷ []
 
+-- the rule and the demands of a problem
+abbrev pub problem_options : List Setting
+problem_options = settings.Rule ∷ settings.Edge ∷ settings.Symmetry ∷ settings.Period ∷ settings.Live ∷ settings.Differ ∷ []
+
+-- what patterns are written in
+abbrev pub pattern_options : List Setting
+pattern_options = settings.As ∷ []
+
 -- how far a search goes
-abbrev pub search_options : List Setting
-search_options = settings.Budget ∷ settings.Keep ∷ []
+abbrev pub effort_options : List Setting
+effort_options = settings.Budget ∷ settings.Keep ∷ []
+
+abbrev pub all_options : List Setting
+all_options = formula_options ++ problem_options ++ pattern_options ++ effort_options
 
 -- the options that a command takes
 abbrev pub options_of : Command → List Setting
-options_of commands.Check = problem_options ++ formula_options
-options_of commands.Search = problem_options ++ search_options ++ settings.As ∷ formula_options
-options_of commands.Judge = problem_options ++ settings.As ∷ []
-options_of commands.Cnf = problem_options ++ formula_options
-options_of commands.Sat = search_options
+options_of commands.Check = formula_options ++ problem_options
+options_of commands.Search = all_options
+options_of commands.Judge = problem_options ++ pattern_options
+options_of commands.Cnf = formula_options ++ problem_options
+options_of commands.Sat = effort_options
 options_of commands.Lrat = []
 options_of commands.Rule = []
 options_of commands.Make = []
 
--- where an option stands in the table of options
-abbrev pub table_place : Setting → ℕ
-table_place settings.Rule = 0
-table_place settings.Edge = 1
-table_place settings.Symmetry = 2
-table_place settings.Period = 3
-table_place settings.Live = 4
-table_place settings.Differ = 5
-table_place settings.Budget = 6
-table_place settings.Keep = 7
-table_place settings.As = 8
-table_place settings.Formula = 9
+-- what an option is called, without its dashes
+abbrev pub option_name : Setting → List ℕ
+option_name settings.Formula = codes "formula"
+option_name settings.Rule = codes "rule"
+option_name settings.Edge = codes "edge"
+option_name settings.Symmetry = codes "symmetry"
+option_name settings.Period = codes "period"
+option_name settings.Live = codes "live"
+option_name settings.Differ = codes "differ"
+option_name settings.As = codes "as"
+option_name settings.Budget = codes "budget"
+option_name settings.Keep = codes "keep"
 
+-- the option that has the name
+abbrev pub setting_of : List ℕ → Option Setting
+setting_of name = find (λ setting. bytes_eq (option_name setting) name) all_options
+
+-- options are the same by their names
 abbrev pub same_setting : Setting → Setting → Bool
-same_setting a b = table_place a == table_place b
+same_setting a b = bytes_eq (option_name a) (option_name b)
 
 abbrev pub takes : Command → Setting → Bool
 takes command setting = list_any (λ option. same_setting option setting) (options_of command)

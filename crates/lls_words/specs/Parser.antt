@@ -1,20 +1,11 @@
 -- The parser of a command: what `clap` knows of its options and operands.
-use Rattle.std.specs.Prelude.{◌≡◌, ℕ, All, true, List, [], ◌∷◌, ◌++◌, map, codes, Some}
+use Rattle.std.specs.Prelude.{◌≡◌, ℕ, All, true, List, ◌++◌, map, codes, Some}
 use Rattle.clap.specs.Words.{App, Rule, first_value, new_app, new_rule}
 use Rattle.clap.specs.declared.parser.matches.Found.{Found}
 use Rattle.lls_words.specs.declared.command.Command.{Command}
-use Rattle.lls_words.specs.declared.command.Command.TheVariants as commands
 use Rattle.lls_words.specs.declared.command.Setting.{Setting}
-use Rattle.lls_words.specs.Command.{options_of}
-use Rattle.lls_words.specs.Canonical.{option_name}
+use Rattle.lls_words.specs.Command.{operand_names, option_name, options_of}
 use Rattle.lls_words.specs.Scan.{Scanned}
-
--- what the operands of a command are called
-abbrev pub operand_names : Command → List (List ℕ)
-operand_names commands.Cnf = codes "first" ∷ []
-operand_names commands.Rule = codes "first" ∷ []
-operand_names commands.Make = codes "first" ∷ codes "second" ∷ codes "third" ∷ codes "fourth" ∷ []
-operand_names command = codes "first" ∷ codes "second" ∷ []
 
 -- an option takes one value
 abbrev pub option_rule : Setting → Rule

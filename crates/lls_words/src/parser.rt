@@ -2,7 +2,8 @@
 ghost use Rattle.std.specs.Prelude.{◌≡◌, map, string_bytes, false, All, Some, Ok, IfErr, IfOk};
 ghost use Rattle.clap.specs.Words.{app_of, first_value, found_of, kind_of, rule_of};
 ghost use Rattle.lls_base.specs.Results.{Gives};
-ghost use Rattle.lls_words.specs.Canonical.{IsCanonical, option_name};
+ghost use Rattle.lls_words.specs.Canonical.{IsCanonical};
+ghost use Rattle.lls_words.specs.Command.{option_name};
 ghost use Rattle.lls_words.specs.Parser.{option_rule, operand_rule, parser_of, with_rules, ReadsBack};
 ghost use Rattle.lls_words.specs.Scan.{Scanned};
 ghost use Rattle.lls_words.specs.Seen.{seen_given, seen_operand, seen_scan};

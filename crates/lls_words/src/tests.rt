@@ -1,6 +1,7 @@
 // Command lines and the jobs or faults that they are read as.
 use crate::{Job, WordsError, read_job};
 use lls_problem::{Bound, Demands, Edge, Form, Period};
+use lls_rule::Rule;
 use lls_symmetry::Symmetry;
 use std::alloc::{AllocError, Global};
 use std::test::Fail;
@@ -39,7 +40,6 @@ rule > Operands 1 0
 cnf f p > Operands 1 2
 lrat f > Operands 2 1
 search f > Operands 2 1
-lrat f p --edge open > UnknownOption 4
 cnf f --edge shut > BadValue 3
 cnf f --edge > MissingValue 3
 check f  p > BadWord 3
@@ -83,14 +83,11 @@ judge f p --live 0:1-2,,1:1-2 > BadValue 4
 judge f p --live 0:000000000000000000001- > BadValue 4
 judge f p --live -0:1-2 > MissingValue 4
 judge f p --live 0:- --live 0:- > RepeatedOption 6
-lrat f p --live 0:- > UnknownOption 4
 judge f p --differ 0 > BadValue 4
 judge f p --differ 0,64 > BadValue 4
 judge f p --differ 0,1,2 > BadValue 4
 check f p --period 4,1 > BadValue 4
 cnf f --differ 64,0 > BadValue 3
-lrat f p --symmetry C2 > UnknownOption 4
-rule B3/S23 --period 1 > UnknownOption 3
 rule B1k/S > BadLetter 2 3
 rule B33/S > RepeatedDigit 2 3
 rule B2aa/S > RepeatedLetter 2 4
@@ -102,13 +99,6 @@ sat f f --budget x > BadValue 4
 sat --budget 7 f f --budget > RepeatedOption 6
 sat f g --budget 10000001 > BadValue 4
 sat f g --budget 000000000000000000007 > BadValue 4
-sat f g --rule B3/S23 > UnknownOption 4
-sat f g --as rle > UnknownOption 4
-cnf f --budget 1 > UnknownOption 3
-judge f p --keep all > UnknownOption 4
-judge f p --formula 1 > UnknownOption 4
-sat f g --formula 2 > UnknownOption 4
-make 1 8 f p --formula=1 > UnknownOption 6
 check f p --formula 3 > BadValue 4
 search f p --formula 0 > BadValue 4
 search f p --formula 01 > BadValue 4
@@ -135,7 +125,6 @@ make 8 8 8 8 > SameName 5
 make 1 8 f > Operands 4 3
 make x 0 f f f > Operands 4 5
 make > Operands 4 0
-make 1 8 f p --budget 7 > UnknownOption 6
 make --as=rle 1 8 f p > UnknownOption 2";
 
 #[test]
@@ -148,6 +137,66 @@ fn faults_are_named_by_their_place(rt: HostRuntime) -> Result<(), Fail> {
         assert_eq!(rt; fault_of(alloc, line)?.as_str(), want, "at {line:?}");
     }
     assert!(rt; matches!(read_job(alloc, &[]), Err(WordsError::NoCommand)));
+    Ok(())
+}
+
+/// Options, each with a value that it may have.
+const OPTIONS: &str = "\
+formula=1 rule=B3/S23 edge=open symmetry=C2 period=2 live=0:1- differ=0,1 as=rle budget=7 keep=all best=1";
+
+/// Whether a command line takes an option that stands behind it, which is the only fault that it may have.
+fn takes(alloc: Global, line: &str, option: &str) -> Result<bool, Fail> {
+    let line = format!(in alloc; "{line} --{option}")?;
+    let words = words_of(alloc, &line)?;
+    match read_job(alloc, &words) {
+        Ok(_) => Ok(true),
+        Err(WordsError::UnknownOption(place)) => {
+            if place == words.len() as u64 {
+                Ok(false)
+            } else {
+                Err(Fail::from("another place"))
+            }
+        }
+        Err(_) => Err(Fail::from("another fault")),
+    }
+}
+
+/// What the options are called that a command line takes, each with a blank behind it.
+fn options_of(alloc: Global, line: &str) -> Result<String, Fail> {
+    let mut names = String::new(alloc);
+    for option in OPTIONS.split(' ') {
+        let Some((name, _)) = option.split_once('=') else {
+            return Err(Fail::from("an option"));
+        };
+        if takes(alloc, line, option)? {
+            names.push_str(&format!(in alloc; "{name} ")?)?;
+        }
+    }
+    Ok(names)
+}
+
+#[test]
+fn each_command_takes_its_options_alone(rt: HostRuntime) -> Result<(), Fail> {
+    let alloc = rt.alloc();
+    let rows = [
+        (
+            "check f p",
+            "formula rule edge symmetry period live differ ",
+        ),
+        (
+            "search f p",
+            "formula rule edge symmetry period live differ as budget keep ",
+        ),
+        ("judge f p", "rule edge symmetry period live differ as "),
+        ("cnf f", "formula rule edge symmetry period live differ "),
+        ("sat f p", "budget keep "),
+        ("lrat f p", ""),
+        ("rule B3/S23", ""),
+        ("make 1 8 f p", ""),
+    ];
+    for (line, want) in rows {
+        assert_eq!(rt; options_of(alloc, line)?.as_str(), want, "at {line:?}");
+    }
     Ok(())
 }
 
@@ -297,13 +346,13 @@ fn forms_of_formulas(rt: HostRuntime) -> Result<(), Fail> {
     Ok(())
 }
 
-/// The demands of a job that has some.
-fn demands_of(job: Job) -> Result<Demands, Fail> {
+/// The rule and the demands of a job that has some.
+fn problem_of(job: Job) -> Result<(Rule, Demands), Fail> {
     match job {
-        Job::Check { demands, .. } => Ok(demands),
-        Job::Search { demands, .. } => Ok(demands),
-        Job::Judge { demands, .. } => Ok(demands),
-        Job::Cnf { demands, .. } => Ok(demands),
+        Job::Check { rule, demands, .. } => Ok((rule, demands)),
+        Job::Search { rule, demands, .. } => Ok((rule, demands)),
+        Job::Judge { rule, demands, .. } => Ok((rule, demands)),
+        Job::Cnf { rule, demands, .. } => Ok((rule, demands)),
         _ => Err(Fail::from("a job with demands")),
     }
 }
@@ -334,11 +383,36 @@ fn demands_of_a_problem(rt: HostRuntime) -> Result<(), Fail> {
         },
     ];
     for line in rows {
-        let demands = demands_of(job_of(alloc, line)?)?;
+        let (_, demands) = problem_of(job_of(alloc, line)?)?;
         assert_eq!(rt; demands.symmetry, Symmetry::D2Up, "at {line:?}");
         assert_eq!(rt; demands.period, Some(period), "at {line:?}");
         assert!(rt; demands.bounds.items() == bounds.as_slice(), "at {line:?}");
         assert_eq!(rt; demands.differ, Some((63, 0)), "at {line:?}");
+    }
+    Ok(())
+}
+
+/// Whether a rule answers as `B3/S23` around a dead centre and a live one, each with one neighbour fewer and one more too.
+fn counts_as_life(rule: &Rule) -> bool {
+    let dead = !rule.next(0b000_000_011) && rule.next(0b001_001_001) && !rule.next(0b101_000_101);
+    let live = !rule.next(0b000_010_001)
+        && rule.next(0b100_010_001)
+        && rule.next(0b101_010_001)
+        && !rule.next(0b101_010_101);
+    dead && live
+}
+
+#[test]
+fn a_problem_without_options_is_of_life(rt: HostRuntime) -> Result<(), Fail> {
+    let alloc = rt.alloc();
+    for line in ["check f p", "search f p", "judge f p", "cnf f"] {
+        let (rule, demands) = problem_of(job_of(alloc, line)?)?;
+        assert!(rt; counts_as_life(&rule), "at {line:?}");
+        assert_eq!(rt; demands.edge, Edge::Framed, "at {line:?}");
+        assert_eq!(rt; demands.symmetry, Symmetry::C1, "at {line:?}");
+        assert_eq!(rt; demands.period, None, "at {line:?}");
+        assert!(rt; demands.bounds.items().is_empty(), "at {line:?}");
+        assert_eq!(rt; demands.differ, None, "at {line:?}");
     }
     Ok(())
 }

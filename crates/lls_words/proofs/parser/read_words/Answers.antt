@@ -1,7 +1,7 @@
 use Rattle.std.proofs.Common.{◌≡◌, ◌∙◌, map, All, Some, ap, subst, sym}
 use Rattle.std.proofs.lemmas.Simd.{map-map}
 use Rattle.clap.specs.Words.{first_value, found_of}
-use Rattle.lls_words.specs.Canonical.{option_name}
+use Rattle.lls_words.specs.Command.{option_name}
 use Rattle.lls_words.specs.Seen.{seen_given, seen_operand, seen_scan}
 use Rattle.lls_words.proofs.Pairs.{all-unmapped}
 use Rattle.lls_words.proofs.parser.read_words.Goals as goal
