@@ -1,7 +1,7 @@
 -- The word that ends a list is told by its number; and numbers that are kept in 64 bits have the ranges of what was written.
-use Rattle.std.proofs.Common.{◌≡◌, ℕ, ◌+◌, ◌-◌, ◌*◌, ◌^◌, ◌<◌, ◌≤◌, Bool, true, false, not, cond, ◌&&◌, eqb, eqb-true, leb, zero, suc, min, List, [], ◌∷◌, length, Option, Some, None, refl, sym, ap, ◌∙◌, arith, lit<}
+use Rattle.std.proofs.Common.{◌≡◌, ℕ, ◌+◌, ◌-◌, ◌*◌, ◌^◌, ◌<◌, ◌≤◌, Bool, true, false, not, cond, ◌&&◌, eqb, eqb-true, leb, zero, suc, min, List, [], ◌∷◌, length, map, Option, Some, None, refl, sym, ap, ◌∙◌, arith, lit<}
 use Rattle.std.specs.Prelude.{ℤ, pos, Result, Ok, Err}
-use Rattle.std.specs.List.{list_all}
+use Rattle.std.specs.List.{list_all, list_any}
 use Rattle.std.specs.Char.{is_ascii_digit, digit_value}
 use Rattle.std.specs.Str.Parse.{digits_value, digits_value_after}
 use Rattle.std.proofs.Math.Nat.{min-eq_left}
@@ -20,7 +20,8 @@ use Rattle.lls_prooflog.specs.declared.line_fault.LineFault.TheVariants.{NoZero}
 use Rattle.lls_prooflog.specs.declared.number.Number.{Number}
 use Rattle.lls_prooflog.specs.declared.numeral.Numeral.{Numeral}
 use Rattle.lls_prooflog.specs.Number.{is_zeros, signed_digits, number_in, value_of, capped, id_in, leading_in, literal_in, hint_in, in_range, ranged, item}
-use Rattle.lls_prooflog.specs.Numeral.{value_in, is_end_value, literal_of, hint_of, id_of, leading_of, first_numeral, next_item}
+use Rattle.lls_prooflog.specs.Line.{is_end, before_end, all_of, if_ended, listed}
+use Rattle.lls_prooflog.specs.Numeral.{value_in, is_end_value, literal_of, hint_of, id_of, leading_of, item_by, first_numeral, next_item}
 use Rattle.lls_prooflog.proofs.ShortNumbers.{digit_range, no_zero}
 use Rattle.lls_prooflog.proofs.InRange.{variable_of-value}
 
@@ -215,23 +216,32 @@ end_by_value number =
     ])
     (λ e. rw (no_zero size (omega (arith, leb-false size MOST_ID e))) (both_false (not number.is_negative)))
 
+-- a word's item has the range that its value has
+item_in_range : {X : Type 0} (within : Number → Option X) (of : ℤ → Option X) → IsByValue within of → (word : PlacedWord) → item within word ≡ item_by of word
+item_in_range within of same word = elim (number_in word.text) as (λ o. ranged within word.column o ≡ and_then (ranged value_in word.column o) (λ value. in_range word.column (of value))) [
+  | None ↦ refl
+  | Some number ↦ rw (same number) (elim (value_in number) as (λ v. in_range word.column (by_value of v) ≡ and_then (in_range word.column v) (λ value. in_range word.column (of value))) [ None ↦ refl | Some value ↦ refl ])
+]
+
+all_by_value : {X : Type 0} (within : Number → Option X) (of : ℤ → Option X) → IsByValue within of → (words : List PlacedWord) → all_of (map (item within) (before_end words)) ≡ all_of (map (item_by of) (before_end words))
+all_by_value within of same [] = refl
+all_by_value within of same (word ∷ words) = elim (is_end word) as (λ b. all_of (map (item within) (cond b [] (word ∷ before_end words))) ≡ all_of (map (item_by of) (cond b [] (word ∷ before_end words)))) [
+  | true ↦ refl
+  | false ↦ rw (item_in_range within of same word, all_by_value within of same words) refl
+]
+
+-- and a list the items
+pub listed_by_value : {X : Type 0} (within : Number → Option X) (of : ℤ → Option X) → IsByValue within of → (words : List PlacedWord) → listed (item within) words ≡ listed (item_by of) words
+listed_by_value within of same words = ap (λ xs. and_then xs (if_ended (list_any is_end words))) (all_by_value within of same words)
+
 -- what the number of the first word makes of the list
 abbrev pub after_numeral : {X : Type 0} → (ℤ → Option X) → Option Numeral → Result (Option X) LineFault
 after_numeral of None = Err NoZero
 after_numeral of (Some numeral) = cond (is_end_value numeral.value) (Ok None) (and_then (in_range numeral.column (of numeral.value)) (λ x. Ok (Some x)))
 
-next_item-numeral : {X : Type 0} (within : Number → Option X) (of : ℤ → Option X) → IsByValue within of → (words : List PlacedWord) → next_item (item within) words ≡ and_then (first_numeral words) (after_numeral of)
-next_item-numeral within of same [] = refl
-next_item-numeral within of same (word ∷ words) = rw (is_zeros-ends word.text) (elim (number_in word.text) as (λ o. cond (ends o) (Ok None) (and_then (ranged within word.column o) (λ x. Ok (Some x))) ≡ and_then (and_then (ranged value_in word.column o) (λ value. Ok (Some (record { column = word.column; value = value })))) (after_numeral of)) [
+pub next_numeral : {X : Type 0} (of : ℤ → Option X) (words : List PlacedWord) → next_item (item_by of) words ≡ and_then (first_numeral words) (after_numeral of)
+next_numeral of [] = refl
+next_numeral of (word ∷ words) = rw (is_zeros-ends word.text) (elim (number_in word.text) as (λ o. cond (ends o) (Ok None) (and_then (and_then (ranged value_in word.column o) (λ value. in_range word.column (of value))) (λ x. Ok (Some x))) ≡ and_then (and_then (ranged value_in word.column o) (λ value. Ok (Some (record { column = word.column; value = value })))) (after_numeral of)) [
   | None ↦ refl
-  | Some number ↦ rw (end_by_value number, same number) (elim (value_in number) as (λ v. cond (ends_value v) (Ok None) (and_then (in_range word.column (by_value of v)) (λ x. Ok (Some x))) ≡ and_then (and_then (in_range word.column v) (λ value. Ok (Some (record { column = word.column; value = value })))) (after_numeral of)) [ None ↦ refl | Some value ↦ refl ])
+  | Some number ↦ rw (end_by_value number) (elim (value_in number) as (λ v. cond (ends_value v) (Ok None) (and_then (and_then (in_range word.column v) (λ value. in_range word.column (of value))) (λ x. Ok (Some x))) ≡ and_then (and_then (in_range word.column v) (λ value. Ok (Some (record { column = word.column; value = value })))) (after_numeral of)) [ None ↦ refl | Some value ↦ refl ])
 ])
-
-pub next_literal : (words : List PlacedWord) → next_item (item literal_in) words ≡ and_then (first_numeral words) (after_numeral literal_of)
-next_literal words = next_item-numeral literal_in literal_of literal_by_value words
-
-pub next_hint : (words : List PlacedWord) → next_item (item hint_in) words ≡ and_then (first_numeral words) (after_numeral hint_of)
-next_hint words = next_item-numeral hint_in hint_of hint_by_value words
-
-pub next_id : (words : List PlacedWord) → next_item (item id_in) words ≡ and_then (first_numeral words) (after_numeral id_of)
-next_id words = next_item-numeral id_in id_of id_by_value words

@@ -8,10 +8,10 @@ use Rattle.lls_prooflog.specs.declared.line_fault.LineFault.{LineFault}
 use Rattle.lls_prooflog.specs.declared.line_fault.LineFault.TheVariants.{BadWord, Range}
 use Rattle.lls_prooflog.specs.declared.number.Number.{Number}
 use Rattle.lls_prooflog.specs.declared.numeral.Numeral.{Numeral}
-use Rattle.lls_prooflog.specs.Number.{number_in, id_in, leading_in, in_range, ranged, item}
-use Rattle.lls_prooflog.specs.Line.{comment, addition, deletion, begins_d, step_of_words, step_of_line}
-use Rattle.lls_prooflog.specs.Numeral.{value_in, id_of, leading_of, first_numeral, addition_from, deletion_from}
-use Rattle.lls_prooflog.proofs.Ends.{by_value, IsByValue, id_by_value, leading_by_value}
+use Rattle.lls_prooflog.specs.Number.{number_in, id_in, leading_in, literal_in, hint_in, in_range, ranged, item}
+use Rattle.lls_prooflog.specs.Line.{comment, behind_end, addition, deletion, begins_d, step_of_words, step_of_line}
+use Rattle.lls_prooflog.specs.Numeral.{value_in, id_of, leading_of, literal_of, hint_of, first_numeral, addition_from, deletion_from}
+use Rattle.lls_prooflog.proofs.Ends.{by_value, IsByValue, id_by_value, leading_by_value, literal_by_value, hint_by_value, listed_by_value}
 
 abbrev numeral_at : ℕ → ℤ → Numeral
 numeral_at column value = record { column = column; value = value }
@@ -30,11 +30,11 @@ item_first within of same word words first e =
 
 words_addition : (words : List PlacedWord) (first : Numeral) → Ok (Some first) ≡ first_numeral words → begins_d (drop 1 words) ≡ false → step_of_words words ≡ addition_from first (drop 1 words)
 words_addition [] first e no_d = absurd cc
-words_addition (word ∷ words) first e no_d = rw (no_d, item_first id_in id_of id_by_value word words first e) refl
+words_addition (word ∷ words) first e no_d = rw (no_d, item_first id_in id_of id_by_value word words first e, listed_by_value literal_in literal_of literal_by_value words, listed_by_value hint_in hint_of hint_by_value (behind_end words)) refl
 
 words_deletion : (words : List PlacedWord) (first : Numeral) → Ok (Some first) ≡ first_numeral words → begins_d (drop 1 words) ≡ true → step_of_words words ≡ deletion_from first (drop 1 (drop 1 words))
 words_deletion [] first e d = absurd cc
-words_deletion (word ∷ words) first e d = rw (d, item_first leading_in leading_of leading_by_value word words first e) refl
+words_deletion (word ∷ words) first e d = rw (d, item_first leading_in leading_of leading_by_value word words first e, listed_by_value id_in id_of id_by_value (drop 1 words)) refl
 
 no_comment : (line : List ℕ) (words : List PlacedWord) → begins_with comment line ≡ false → words ≡ words_of line → step_of_line line ≡ step_of_words words
 no_comment line words none e = rw (none, e) refl

@@ -11,7 +11,7 @@ use Rattle.lls_prooflog.specs.declared.numeral.Numeral.{Numeral}
 use Rattle.lls_prooflog.specs.declared.step.Step.{Step}
 use Rattle.lls_prooflog.specs.declared.step.Step.TheVariants.{Add, Del}
 use Rattle.lls_prooflog.specs.declared.step.TheConstants.Step.{MOST_ID}
-use Rattle.lls_prooflog.specs.Number.{number_in, value_of, in_range, literal_in, hint_in, id_in, item}
+use Rattle.lls_prooflog.specs.Number.{number_in, value_of, in_range, item}
 use Rattle.lls_prooflog.specs.Line.{is_end, behind_end, listed, step_alone}
 
 -- the value of a number that is in some range: no longer than an id, and not -0
@@ -47,6 +47,10 @@ abbrev pub leading_of : ℤ → Option ℕ
 leading_of (pos n) = Some n
 leading_of (negsuc n) = None
 
+-- what a word writes, by its value, or its fault
+abbrev pub item_by : {X : Type 0} → (ℤ → Option X) → PlacedWord → Result X LineFault
+item_by of word = and_then (item value_in word) (λ value. in_range word.column (of value))
+
 -- the first word as a number, None where there is no word, or the word's fault
 abbrev pub first_numeral : List PlacedWord → Result (Option Numeral) LineFault
 first_numeral [] = Ok None
@@ -67,11 +71,11 @@ unless_more (word ∷ words) = Err (Extra word.column)
 abbrev pub addition_from : Numeral → List PlacedWord → Result (Option Step) LineFault
 addition_from first words =
     and_then (in_range first.column (id_of first.value)) (λ id.
-    and_then (listed (item literal_in) words) (λ lits.
-    and_then (listed (item hint_in) (behind_end words)) (λ hints.
+    and_then (listed (item_by literal_of) words) (λ lits.
+    and_then (listed (item_by hint_of) (behind_end words)) (λ hints.
     step_alone (Add id lits hints) (behind_end (behind_end words)))))
 
 abbrev pub deletion_from : Numeral → List PlacedWord → Result (Option Step) LineFault
 deletion_from first words =
     and_then (in_range first.column (leading_of first.value)) (λ _.
-    and_then (listed (item id_in) words) (λ ids. step_alone (Del ids) (behind_end words)))
+    and_then (listed (item_by id_of) words) (λ ids. step_alone (Del ids) (behind_end words)))

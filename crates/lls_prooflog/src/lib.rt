@@ -10,6 +10,7 @@ mod hints_ref;
 mod id_buffers;
 mod ids;
 mod ids_ref;
+mod kind;
 mod line_error;
 mod line_fault;
 mod lits;

@@ -1,10 +1,10 @@
 // A word of a line that writes a number.
 ghost use Rattle.std.specs.Prelude.{◌≡◌};
 ghost use Rattle.lls_prooflog.specs.Number.{in_range};
-ghost use Rattle.lls_prooflog.specs.Numeral.{is_end_value, id_of, leading_of, literal_of, hint_of};
+ghost use Rattle.lls_prooflog.specs.Numeral.{is_end_value};
 
 use crate::LineFault;
-use lls_lit::{Lit, Var};
+use crate::kind::Kind;
 
 /// A number, and the column of its word.
 ///
@@ -23,43 +23,13 @@ impl Numeral {
         self.value == 0
     }
 
-    pub(crate) fn id(&self) -> Result<u64, LineFault>
-        ensures { result ≡ in_range self.now.column (id_of self.now.value) }
+    /// What is kept of the number as one of that kind, or `Range` where it can't be one.
+    pub(crate) fn read<K: Kind>(&self) -> Result<K::Item, LineFault>
+        ensures { result ≡ in_range self.now.column (K.item_of self.now.value) }
     {
-        if self.value < 1 {
-            return Err(LineFault::Range(self.column));
-        }
-        Ok(self.value as u64)
-    }
-
-    /// The number before the `d` of a deletion.
-    pub(crate) fn leading(&self) -> Result<u64, LineFault>
-        ensures { result ≡ in_range self.now.column (leading_of self.now.value) }
-    {
-        if self.value < 0 {
-            return Err(LineFault::Range(self.column));
-        }
-        Ok(self.value as u64)
-    }
-
-    pub(crate) fn literal(&self) -> Result<Lit, LineFault>
-        ensures { result ≡ in_range self.now.column (literal_of self.now.value) }
-    {
-        if self.value.unsigned_abs() > u64::from(Var::MOST) {
-            return Err(LineFault::Range(self.column));
-        }
-        match Lit::from_number(self.value as i32) {
-            Some(lit) => Ok(lit),
+        match K::from_number(self.value) {
+            Some(item) => Ok(item),
             None => Err(LineFault::Range(self.column)),
         }
-    }
-
-    pub(crate) fn hint(&self) -> Result<i64, LineFault>
-        ensures { result ≡ in_range self.now.column (hint_of self.now.value) }
-    {
-        if self.value == 0 {
-            return Err(LineFault::Range(self.column));
-        }
-        Ok(self.value)
     }
 }

@@ -1,14 +1,14 @@
 // The step that a line of a proof writes.
 ghost use Rattle.std.specs.Prelude.{◌≡◌, drop, Some, OnOk, IfOk, IfSome};
 ghost use Rattle.std.specs.Option.{option_map};
-ghost use Rattle.lls_prooflog.specs.Number.{id_in, literal_in, hint_in, item};
 ghost use Rattle.lls_prooflog.specs.Range.{IsInRange};
 ghost use Rattle.lls_base.specs.Results.{GivesWrapped};
 ghost use Rattle.lls_prooflog.specs.Line.{behind_end, listed, step_of_line};
-ghost use Rattle.lls_prooflog.specs.Numeral.{next_item, unless_more, addition_from, deletion_from};
+ghost use Rattle.lls_prooflog.specs.Numeral.{item_by, next_item, unless_more, addition_from, deletion_from};
 ghost use Rattle.lls_prooflog.specs.declared.step.Step.TheVariants.{Add, Del};
 ghost use Rattle.lls_prooflog.specs.Log.{step_of_ref};
 
+use crate::kind::{Hint, Id, Kind, Leading, Literal};
 use crate::numeral::Numeral;
 use crate::numerals::Numerals;
 use crate::{Addition, HintsRef, IdsRef, LineError, LineFault, Step, StepRef};
@@ -89,9 +89,9 @@ fn read_addition(
         (addition_from first.now numerals.entry) }
 {
     let mut numerals = numerals;
-    let id = first.id()?;
-    read_lits(&mut numerals, lits)?;
-    read_hints(&mut numerals, hints)?;
+    let id = first.read::<Id>()?;
+    read_list::<Literal>(&mut numerals, lits)?;
+    read_list::<Hint>(&mut numerals, hints)?;
     alone(&numerals)?;
     Ok(id)
 }
@@ -101,8 +101,8 @@ fn read_deletion(first: &Numeral, numerals: Numerals, ids: &mut Vec<u64>) -> Res
     ensures { GivesWrapped LineError.Fault (λ _. Some (Del ids.new.items)) result (deletion_from first.now numerals.entry) }
 {
     let mut numerals = numerals;
-    first.leading()?;
-    read_ids(&mut numerals, ids)?;
+    first.read::<Leading>()?;
+    read_list::<Id>(&mut numerals, ids)?;
     alone(&numerals)?;
     Ok(())
 }
@@ -117,43 +117,22 @@ fn alone(numerals: &Numerals) -> Result<(), LineFault>
     }
 }
 
-fn read_lits(numerals: &mut Numerals, lits: &mut Vec<Lit>) -> Result<(), LineError>
-    ensures lits { GivesWrapped LineError.Fault (λ _. lits.new.items) result (listed (item literal_in) numerals.old) }
+// The list that the next words write, up to its end.
+fn read_list<K: Kind>(numerals: &mut Numerals, items: &mut Vec<K::Item>) -> Result<(), LineError>
+    ensures items { GivesWrapped LineError.Fault (λ _. items.new.items) result (listed (item_by K.item_of) numerals.old) }
     ensures behind { OnOk result (numerals.new ≡ behind_end numerals.old) }
 {
-    lits.clear();
-    while let Some(lit) = next_lit(numerals)? {
-        lits.push(lit)?;
+    items.clear();
+    while let Some(item) = next_item::<K>(numerals)? {
+        items.push(item)?;
     }
     Ok(())
 }
 
-fn read_hints(numerals: &mut Numerals, hints: &mut Vec<i64>) -> Result<(), LineError>
-    ensures hints { GivesWrapped LineError.Fault (λ _. hints.new.items) result (listed (item hint_in) numerals.old) }
-    ensures behind { OnOk result (numerals.new ≡ behind_end numerals.old) }
-{
-    hints.clear();
-    while let Some(hint) = next_hint(numerals)? {
-        hints.push(hint)?;
-    }
-    Ok(())
-}
-
-fn read_ids(numerals: &mut Numerals, ids: &mut Vec<u64>) -> Result<(), LineError>
-    ensures ids { GivesWrapped LineError.Fault (λ _. ids.new.items) result (listed (item id_in) numerals.old) }
-    ensures behind { OnOk result (numerals.new ≡ behind_end numerals.old) }
-{
-    ids.clear();
-    while let Some(id) = next_id(numerals)? {
-        ids.push(id)?;
-    }
-    Ok(())
-}
-
-// The next literal of a list, or None at its end.
-#[tactic(auto, using(crate::proofs::Ends::next_literal))]
-fn next_lit(numerals: &mut Numerals) -> Result<Option<Lit>, LineFault>
-    ensures lit { result ≡ next_item (item literal_in) numerals.old }
+// The next item of a list, or None at its end.
+#[tactic(auto, using(crate::proofs::Ends::next_numeral))]
+fn next_item<K: Kind>(numerals: &mut Numerals) -> Result<Option<K::Item>, LineFault>
+    ensures item { result ≡ next_item (item_by K.item_of) numerals.old }
     ensures rest { OnOk result (numerals.new ≡ drop 1 numerals.old) }
 {
     let Some(numeral) = numerals.next()? else {
@@ -162,33 +141,5 @@ fn next_lit(numerals: &mut Numerals) -> Result<Option<Lit>, LineFault>
     if numeral.is_end() {
         return Ok(None);
     }
-    Ok(Some(numeral.literal()?))
-}
-
-#[tactic(auto, using(crate::proofs::Ends::next_hint))]
-fn next_hint(numerals: &mut Numerals) -> Result<Option<i64>, LineFault>
-    ensures hint { result ≡ next_item (item hint_in) numerals.old }
-    ensures rest { OnOk result (numerals.new ≡ drop 1 numerals.old) }
-{
-    let Some(numeral) = numerals.next()? else {
-        return Err(LineFault::NoZero);
-    };
-    if numeral.is_end() {
-        return Ok(None);
-    }
-    Ok(Some(numeral.hint()?))
-}
-
-#[tactic(auto, using(crate::proofs::Ends::next_id))]
-fn next_id(numerals: &mut Numerals) -> Result<Option<u64>, LineFault>
-    ensures id { result ≡ next_item (item id_in) numerals.old }
-    ensures rest { OnOk result (numerals.new ≡ drop 1 numerals.old) }
-{
-    let Some(numeral) = numerals.next()? else {
-        return Err(LineFault::NoZero);
-    };
-    if numeral.is_end() {
-        return Ok(None);
-    }
-    Ok(Some(numeral.id()?))
+    Ok(Some(numeral.read::<K>()?))
 }

@@ -24,6 +24,19 @@ returns-then-take_d c =
     let exact : step_of_line line ≡ Ok (Some (Del c.deref.result.now)) = line_deletion line words c.in-Some.first none c.new-numerals.ensures first d ∙ read in
     record { exact = exact; in_range = line_in_range line (Del c.deref.result.now) exact }
 
+pub returns-in_err-read_deletion : goal.returns-in_err-read_deletion
+returns-in_err-read_deletion c =
+    let line = c.args.line.now in
+    let words = c.new-numerals.result in
+    let none : begins_with comment line ≡ false = sym c.begins_with.ensures ∙ c.if-begins_with.false in
+    let first : Ok (Some c.in-Some.first) ≡ first_numeral words = rw (← c.in-Some.is) c.in_ok-first.ensures.numeral in
+    let d : begins_d (drop 1 words) ≡ true = rw (← c.in_ok-first.ensures.rest) (sym c.take_d.ensures.found ∙ c.if-take_d.true) in
+    let left : c.take_d.new.self ≡ drop 1 (drop 1 words) = rw (c.take_d.ensures.rest, c.if-take_d.true, c.in_ok-first.ensures.rest) refl in
+    record {
+      exact = given_error c.from_residual-in_err-read_deletion.result c.in_err-read_deletion.field-0.0 _ _ c.from_residual-in_err-read_deletion.ensures.1 (λ fault is. line_deletion line words c.in-Some.first none c.new-numerals.ensures first d ∙ rw (← left) (c.in_err-read_deletion.ensures fault is));
+      in_range = if_error c.from_residual-in_err-read_deletion.result (λ e. e ≡ c.in_err-read_deletion.field-0.0) (λ step. IfSome step (λ s. IsInRange (step_of_ref s))) c.from_residual-in_err-read_deletion.ensures.1;
+    }
+
 pub returns-in_err-id : goal.returns-in_err-id
 returns-in_err-id c =
     let line = c.args.line.now in
