@@ -3,6 +3,7 @@ pub mod Stored
 pub mod Placed
 pub mod Hinted
 pub mod Left
+pub mod Assumed
 pub mod Checking
 pub mod Verdict
 pub mod UnderWay
