@@ -7,8 +7,7 @@ use Rattle.lls_store.specs.Closed.{IsClosed}
 use Rattle.lls_lit.specs.Formula.{Cnf}
 use Rattle.lls_prooflog.specs.Spent.{live_after}
 use Rattle.lls_prooflog.specs.declared.step.Step.{Step}
-use Rattle.lls_order.specs.Order.{OrderState}
-use Rattle.lls_solver.specs.Course.{IsCourse, AreClosedBelow}
+use Rattle.lls_solver.specs.Course.{IsOnCourse, AreClosedBelow}
 use Rattle.lls_solver.specs.Searching.{additions, HoldsClauses, IsSearching}
 
 pub sound_kept : (s t : StoreState) (trail : TrailState) → s ≡ t → IsSound s.live trail → IsSound t.live trail
@@ -32,13 +31,13 @@ closed_below_kept s t trail same closed = subst (λ (x : StoreState). AreClosedB
 pub closed_below_moved : (s : StoreState) (old new : TrailState) → old ≡ new → AreClosedBelow s.live old → AreClosedBelow s.live new
 closed_below_moved s old new same closed = subst (λ (x : TrailState). AreClosedBelow s.live x) same closed
 
+pub on_course_kept : (s t : StoreState) (trail : TrailState) → s ≡ t → IsOnCourse s trail → IsOnCourse t trail
+on_course_kept s t trail same on = subst (λ (x : StoreState). IsOnCourse x trail) same on
+
 -- a search goes on over the same clauses with another trail, of which the store in between tells
-pub searching_kept : (formula : Cnf) (steps : List Step) (s middle t : StoreState) (old new : TrailState) (before after : OrderState) (phases more : ℕ) → IsSearching formula steps s old before phases → middle ≡ s → t ≡ middle
-    → IsCourse middle.vars new after more → IsSound middle.live new → AreClosedBelow middle.live new → IsSearching formula steps t new after more
-searching_kept formula steps s middle t old new before after phases more h first second course sound closed = record {
+pub searching_kept : (formula : Cnf) (steps : List Step) (s middle t : StoreState) (old new : TrailState) → IsSearching formula steps s old → middle ≡ s → t ≡ middle → IsOnCourse middle new → IsSearching formula steps t new
+searching_kept formula steps s middle t old new h first second on = record {
   holds = subst (λ (x : StoreState). HoldsClauses x formula.vars (live_after formula steps) (length formula.clauses + additions steps)) (sym (second ∙ first)) h.holds;
   log = h.log;
-  course = subst (λ (x : StoreState). IsCourse x.vars new after more) (sym second) course;
-  sound = sound_kept middle t new (sym second) sound;
-  closed_below = closed_below_kept middle t new (sym second) closed;
+  on_course = on_course_kept middle t new (sym second) on;
 }

@@ -121,9 +121,8 @@ pub known_at_level : (o : Option Entry) (level : ℕ) → option_map (λ (e : En
 known_at_level None level is = absurd cc
 known_at_level (Some e) level is = refl
 
-pub test_told : (t now : TrailState) (k level : ℕ) (l : ℤ) (test : Bool) → (read : IsRead t k l) → now ≡ t → test ≡ option_map_or (nat_lt level) (level_of now.entries (variable_of l)) false → test ≡ nat_lt level read.entry.level
-test_told t now k level l test read same is =
-    is ∙ ap (λ (s : TrailState). option_map_or (nat_lt level) (level_of s.entries (variable_of l)) false) same ∙ ap (λ o. option_map_or (nat_lt level) o false) read.level
+pub test_told : (t : TrailState) (k level : ℕ) (l : ℤ) (test : Bool) → (read : IsRead t k l) → test ≡ option_map_or (nat_lt level) (level_of t.entries (variable_of l)) false → test ≡ nat_lt level read.entry.level
+test_told t k level l test read is = is ∙ ap (λ o. option_map_or (nat_lt level) o false) read.level
 
 pub above_told : (level n : ℕ) (test : Bool) → test ≡ nat_lt level n → test ≡ true → level < n
 above_told level n test is passes = let e : nat_lt level n ≡ true = sym is ∙ passes in grind (arith, nat_tests)

@@ -7,3 +7,4 @@ pub mod Satisfied
 pub mod Logs
 pub mod Learning
 pub mod Below
+mod Start

@@ -20,7 +20,6 @@ use Rattle.std.proofs.Math.Bool.{or-true}
 use Rattle.std.proofs.lemmas.Bool.Decides.{Decides-int_eq}
 use Rattle.std.proofs.lemmas.List.Folds.{list_any-append}
 use Rattle.lls_store.proofs.Values.{same_variable, variable_of-negation}
-use Rattle.lls_store.proofs.Tabled.{variable_bounds, variable_within}
 use Rattle.lls_store.specs.Store.{GoesOn}
 use Rattle.lls_order.specs.Order.{OrderState, is_in, IsEmpty}
 use Rattle.lls_order.specs.Changes.{put_in, taken_out}
@@ -73,11 +72,10 @@ all_set vars entries order same empty waiting l within unset =
     let clash : false ≡ true = sym (empty (variable_of l)) ∙ waiting l (subst (λ n. is_literal_of n l ≡ true) (sym same) within) unset in
     absurd cc
 
-pub literal_of_more : (v vars : ℕ) (l : ℤ) → is_literal_of v l ≡ true → v ≤ vars → is_literal_of vars l ≡ true
-literal_of_more v vars l within le = let bounds = variable_bounds v (variable_of l) within in variable_within vars (variable_of l) bounds.0 (omega (arith, bounds.1, le))
-
-pub literal_least : (vars : ℕ) (l : ℤ) → is_literal_of vars l ≡ true → 1 ≤ variable_of l
-literal_least vars l within = (variable_bounds vars (variable_of l) within).0
+-- a variable that is in is one
+pub in_least : (order : OrderState) (v : ℕ) → is_in order v ≡ true → 1 ≤ v
+in_least order zero stands = absurd cc
+in_least order (suc n) stands = omega arith
 
 pub none_some : (b : Bool) → ¬ (None ≡ Some b)
 none_some b e = cc

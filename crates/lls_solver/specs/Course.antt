@@ -1,11 +1,12 @@
 -- Values of variables, and an order that has the variables without one.
-use Rattle.std.specs.Prelude.{◌≡◌, ◌≢◌, ◌≤◌, ℕ, ℤ, true, List}
+use Rattle.std.specs.Prelude.{◌≡◌, ◌≢◌, ◌≤◌, ℕ, ℤ, pos, true, List}
 use Rattle.lls_lit.specs.Literal.{variable_of}
 use Rattle.lls_lit.specs.Formula.{is_literal_of}
 use Rattle.lls_store.specs.Trail.{Entry, TrailState, IsTrail, IsUnset}
 use Rattle.lls_store.specs.Changes.{decided}
 use Rattle.lls_store.specs.Clauses.{LiveClause}
 use Rattle.lls_store.specs.Closed.{IsClosed, AreSettled, entries_below}
+use Rattle.lls_store.specs.Sound.{IsSound}
 use Rattle.lls_store.specs.Store.{StoreState}
 use Rattle.lls_order.specs.Order.{OrderState, is_in}
 
@@ -23,18 +24,17 @@ abbrev pub AllSet : ℕ → List Entry → Type 0
 AllSet vars entries = (l : ℤ) → is_literal_of vars l ≡ true → ¬ IsUnset entries l
 
 -- a trail, an order that has what it lacks, and a value that each variable had last
-pub record IsCourse (vars : ℕ) (trail : TrailState) (order : OrderState) (phases : ℕ) : Type 0 where
+pub record IsCourse (trail : TrailState) (order : OrderState) (phases : ℕ) : Type 0 where
   pub is_trail : IsTrail trail
-  pub trail_vars : trail.vars ≡ vars
-  pub order_vars : order.vars ≡ vars
-  pub phase_each : phases ≡ vars
+  pub order_vars : order.vars ≡ trail.vars
+  pub phase_each : phases ≡ trail.vars
   pub waiting : AreWaiting trail.entries order
 
--- a literal that has no value, and is the only one that neither has one nor waits
-pub record IsNext (vars : ℕ) (entries : List Entry) (order : OrderState) (l : ℤ) : Type 0 where
-  pub within : is_literal_of vars l ≡ true
-  pub unset : IsUnset entries l
-  pub others : AreWaitingBut (variable_of l) entries order
+-- a variable that has no value, and is the only one that neither has one nor waits
+pub record IsNext (vars : ℕ) (entries : List Entry) (order : OrderState) (v : ℕ) : Type 0 where
+  pub within : v ≤ vars
+  pub unset : IsUnset entries (pos v)
+  pub others : AreWaitingBut v entries order
 
 -- some literal without a value was decided
 pub record IsDecision (old new : TrailState) : Type 0 where
@@ -45,6 +45,11 @@ pub record IsDecision (old new : TrailState) : Type 0 where
 -- before each level began, propagation had nothing to do
 abbrev pub AreClosedBelow : List LiveClause → TrailState → Type 0
 AreClosedBelow live trail = (level : ℕ) → 1 ≤ level → level ≤ trail.current → AreSettled live (entries_below level trail.entries)
+
+-- a trail over a store's clauses whose reasons are sound, and each of whose levels began where propagation had nothing to do
+pub record IsOnCourse (store : StoreState) (trail : TrailState) : Type 0 where
+  pub sound : IsSound store.live trail
+  pub closed_below : AreClosedBelow store.live trail
 
 -- nothing is left to decide or to propagate
 pub record IsComplete (store : StoreState) (trail : TrailState) : Type 0 where

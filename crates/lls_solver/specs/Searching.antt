@@ -8,10 +8,8 @@ use Rattle.lls_prooflog.specs.Spent.{EachStep, IsGood, IsFreshAddition, IsLateDe
 use Rattle.lls_prooflog.specs.declared.step.Step.{Step}
 use Rattle.lls_prooflog.specs.declared.step.Step.TheVariants.{Add, Del}
 use Rattle.lls_store.specs.Trail.{TrailState}
-use Rattle.lls_store.specs.Sound.{IsSound}
 use Rattle.lls_store.specs.Store.{StoreState}
-use Rattle.lls_order.specs.Order.{OrderState}
-use Rattle.lls_solver.specs.Course.{IsCourse, AreClosedBelow}
+use Rattle.lls_solver.specs.Course.{IsOnCourse}
 use Rattle.lls_analyse.specs.Spelled.{Spells}
 
 abbrev pub ids_of : Live → List ℕ
@@ -52,12 +50,10 @@ pub record IsGoodLog (formula : Cnf) (steps : List Step) : Type 0 where
   pub none_empty : list_all (λ step. not (is_empty_addition step)) steps ≡ true
 
 -- what holds between two conflicts
-pub record IsSearching (formula : Cnf) (steps : List Step) (store : StoreState) (trail : TrailState) (order : OrderState) (phases : ℕ) : Type 0 where
+pub record IsSearching (formula : Cnf) (steps : List Step) (store : StoreState) (trail : TrailState) : Type 0 where
   pub holds : HoldsClauses store formula.vars (live_after formula steps) (length formula.clauses + additions steps)
   pub log : IsGoodLog formula steps
-  pub course : IsCourse store.vars trail order phases
-  pub sound : IsSound store.live trail
-  pub closed_below : AreClosedBelow store.live trail
+  pub on_course : IsOnCourse store trail
 
 -- an assignment of the formula's variables that satisfies it
 pub record IsModel (formula : Cnf) (values : List Bool) : Type 0 where

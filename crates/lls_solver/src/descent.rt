@@ -1,8 +1,7 @@
 // Unit propagation and decisions, one after the other.
-ghost use Rattle.std.specs.Prelude.{◌≡◌, ◌≤◌, ℕ, length};
-ghost use Rattle.lls_store.specs.Sound.{IsSound};
+ghost use Rattle.std.specs.Prelude.{◌≡◌, ℕ};
 ghost use Rattle.lls_store.specs.Store.{IsConflict};
-ghost use Rattle.lls_solver.specs.Course.{IsCourse, IsComplete, AreClosedBelow};
+ghost use Rattle.lls_solver.specs.Course.{IsComplete, IsOnCourse};
 
 use crate::course::Course;
 use lls_store::Store;
@@ -18,17 +17,13 @@ pub(crate) enum Descent {
 
 /// Propagates and decides until a clause is false or every variable has a value.
 pub(crate) fn descend<S: Store>(store: &mut S, course: &mut Course) -> Descent
-    requires course { IsCourse (S.state store.old).vars course.old.trail course.old.order (length course.old.phases.items) }
-    requires tracked { S.tracks store.old course.old.trail }
-    requires sound { IsSound (S.state store.old).live course.old.trail }
-    requires closed_below { AreClosedBelow (S.state store.old).live course.old.trail }
-    ensures conflict { (c : ℕ) → result ≡ Descent.Conflict c → IsConflict (S.state store.old).live course.new.trail c }
-    ensures complete { result ≡ Descent.Complete → IsComplete (S.state store.old) course.new.trail }
-    ensures course { IsCourse (S.state store.old).vars course.new.trail course.new.order (length course.new.phases.items) }
+    requires tracked { S.tracks store.old course.old }
+    requires on_course { IsOnCourse (S.state store.old) course.old }
+    ensures conflict { (c : ℕ) → result ≡ Descent.Conflict c → IsConflict (S.state store.old).live course.new c }
+    ensures complete { result ≡ Descent.Complete → IsComplete (S.state store.old) course.new }
     ensures state { S.state store.new ≡ S.state store.old }
-    ensures tracked { S.tracks store.new course.new.trail }
-    ensures sound { IsSound (S.state store.old).live course.new.trail }
-    ensures closed_below { AreClosedBelow (S.state store.old).live course.new.trail }
+    ensures tracked { S.tracks store.new course.new }
+    ensures on_course { IsOnCourse (S.state store.old) course.new }
 {
     loop {
         if let Some(c) = course.propagate(store) {

@@ -75,8 +75,8 @@ pub(crate) fn solve_over<S: Store>(
     budget: u32,
     keep_all: bool,
 ) -> Result<Outcome, Memory>
-    requires searching { IsSearching formula.now log.old.steps (S.state store.old) course.old.trail course.old.order (length course.old.phases.items) }
-    requires tracked { S.tracks store.old course.old.trail }
+    requires searching { IsSearching formula.now log.old.steps (S.state store.old) course.old }
+    requires tracked { S.tracks store.old course.old }
     requires analyser { analyser.old ≡ formula.now.vars }
     requires none { log.old.steps ≡ [] }
     requires budget { budget ≤ MOST_BUDGET }
@@ -114,13 +114,12 @@ fn found<S: Store>(
     course: &Course,
 ) -> Result<Assignment, Memory>
     requires holds { HoldsFormula formula.now (S.state store.now) }
-    requires vars { course.now.trail.vars ≡ formula.now.vars }
-    requires complete { IsComplete (S.state store.now) course.now.trail }
+    requires tracked { S.tracks store.now course.now }
+    requires complete { IsComplete (S.state store.now) course.now }
     ensures { IfOk result (IsModel formula.now) }
 {
-    // What holds of all live clauses and of every trail is known from here on.
+    // What holds of all live clauses is known from here on.
     let _count = store.count();
-    let _len = course.trail.len();
     let values = values_of(alloc, &course.trail, formula.vars())?;
     Ok(Assignment::new(values))
 }
@@ -134,14 +133,14 @@ fn learn_from<S: Store>(
     log: &mut Log,
     conflict: u32,
 ) -> Result<(), Memory>
-    requires searching { IsSearching formula.now log.old.steps (S.state store.old) course.old.trail course.old.order (length course.old.phases.items) }
-    requires tracked { S.tracks store.old course.old.trail }
+    requires searching { IsSearching formula.now log.old.steps (S.state store.old) course.old }
+    requires tracked { S.tracks store.old course.old }
     requires analyser { analyser.old ≡ formula.now.vars }
     requires few { additions log.old.steps < MOST_BUDGET }
-    requires level { 0 < course.old.trail.current }
-    requires conflict { IsCurrentConflict (S.state store.old).live course.old.trail conflict }
-    ensures searching { OnOk result (IsSearching formula.now log.new.steps (S.state store.new) course.new.trail course.new.order (length course.new.phases.items)) }
-    ensures tracked { OnOk result (S.tracks store.new course.new.trail) }
+    requires level { 0 < course.old.current }
+    requires conflict { IsCurrentConflict (S.state store.old).live course.old conflict }
+    ensures searching { OnOk result (IsSearching formula.now log.new.steps (S.state store.new) course.new) }
+    ensures tracked { OnOk result (S.tracks store.new course.new) }
     ensures additions { OnOk result (additions log.new.steps ≡ additions log.old.steps + 1) }
     ensures kept { OnOk result ((keep_all : Bool) → KeepsAll keep_all log.old.steps → KeepsAll keep_all log.new.steps) }
     ensures analyser { analyser.new ≡ analyser.old }
@@ -168,12 +167,12 @@ fn learn_further<S: Store>(
     log: &Log,
     conflict: u32,
 ) -> Result<(), Memory>
-    requires searching { IsSearching formula.now log.now.steps (S.state store.old) course.now.trail course.now.order (length course.now.phases.items) }
-    requires tracked { S.tracks store.old course.now.trail }
+    requires searching { IsSearching formula.now log.now.steps (S.state store.old) course.now }
+    requires tracked { S.tracks store.old course.now }
     requires analyser { analyser.old ≡ formula.now.vars }
     requires few { additions log.now.steps ≤ MOST_BUDGET }
-    requires level { 0 < course.now.trail.current }
-    requires conflict { IsCurrentConflict (S.state store.old).live course.now.trail conflict }
+    requires level { 0 < course.now.current }
+    requires conflict { IsCurrentConflict (S.state store.old).live course.now conflict }
     ensures further { OnOk result (SomeCanBeLearnt formula.now.vars (live_after formula.now log.now.steps)) }
 {
     let mut further = Log::new(alloc);
@@ -192,12 +191,12 @@ fn refute_by<S: Store>(
     log: &mut Log,
     conflict: u32,
 ) -> Result<(), Memory>
-    requires searching { IsSearching formula.now log.old.steps (S.state store.old) course.now.trail course.now.order (length course.now.phases.items) }
-    requires tracked { S.tracks store.old course.now.trail }
+    requires searching { IsSearching formula.now log.old.steps (S.state store.old) course.now }
+    requires tracked { S.tracks store.old course.now }
     requires analyser { analyser.old ≡ formula.now.vars }
     requires few { additions log.old.steps ≤ MOST_BUDGET }
-    requires level { course.now.trail.current ≡ 0 }
-    requires conflict { IsConflict (S.state store.old).live course.now.trail conflict }
+    requires level { course.now.current ≡ 0 }
+    requires conflict { IsConflict (S.state store.old).live course.now conflict }
     ensures refutation { OnOk result ((budget : ℕ) → additions log.old.steps ≤ budget → IsRefutation formula.now budget log.new.steps) }
     ensures kept { OnOk result ((keep_all : Bool) → KeepsAll keep_all log.old.steps → KeepsAll keep_all log.new.steps) }
     ensures err { OnErr result (log.new.steps ≡ log.old.steps) }

@@ -2,7 +2,6 @@
 ghost use Rattle.std.specs.Prelude.{◌≡◌, ◌<◌, ◌≤◌, [], true, IfOk};
 ghost use Rattle.lls_lit.specs.Formula.{is_literal_of};
 
-use crate::course::literal;
 use crate::*;
 use lls_cnf::{Formula, MOST_DIMACS_BYTES, holds, read_dimacs};
 use lls_lit::{Lit, Var};
@@ -86,12 +85,7 @@ impl Draws {
         ensures { IfOk result (λ lit. is_literal_of vars lit ≡ true) }
     {
         let var = Var::from_number(self.below(vars) + 1).ok_or("a variable")?;
-        let lit = literal(var);
-        Ok(if self.below(2) == 0 {
-            lit
-        } else {
-            lit.negated()
-        })
+        Ok(Lit::new(var, self.below(2) == 0))
     }
 }
 

@@ -29,8 +29,8 @@ fn is_true(trail: &Trail, n: u32) -> bool
     requires most { trail.now.vars ≤ Var.MOST }
     ensures { result ≡ has trail.now.entries (pos (n + 1)) }
 {
-    let lit = Lit::from_number(n as i32 + 1).unwrap();
-    match trail.value(lit) {
+    let var = Var::from_number(n + 1).unwrap();
+    match trail.value(Lit::new(var, true)) {
         Some(value) => value,
         None => false,
     }

@@ -1,25 +1,27 @@
-use Rattle.std.proofs.Common.{◌++◌, ◌∙◌, subst}
+use Rattle.std.proofs.Common.{◌++◌, ◌∙◌, sym, subst}
 use Rattle.std.specs.Prelude.{All}
 use Rattle.lls_prooflog.specs.UnitWalk.{numbered}
 use Rattle.lls_store.specs.Clauses.{LiveClause}
 use Rattle.lls_store.specs.Store.{AreWithin}
-use Rattle.lls_solver.specs.Course.{AllSet}
+use Rattle.lls_solver.specs.Course.{AllSet, IsComplete}
+use Rattle.lls_analyse.proofs.Trails.{consistent_trail}
 use Rattle.lls_solver.proofs.Satisfied.{IsWhole, clauses_true, satisfies_front}
 use Rattle.lls_solver.proofs.solving.found.Goals as goal
 
 pub returns : goal.returns
 returns g c =
     let s = g.S.Store.state c.args.store.now in
-    let t = c.args.course.now.trail in
+    let t = c.course.inside.trail in
+    let complete = subst (IsComplete s) (sym c.course.view_is) c.requires.complete in
     let formula = c.args.formula.now in
     let h = c.requires.holds in
     let values = c.in_ok-values.values.items in
     let whole : IsWhole formula.vars t.entries values = record {
       are_values = c.in_ok-values.ensures.values;
       many = c.in_ok-values.ensures.len ∙ c.vars.ensures.vars;
-      consistent = c.len-len.ensures.consistent;
-      all_set = subst (λ n. AllSet n t.entries) h.store_vars c.requires.complete.all_set;
+      consistent = consistent_trail t c.course.invariant.is_trail;
+      all_set = subst (λ n. AllSet n t.entries) h.store_vars complete.all_set;
     } in
     let within : All (λ (x : LiveClause). AreWithin formula.vars x.lits) s.live = subst (λ n. All (λ (x : LiveClause). AreWithin n x.lits) s.live) h.store_vars c.count-count.ensures.live.within in
-    let all = clauses_true formula.vars t.entries values s.live (numbered formula.clauses ++ h.more) whole h.spelled within c.requires.complete.closed in
+    let all = clauses_true formula.vars t.entries values s.live (numbered formula.clauses ++ h.more) whole h.spelled within complete.closed in
     rw c.new.ensures (record { many = whole.many; satisfied = satisfies_front values formula.clauses h.more all })

@@ -1,4 +1,4 @@
-use Rattle.std.proofs.Common.{◌≡◌, ◌+◌, ◌++◌, ◌∷◌, [], ℕ, List, length, sym, ap, ◌∙◌, subst, arith, true}
+use Rattle.std.proofs.Common.{◌≡◌, ◌<◌, ◌+◌, ◌++◌, ◌∷◌, [], ℕ, List, length, sym, ap, ◌∙◌, subst, arith, true}
 use Rattle.std.specs.Prelude.{IsSome}
 use Rattle.lls_lit.specs.Formula.{is_within}
 use Rattle.lls_prooflog.proofs.Soundness.{good_by_propagation}
@@ -12,7 +12,6 @@ use Rattle.lls_store.specs.Store.{StoreState, AreLive, IsNewId, sealed}
 use Rattle.lls_store.proofs.Live.{AreWithin-read}
 use Rattle.lls_store.proofs.Sets.{is_within-from_AreWithin}
 use Rattle.lls_solver.specs.Searching.{additions, HoldsClauses, IsGoodLog, KeepsAll}
-use Rattle.lls_solver.specs.Course.{IsCourse}
 use Rattle.lls_solver.proofs.Kept.{sound_kept, sound_moved, closed_below_kept, closed_below_moved}
 use Rattle.lls_solver.proofs.Below.{closed_below_learnt}
 use Rattle.lls_solver.proofs.Clauses.{fresh_id, sealed_live}
@@ -22,7 +21,7 @@ use Rattle.lls_solver.proofs.solving.learn_from.Goals as goal
 
 pub learn-learnt-requires-clause-sound : goal.learn-learnt-requires-clause-sound
 learn-learnt-requires-clause-sound g c =
-    sound_kept (g.S.Store.state c.args.store.now) (g.S.Store.state c.reserve_conflict.new.store) c.args.course.now.trail (sym c.in_ok-reserve_conflict.ensures.state) c.requires.searching.sound
+    sound_kept (g.S.Store.state c.args.store.now) (g.S.Store.state c.reserve_conflict.new.store) c.course.inside.trail (sym c.in_ok-reserve_conflict.ensures.state) (sound_moved (g.S.Store.state c.args.store.now) c.args.course.now c.course.inside.trail (sym c.course.view_is) c.requires.searching.on_course.sound)
 
 pub learn-learnt-requires-clause-id : goal.learn-learnt-requires-clause-id
 learn-learnt-requires-clause-id g c =
@@ -66,19 +65,19 @@ bump-requires g c =
     subst (λ (n : ℕ). IsSome (clause_numbered new.live n)) (sym c.learn-learnt.ensures.clause) (subst (λ (s : StoreState). IsSome (clause_numbered s.live middle.count)) (sym learns.store) at_sealed)
     in
     let within : is_within new.vars lits ≡ true = is_within-from_AreWithin new.vars lits (AreWithin-read new number lits c.count-count.ensures.live some c.lits.ensures) in
-    let vars : c.args.course.now.order.vars ≡ new.vars =
-    c.requires.searching.course.order_vars ∙ sym (ap (λ (s : StoreState). s.vars) c.in_ok-reserve_conflict.ensures.state) ∙ sym (ap (λ (s : StoreState). s.vars) learns.store)
+    let vars : c.args.course.now.vars ≡ new.vars =
+    g.met.S.Store.tracks_vars c.args.store.now c.args.course.now c.requires.tracked ∙ sym (ap (λ (s : StoreState). s.vars) learns.store ∙ ap (λ (s : StoreState). s.vars) c.in_ok-reserve_conflict.ensures.state)
     in
     ap (λ n. is_within n lits) vars ∙ within
 
 pub go_back-requires-clause-level : goal.go_back-requires-clause-level
 go_back-requires-clause-level g c =
     let learns = c.learn-learnt.ensures.learns in
-    omega (arith, back_most c.args.course.now.trail learns.lits c.learn-learnt.result.back learns.clause.is_back, ap (λ (t : TrailState). t.current) c.bump.ensures.trail)
+    omega (arith, back_most c.course.inside.trail learns.lits c.learn-learnt.result.back learns.clause.is_back, ap (λ (t : TrailState). t.current) (c.bump.ensures ∙ sym c.course.view_is))
 
 pub go_back-requires-clause-sound : goal.go_back-requires-clause-sound
 go_back-requires-clause-sound g c =
-    sound_moved (g.S.Store.state c.learn-learnt.new.store) c.args.course.now.trail c.bump.new.self.trail (sym c.bump.ensures.trail) c.learn-learnt.ensures.sound
+    sound_moved (g.S.Store.state c.learn-learnt.new.store) c.course.inside.trail c.bump.new.self (c.course.view_is ∙ sym c.bump.ensures) c.learn-learnt.ensures.sound
 
 pub returns-clause-searching : goal.returns-clause-searching
 returns-clause-searching g c =
@@ -101,20 +100,22 @@ returns-clause-searching g c =
     let holds : HoldsClauses middle formula.vars (live_after formula steps) last_id = subst (λ (s : StoreState). HoldsClauses s formula.vars (live_after formula steps) last_id) (sym c.in_ok-reserve_conflict.ensures.state) h.holds in
     let more = holds_learnt formula steps middle id learns.lits learns.hints holds next in
     let good = good_by_propagation (live_after formula steps) id learns.lits learns.hints (learns.step.good (live_after formula steps) holds.spelled) in
-    let t = c.args.course.now.trail in
+    let t = c.course.inside.trail in
     let back = c.learn-learnt.result.back in
-    let closed = closed_below_kept old middle t (sym c.in_ok-reserve_conflict.ensures.state) h.closed_below in
-    let adds = adds_learnt formula.vars (live_after formula steps) middle new t c.args.conflict id back c.reserve_conflict.new.log.steps c.learn-learnt.new.log.steps learns holds.spelled (h.course.trail_vars ∙ h.holds.store_vars) c.requires.level closed in
+    let vars = ap (λ (x : TrailState). x.vars) c.course.view_is ∙ g.met.S.Store.tracks_vars c.args.store.now c.args.course.now c.requires.tracked ∙ h.holds.store_vars in
+    let above = subst (λ (x : TrailState). 0 < x.current) (sym c.course.view_is) c.requires.level in
+    let closed = closed_below_kept old middle t (sym c.in_ok-reserve_conflict.ensures.state) (closed_below_moved old c.args.course.now t (sym c.course.view_is) h.on_course.closed_below) in
+    let adds = adds_learnt formula.vars (live_after formula steps) middle new t c.args.conflict id back c.reserve_conflict.new.log.steps c.learn-learnt.new.log.steps learns holds.spelled vars above closed in
     let log : IsGoodLog formula (steps ++ step ∷ []) = good_push formula steps id learns.lits learns.hints h.log after good adds in
-    let cut : cut_to t back ≡ c.go_back.new.self.trail = sym (c.go_back.ensures.cut ∙ ap (λ (x : TrailState). cut_to x back) c.bump.ensures.trail) in
-    let vars : new.vars ≡ last.vars = sym (ap (λ (s : StoreState). s.vars) c.go_back.ensures.state) in
+    let cut : cut_to t back ≡ c.go_back.new.self = ap (λ (x : TrailState). cut_to x back) (c.course.view_is ∙ sym c.bump.ensures) ∙ sym c.go_back.ensures.cut in
     record {
       holds = subst (λ (s : StoreState). HoldsClauses s formula.vars (live_after formula c.learn-learnt.new.log.steps) (length formula.clauses + additions c.learn-learnt.new.log.steps)) (sym (c.go_back.ensures.state ∙ learns.store))
           (subst (λ (ss : List Step). HoldsClauses (sealed (record middle { tail = learns.lits }) id) formula.vars (live_after formula ss) (length formula.clauses + additions ss)) (sym logged) more);
       log = subst (IsGoodLog formula) (sym logged) log;
-      course = subst (λ n. IsCourse n c.go_back.new.self.trail c.go_back.new.self.order (length c.go_back.new.self.phases.items)) vars c.go_back.ensures.course;
-      sound = sound_kept new last c.go_back.new.self.trail (sym c.go_back.ensures.state) c.go_back.ensures.sound;
-      closed_below = closed_below_moved last (cut_to t back) c.go_back.new.self.trail cut
-          (closed_below_kept (sealed (record middle { tail = learns.lits }) id) last (cut_to t back) (sym (c.go_back.ensures.state ∙ learns.store))
-          (closed_below_learnt middle t learns.from_clause.clause.lits id learns.lits back h.course.is_trail learns.clause (back_most t learns.lits back learns.clause.is_back) closed));
+      on_course = record {
+        sound = sound_kept new last c.go_back.new.self (sym c.go_back.ensures.state) c.go_back.ensures.sound;
+        closed_below = closed_below_moved last (cut_to t back) c.go_back.new.self cut
+            (closed_below_kept (sealed (record middle { tail = learns.lits }) id) last (cut_to t back) (sym (c.go_back.ensures.state ∙ learns.store))
+            (closed_below_learnt middle t learns.from_clause.clause.lits id learns.lits back c.course.invariant.is_trail learns.clause (back_most t learns.lits back learns.clause.is_back) closed));
+      };
     }

@@ -1,15 +1,16 @@
-use Rattle.std.proofs.Common.{◌+◌, sym, ap, ◌∙◌, subst, arith}
+use Rattle.std.proofs.Common.{◌+◌, ◌<◌, sym, ap, ◌∙◌, subst, arith}
 use Rattle.lls_prooflog.specs.Spent.{live_after}
+use Rattle.lls_store.specs.Trail.{TrailState}
 use Rattle.lls_store.specs.Store.{StoreState, IsNewId}
 use Rattle.lls_analyse.specs.Spelled.{Spells}
-use Rattle.lls_solver.proofs.Kept.{sound_kept, closed_below_kept}
+use Rattle.lls_solver.proofs.Kept.{sound_kept, sound_moved, closed_below_kept, closed_below_moved}
 use Rattle.lls_solver.proofs.Clauses.{fresh_id}
 use Rattle.lls_solver.proofs.Learning.{adds_learnt, further_learnt}
 use Rattle.lls_solver.proofs.solving.learn_further.Goals as goal
 
 pub learn-requires-clause-sound : goal.learn-requires-clause-sound
 learn-requires-clause-sound g c =
-    sound_kept (g.S.Store.state c.args.store.now) (g.S.Store.state c.reserve_conflict.new.store) c.args.course.now.trail (sym c.in_ok-reserve_conflict.ensures.state) c.requires.searching.sound
+    sound_kept (g.S.Store.state c.args.store.now) (g.S.Store.state c.reserve_conflict.new.store) c.course.inside.trail (sym c.in_ok-reserve_conflict.ensures.state) (sound_moved (g.S.Store.state c.args.store.now) c.args.course.now c.course.inside.trail (sym c.course.view_is) c.requires.searching.on_course.sound)
 
 pub learn-requires-clause-id : goal.learn-requires-clause-id
 learn-requires-clause-id g c =
@@ -32,12 +33,13 @@ returns g c =
     let old = g.S.Store.state c.args.store.now in
     let middle = g.S.Store.state c.reserve_conflict.new.store in
     let new = g.S.Store.state c.learn.new.store in
-    let t = c.args.course.now.trail in
+    let t = c.course.inside.trail in
+    let vars = g.met.S.Store.tracks_vars c.args.store.now c.args.course.now c.requires.tracked in
     let id = c.len.result + c.additions.result + 1 in
     let learns = c.learn.ensures.learns in
     let before = c.reserve_conflict.new.log.steps in
     let after = c.learn.new.log.steps in
     let spelled = subst (λ (s : StoreState). Spells s.live pairs) (sym c.in_ok-reserve_conflict.ensures.state) h.holds.spelled in
-    let closed = closed_below_kept old middle t (sym c.in_ok-reserve_conflict.ensures.state) h.closed_below in
-    let adds = adds_learnt formula.vars pairs middle new t c.args.conflict id c.learn.result.back before after learns spelled (h.course.trail_vars ∙ h.holds.store_vars) c.requires.level closed in
+    let closed = closed_below_kept old middle t (sym c.in_ok-reserve_conflict.ensures.state) (closed_below_moved old c.args.course.now t (sym c.course.view_is) h.on_course.closed_below) in
+    let adds = adds_learnt formula.vars pairs middle new t c.args.conflict id c.learn.result.back before after learns spelled (ap (λ (x : TrailState). x.vars) c.course.view_is ∙ vars ∙ h.holds.store_vars) (subst (λ (x : TrailState). 0 < x.current) (sym c.course.view_is) c.requires.level) closed in
     record { further = further_learnt formula.vars pairs middle new t c.args.conflict id c.learn.result.back before after learns spelled adds }

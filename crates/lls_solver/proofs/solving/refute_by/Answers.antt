@@ -6,14 +6,14 @@ use Rattle.lls_prooflog.specs.declared.step.Step.TheVariants.{Add}
 use Rattle.lls_store.specs.Store.{StoreState, IsNewId}
 use Rattle.lls_solver.specs.Searching.{additions, IsRefutation, KeepsAll}
 use Rattle.lls_analyse.specs.Spelled.{Spells}
-use Rattle.lls_solver.proofs.Kept.{sound_kept}
+use Rattle.lls_solver.proofs.Kept.{sound_kept, sound_moved}
 use Rattle.lls_solver.proofs.Clauses.{fresh_id}
 use Rattle.lls_solver.proofs.Logs.{kept_push, refutation_push}
 use Rattle.lls_solver.proofs.solving.refute_by.Goals as goal
 
 pub refute-requires-clause-sound : goal.refute-requires-clause-sound
 refute-requires-clause-sound g c =
-    sound_kept (g.S.Store.state c.args.store.now) (g.S.Store.state c.reserve_conflict.new.store) c.args.course.now.trail (sym c.in_ok-reserve_conflict.ensures.state) c.requires.searching.sound
+    sound_kept (g.S.Store.state c.args.store.now) (g.S.Store.state c.reserve_conflict.new.store) c.course.inside.trail (sym c.in_ok-reserve_conflict.ensures.state) (sound_moved (g.S.Store.state c.args.store.now) c.args.course.now c.course.inside.trail (sym c.course.view_is) c.requires.searching.on_course.sound)
 
 pub refute-requires-clause-id : goal.refute-requires-clause-id
 refute-requires-clause-id g c =

@@ -1,6 +1,6 @@
 use Rattle.std.proofs.Common.{◌+◌, length, sym, ◌∙◌, subst, arith}
 use Rattle.lls_solver.specs.Searching.{additions, HoldsFormula}
-use Rattle.lls_solver.proofs.Kept.{sound_kept, conflict_kept, closed_below_kept, searching_kept}
+use Rattle.lls_solver.proofs.Kept.{conflict_kept, on_course_kept, searching_kept}
 use Rattle.lls_solver.proofs.Logs.{holds_formula, exhausted}
 use Rattle.lls_solver.proofs.solving.solve_over.Goals as goal
 
@@ -11,39 +11,26 @@ found-requires-clause-holds g c =
 
 pub go_to_conflict-requires-clause-conflict : goal.go_to_conflict-requires-clause-conflict
 go_to_conflict-requires-clause-conflict g c =
-    conflict_kept (g.S.Store.state c.loop-alloc.store) (g.S.Store.state c.descend.new.store) c.descend.new.course.trail c.in-Conflict.conflict (sym c.descend.ensures.state) (c.descend.ensures.conflict c.in-Conflict.conflict c.in-Conflict.is)
+    conflict_kept (g.S.Store.state c.loop-alloc.store) (g.S.Store.state c.descend.new.store) c.descend.new.course c.in-Conflict.conflict (sym c.descend.ensures.state) (c.descend.ensures.conflict c.in-Conflict.conflict c.in-Conflict.is)
 
-pub go_to_conflict-requires-clause-sound : goal.go_to_conflict-requires-clause-sound
-go_to_conflict-requires-clause-sound g c =
-    sound_kept (g.S.Store.state c.loop-alloc.store) (g.S.Store.state c.descend.new.store) c.descend.new.course.trail (sym c.descend.ensures.state) c.descend.ensures.sound
-
-pub go_to_conflict-requires-clause-closed_below : goal.go_to_conflict-requires-clause-closed_below
-go_to_conflict-requires-clause-closed_below g c =
-    closed_below_kept (g.S.Store.state c.loop-alloc.store) (g.S.Store.state c.descend.new.store) c.descend.new.course.trail (sym c.descend.ensures.state) c.descend.ensures.closed_below
+pub go_to_conflict-requires-clause-on_course : goal.go_to_conflict-requires-clause-on_course
+go_to_conflict-requires-clause-on_course g c =
+    on_course_kept (g.S.Store.state c.loop-alloc.store) (g.S.Store.state c.descend.new.store) c.descend.new.course (sym c.descend.ensures.state) c.descend.ensures.on_course
 
 pub refute_by-requires-clause-searching : goal.refute_by-requires-clause-searching
 refute_by-requires-clause-searching g c =
-    let old = c.loop-alloc.course in
-    let new = c.go_to_conflict.new.course in
-    let told = c.go_to_conflict.ensures in
-    searching_kept c.args.formula.now c.loop-alloc.log.steps (g.S.Store.state c.loop-alloc.store) (g.S.Store.state c.descend.new.store) (g.S.Store.state c.go_to_conflict.new.store) old.trail new.trail old.order new.order (length old.phases.items) (length new.phases.items)
-    c.loop-alloc.invariant.searching c.descend.ensures.state told.state told.course told.sound told.closed_below
+    searching_kept c.args.formula.now c.loop-alloc.log.steps (g.S.Store.state c.loop-alloc.store) (g.S.Store.state c.descend.new.store) (g.S.Store.state c.go_to_conflict.new.store) c.loop-alloc.course c.go_to_conflict.new.course
+    c.loop-alloc.invariant.searching c.descend.ensures.state c.go_to_conflict.ensures.state c.go_to_conflict.ensures.on_course
 
 pub learn_further-requires-clause-searching : goal.learn_further-requires-clause-searching
 learn_further-requires-clause-searching g c =
-    let old = c.loop-alloc.course in
-    let new = c.go_to_conflict.new.course in
-    let told = c.go_to_conflict.ensures in
-    searching_kept c.args.formula.now c.loop-alloc.log.steps (g.S.Store.state c.loop-alloc.store) (g.S.Store.state c.descend.new.store) (g.S.Store.state c.go_to_conflict.new.store) old.trail new.trail old.order new.order (length old.phases.items) (length new.phases.items)
-    c.loop-alloc.invariant.searching c.descend.ensures.state told.state told.course told.sound told.closed_below
+    searching_kept c.args.formula.now c.loop-alloc.log.steps (g.S.Store.state c.loop-alloc.store) (g.S.Store.state c.descend.new.store) (g.S.Store.state c.go_to_conflict.new.store) c.loop-alloc.course c.go_to_conflict.new.course
+    c.loop-alloc.invariant.searching c.descend.ensures.state c.go_to_conflict.ensures.state c.go_to_conflict.ensures.on_course
 
 pub learn_from-requires-clause-searching : goal.learn_from-requires-clause-searching
 learn_from-requires-clause-searching g c =
-    let old = c.loop-alloc.course in
-    let new = c.go_to_conflict.new.course in
-    let told = c.go_to_conflict.ensures in
-    searching_kept c.args.formula.now c.loop-alloc.log.steps (g.S.Store.state c.loop-alloc.store) (g.S.Store.state c.descend.new.store) (g.S.Store.state c.go_to_conflict.new.store) old.trail new.trail old.order new.order (length old.phases.items) (length new.phases.items)
-    c.loop-alloc.invariant.searching c.descend.ensures.state told.state told.course told.sound told.closed_below
+    searching_kept c.args.formula.now c.loop-alloc.log.steps (g.S.Store.state c.loop-alloc.store) (g.S.Store.state c.descend.new.store) (g.S.Store.state c.go_to_conflict.new.store) c.loop-alloc.course c.go_to_conflict.new.course
+    c.loop-alloc.invariant.searching c.descend.ensures.state c.go_to_conflict.ensures.state c.go_to_conflict.ensures.on_course
 
 pub learn_from-requires-clause-few : goal.learn_from-requires-clause-few
 learn_from-requires-clause-few g c =

@@ -1,11 +1,11 @@
-use Rattle.std.proofs.Common.{◌≡◌, ◌≤◌, ◌-◌, length}
+use Rattle.std.proofs.Common.{◌≡◌, ◌≤◌, ◌-◌}
 use Rattle.lls_solver.specs.Searching.{additions, IsSearching, KeepsAll}
 use Rattle.lls_solver.proofs.solving.solve_over.Given as goal
 
 abbrev pub invariant-loop-alloc : goal.invariant-loop-alloc
 invariant-loop-alloc g l = record {
-  searching : IsSearching l.formula l.log.steps (g.S.Store.state l.store) l.course.trail l.course.order (length l.course.phases.items);
-  tracked : g.S.Store.tracks l.store l.course.trail;
+  searching : IsSearching l.formula l.log.steps (g.S.Store.state l.store) l.course;
+  tracked : g.S.Store.tracks l.store l.course;
   analyser : l.analyser ≡ l.formula.vars;
   kept : KeepsAll l.keep_all l.log.steps;
   spent : additions l.log.steps ≤ l.budget;

@@ -1,25 +1,30 @@
-use Rattle.std.proofs.Common.{ap, ◌∙◌, subst}
+use Rattle.std.proofs.Common.{ap, sym, ◌∙◌, subst}
 use Rattle.lls_store.specs.Trail.{TrailState}
-use Rattle.lls_store.specs.Sound.{IsSound}
-use Rattle.lls_store.specs.Store.{StoreState}
+use Rattle.lls_store.specs.Store.{GoesOn}
+use Rattle.lls_solver.proofs.Kept.{sound_kept, sound_moved}
 use Rattle.lls_solver.proofs.Waiting.{waiting_on}
 use Rattle.lls_solver.proofs.Below.{closed_below_on}
 use Rattle.lls_solver.proofs.course.Course.propagate.Goals as goal
 
-pub returns-clause-course : goal.returns-clause-course
-returns-clause-course g c =
-    let new = c.propagate-conflict.new.trail in
+pub propagate-conflict-requires-clause-sound : goal.propagate-conflict-requires-clause-sound
+propagate-conflict-requires-clause-sound g c = sound_moved (g.S.Store.state c.args.store.now) c.args.self.now c.self.inside.trail (sym c.self.view_is) c.requires.on_course.sound
+
+pub invariant_of-self : goal.invariant_of-self
+invariant_of-self g c =
     let on = c.propagate-conflict.ensures.grown in
+    let vars = sym (ap (λ (t : TrailState). t.vars) on.grown) in
     record {
       is_trail = c.current-level.ensures.kept;
-      trail_vars = ap (λ (t : TrailState). t.vars) on.grown ∙ c.requires.course.trail_vars;
-      order_vars = c.requires.course.order_vars;
-      phase_each = c.requires.course.phase_each;
-      waiting = waiting_on c.args.self.now.trail new c.args.self.now.order on c.requires.course.waiting;
+      order_vars = c.self.invariant.order_vars ∙ vars;
+      phase_each = c.self.invariant.phase_each ∙ vars;
+      waiting = waiting_on c.self.inside.trail c.propagate-conflict.new.trail c.self.inside.order on c.self.invariant.waiting;
     }
 
-pub returns-clause-sound : goal.returns-clause-sound
-returns-clause-sound g c = subst (λ (s : StoreState). IsSound s.live c.propagate-conflict.new.trail) c.propagate-conflict.ensures.state c.propagate-conflict.ensures.sound
-
-pub returns-clause-closed_below : goal.returns-clause-closed_below
-returns-clause-closed_below g c = closed_below_on (g.S.Store.state c.args.store.now).live c.args.self.now.trail c.propagate-conflict.new.trail c.propagate-conflict.ensures.grown c.requires.closed_below
+pub returns-clause-on_course : goal.returns-clause-on_course
+returns-clause-on_course g c =
+    let store = g.S.Store.state c.args.store.now in
+    let new = c.propagate-conflict.new.trail in
+    record {
+      sound = sound_kept (g.S.Store.state c.propagate-conflict.new.self) store new c.propagate-conflict.ensures.state c.propagate-conflict.ensures.sound;
+      closed_below = closed_below_on store.live c.args.self.now new (subst (λ (t : TrailState). GoesOn t new) c.self.view_is c.propagate-conflict.ensures.grown) c.requires.on_course.closed_below;
+    }
