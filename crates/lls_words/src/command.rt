@@ -36,6 +36,7 @@ pub enum Setting {
 static OPERANDS: [&str; 4] = ["first", "second", "third", "fourth"];
 
 impl Command {
+    /// The table of commands.
     const ALL: [Command; 8] = [
         Command::Check,
         Command::Search,
