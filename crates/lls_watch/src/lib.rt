@@ -8,6 +8,8 @@ mod short;
 mod tests;
 mod visit;
 mod walk;
+mod watch_store;
 mod watches;
 
+pub use watch_store::WatchStore;
 pub use watches::Watches;

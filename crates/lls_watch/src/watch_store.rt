@@ -1,0 +1,127 @@
+// A store that keeps lists of the clauses that watch each literal.
+ghost use Rattle.std.specs.Prelude.{◌≡◌, ◌≤◌, [], length, replicate, IfOk, IfNone, IfSome, Option, None};
+ghost use Rattle.lls_arena.specs.Arena.{empty_arena};
+ghost use Rattle.lls_store.specs.Closed.{IsClosed};
+ghost use Rattle.lls_store.specs.Changes.{cut_to, empty_trail};
+ghost use Rattle.lls_store.specs.Sound.{IsSound};
+ghost use Rattle.lls_store.specs.Store.{GoesOn, IsConflict, empty_store};
+ghost use Rattle.lls_watch.specs.Short.{AreSatisfied};
+ghost use Rattle.lls_watch.specs.WatchStore.{Tracks, room_in, store_in};
+
+use crate::Watches;
+use crate::progress::Progress;
+use crate::short::settle_all;
+use crate::walk::pass_all;
+use lls_arena::Arena;
+use lls_base::Memory;
+use lls_lit::Var;
+use lls_store::Trail;
+use std::alloc::Global;
+use std::marker::Model;
+
+/// A store in which each clause with two different literals is in the lists of the two that it watches.
+#[derive(Debug, Drop)]
+pub struct WatchStore {
+    vars: u32,
+    watches: Watches,
+    progress: Progress,
+    // The numbers of the clauses without two different literals.
+    short: Vec<u32>,
+    // How many of them, from the first, are satisfied at level 0.
+    satisfied: usize,
+}
+
+impl Model for WatchStore {
+    ghost use Rattle.std.specs.Prelude.{vec_capacity};
+    ghost use Rattle.lls_watch.specs.Short.{AreSatisfied};
+    ghost use Rattle.lls_watch.specs.WatchStore.{IsWatchStore, WatchStoreState};
+
+    ghost Value = { WatchStoreState };
+
+    ghost view = { λ s. record { vars = s.vars; watches = s.watches; progress = s.progress; short = s.short.items; short_room = vec_capacity s.short; satisfied = s.satisfied } };
+
+    ghost invariant = { λ s. IsWatchStore (record { vars = s.vars; watches = s.watches; progress = s.progress; short = s.short.items; short_room = vec_capacity s.short; satisfied = s.satisfied }) };
+}
+
+impl WatchStore {
+    /// A store without a clause, for the variables up to `vars`.
+    pub fn new(alloc: Global, vars: u32) -> Result<WatchStore, Memory>
+        requires { vars ≤ Var.MOST }
+        ensures state { IfOk result (λ s. store_in s ≡ empty_store vars) }
+        ensures tracks { IfOk result (λ s. Tracks s (empty_trail vars)) }
+    {
+        Ok(WatchStore {
+            vars,
+            watches: Watches::new(alloc, vars)?,
+            progress: Progress {
+                passed: 0,
+                mark: None,
+            },
+            short: Vec::new(alloc),
+            satisfied: 0,
+        })
+    }
+
+    /// The arena that has the clauses, under the same numbers.
+    pub fn arena(&self) -> &Arena
+        ensures { result.now ≡ self.now.watches.arena }
+    {
+        self.watches.arena()
+    }
+
+    // Extends the trail by forced literals, until a clause is false, whose number it answers, or nothing is left to do.
+    pub(crate) fn propagate(&mut self, trail: &mut Trail) -> Option<u32>
+        requires tracked { Tracks self.old trail.old }
+        requires sound { IsSound (store_in self.old).live trail.old }
+        ensures conflict { IfSome result (IsConflict (store_in self.old).live trail.new) }
+        ensures closed { IfNone result (IsClosed (store_in self.old).live trail.new) }
+        ensures grown { GoesOn trail.old trail.new }
+        ensures state { store_in self.new ≡ store_in self.old }
+        ensures room { room_in self.new ≡ room_in self.old }
+        ensures tracked { Tracks self.new trail.new }
+        ensures sound { IsSound (store_in self.new).live trail.new }
+    {
+        if let Some(c) = self.settle_short(trail) {
+            return Some(c);
+        }
+        pass_all(&mut self.watches, trail, &mut self.progress)
+    }
+
+    // Forces the literals of the clauses that have one alone. Where that is at level 0, it is done for good.
+    fn settle_short(&mut self, trail: &mut Trail) -> Option<u32>
+        requires tracked { Tracks self.old trail.old }
+        ensures conflict { IfSome result (IsConflict (store_in self.old).live trail.new) }
+        ensures satisfied { IfNone result (AreSatisfied (store_in self.old).live trail.new.entries self.old.short (length self.old.short)) }
+        ensures grown { GoesOn trail.old trail.new }
+        ensures same { self.new ≡ record self.old { satisfied = self.new.satisfied } }
+        ensures tracked { Tracks self.new trail.new }
+    {
+        let conflict = settle_all(self.watches.arena(), trail, &self.short, self.satisfied);
+        if conflict.is_none() && trail.current() == 0 {
+            self.satisfied = self.short.len();
+        }
+        conflict
+    }
+
+    // Cuts the trail to a level.
+    pub(crate) fn back_to(&mut self, trail: &mut Trail, level: u32)
+        requires level { level ≤ trail.old.current }
+        requires tracked { Tracks self.old trail.old }
+        requires sound { IsSound (store_in self.old).live trail.old }
+        ensures cut { trail.new ≡ cut_to trail.old level }
+        ensures state { store_in self.new ≡ store_in self.old }
+        ensures room { room_in self.new ≡ room_in self.old }
+        ensures tracked { Tracks self.new trail.new }
+        ensures sound { IsSound (store_in self.new).live trail.new }
+    {
+        if level == trail.current() {
+            return;
+        }
+        trail.cut(level);
+        let cut = self.progress.cut();
+        self.progress = Progress {
+            passed: cut.passed.min(trail.len()),
+            mark: None,
+        };
+    }
+}
