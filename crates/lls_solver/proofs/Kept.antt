@@ -1,14 +1,10 @@
 -- What is true over the clauses of a store is true over those of an equal one.
-use Rattle.std.proofs.Common.{◌≡◌, ℕ, ◌+◌, List, length, subst, sym, ◌∙◌}
+use Rattle.std.proofs.Common.{◌≡◌, ℕ, subst}
 use Rattle.lls_store.specs.Trail.{TrailState}
 use Rattle.lls_store.specs.Sound.{IsSound}
 use Rattle.lls_store.specs.Store.{StoreState, IsConflict}
 use Rattle.lls_store.specs.Closed.{IsClosed}
-use Rattle.lls_lit.specs.Formula.{Cnf}
-use Rattle.lls_prooflog.specs.Spent.{live_after}
-use Rattle.lls_prooflog.specs.declared.step.Step.{Step}
 use Rattle.lls_solver.specs.Course.{IsOnCourse, AreClosedBelow}
-use Rattle.lls_solver.specs.Searching.{additions, HoldsClauses, IsSearching}
 
 pub sound_kept : (s t : StoreState) (trail : TrailState) → s ≡ t → IsSound s.live trail → IsSound t.live trail
 sound_kept s t trail same sound = subst (λ (x : StoreState). IsSound x.live trail) same sound
@@ -33,11 +29,3 @@ closed_below_moved s old new same closed = subst (λ (x : TrailState). AreClosed
 
 pub on_course_kept : (s t : StoreState) (trail : TrailState) → s ≡ t → IsOnCourse s trail → IsOnCourse t trail
 on_course_kept s t trail same on = subst (λ (x : StoreState). IsOnCourse x trail) same on
-
--- a search goes on over the same clauses with another trail, of which the store in between tells
-pub searching_kept : (formula : Cnf) (steps : List Step) (s middle t : StoreState) (old new : TrailState) → IsSearching formula steps s old → middle ≡ s → t ≡ middle → IsOnCourse middle new → IsSearching formula steps t new
-searching_kept formula steps s middle t old new h first second on = record {
-  holds = subst (λ (x : StoreState). HoldsClauses x formula.vars (live_after formula steps) (length formula.clauses + additions steps)) (sym (second ∙ first)) h.holds;
-  log = h.log;
-  on_course = on_course_kept middle t new (sym second) on;
-}

@@ -5,6 +5,6 @@ pub mod Conflicts
 pub mod Clauses
 pub mod Satisfied
 pub mod Logs
-pub mod Learning
+pub mod LearntClauses
 pub mod Below
 mod Start

@@ -2,7 +2,6 @@
 use Rattle.std.proofs.Common.{◌≡◌, ◌+◌, ℕ, List, [], length, refl, sym, subst, arith}
 use Rattle.lls_lit.specs.Formula.{Cnf}
 use Rattle.lls_prooflog.specs.UnitWalk.{numbered}
-use Rattle.lls_prooflog.specs.declared.step.Step.{Step}
 use Rattle.lls_store.specs.Trail.{TrailState}
 use Rattle.lls_store.specs.Changes.{empty_trail}
 use Rattle.lls_store.specs.Clauses.{LiveClause}
@@ -17,11 +16,11 @@ good_none formula = record { good = tt; fresh = tt; deletions = tt; numbered_on 
 closed_below_none : (live : List LiveClause) (vars : ℕ) → AreClosedBelow live (empty_trail vars)
 closed_below_none live vars level least most = absurd (omega (arith, least, most))
 
-pub searching_start : (formula : Cnf) (steps : List Step) (store : StoreState) (seen trail : TrailState) → seen ≡ trail → steps ≡ [] → trail ≡ empty_trail formula.vars → HoldsClauses store formula.vars (numbered formula.clauses) (length formula.clauses) → IsSound store.live seen → IsSearching formula steps store trail
-searching_start formula steps store seen trail same none empty holds sound =
+pub searching_start : (formula : Cnf) (store : StoreState) (seen trail : TrailState) → seen ≡ trail → trail ≡ empty_trail formula.vars → HoldsClauses store formula.vars (numbered formula.clauses) (length formula.clauses) → IsSound store.live seen → IsSearching formula [] store trail
+searching_start formula store seen trail same empty holds sound =
     let last : length formula.clauses ≡ length formula.clauses + additions [] = omega arith in
-    subst (λ (ss : List Step). IsSearching formula ss store trail) (sym none) (record {
+    record {
       holds = subst (λ n. HoldsClauses store formula.vars (numbered formula.clauses) n) last holds;
       log = good_none formula;
       on_course = record { sound = subst (IsSound store.live) same sound; closed_below = subst (AreClosedBelow store.live) (sym empty) (closed_below_none store.live formula.vars) };
-    })
+    }

@@ -1,16 +1,19 @@
 -- A search under way: what holds of its clauses and of its log.
-use Rattle.std.specs.Prelude.{◌≡◌, ◌≤◌, ℕ, ◌+◌, Bool, true, not, List, [], ◌∷◌, ◌++◌, map, length, count_by}
+use Rattle.std.specs.Prelude.{◌≡◌, ◌≤◌, ℕ, ◌+◌, Bool, true, not, List, [], ◌∷◌, ◌++◌, map, length, count_by, Result, Ok, OnErr}
 use Rattle.std.specs.List.{list_all}
 use Rattle.lls_lit.specs.Formula.{Cnf, satisfies}
 use Rattle.lls_prooflog.specs.UnitWalk.{Live, numbered}
 use Rattle.lls_prooflog.specs.Steps.{are_accepted, is_empty_addition}
 use Rattle.lls_prooflog.specs.Spent.{EachStep, IsGood, IsFreshAddition, IsLateDeletion, IsSpent, log_start, is_addition, live_after}
+use Rattle.lls_base.specs.declared.memory.Memory.{Memory}
 use Rattle.lls_prooflog.specs.declared.step.Step.{Step}
 use Rattle.lls_prooflog.specs.declared.step.Step.TheVariants.{Add, Del}
 use Rattle.lls_store.specs.Trail.{TrailState}
 use Rattle.lls_store.specs.Store.{StoreState}
 use Rattle.lls_solver.specs.Course.{IsOnCourse}
 use Rattle.lls_analyse.specs.Spelled.{Spells}
+use Rattle.lls_solver.specs.declared.outcome.Outcome.{Outcome}
+use Rattle.lls_solver.specs.declared.outcome.Outcome.TheVariants.{Sat, Unsat, Undecided}
 
 abbrev pub ids_of : Live → List ℕ
 ids_of live = map (λ pair. pair.0) live
@@ -55,6 +58,17 @@ pub record IsSearching (formula : Cnf) (steps : List Step) (store : StoreState) 
   pub log : IsGoodLog formula steps
   pub on_course : IsOnCourse store trail
 
+-- what a searcher is seen as
+pub record SearcherState : Type 0 where
+  pub store : StoreState
+  pub trail : TrailState
+
+-- a clause was learnt within a budget, and the search goes on
+pub record HasLearnt (formula : Cnf) (budget : ℕ) (old new : List Step) (searcher : SearcherState) : Type 0 where
+  pub searching : IsSearching formula new searcher.store searcher.trail
+  pub one_more : additions new ≡ additions old + 1
+  pub within : additions new ≤ budget
+
 -- an assignment of the formula's variables that satisfies it
 pub record IsModel (formula : Cnf) (values : List Bool) : Type 0 where
   pub many : length values ≡ formula.vars
@@ -85,3 +99,12 @@ pub record HoldsFormula (formula : Cnf) (store : StoreState) : Type 0 where
   pub store_vars : store.vars ≡ formula.vars
   pub more : Live
   pub spelled : Spells store.live (numbered formula.clauses ++ more)
+
+-- what each answer of a search says, with the steps that it leaves in the log
+pub record IsOutcome (formula : Cnf) (budget : ℕ) (keep_all : Bool) (steps : List Step) (result : Result Outcome Memory) : Type 0 where
+  pub sat : (values : List Bool) → result ≡ Ok (Sat values) → IsModel formula values
+  pub learnt : (values : List Bool) → result ≡ Ok (Sat values) → IsLogWithin formula budget steps
+  pub unsat : result ≡ Ok Unsat → IsRefutation formula budget steps
+  pub undecided : result ≡ Ok Undecided → IsExhausted formula budget steps
+  pub memory : OnErr result (IsLogWithin formula budget steps)
+  pub all_kept : KeepsAll keep_all steps

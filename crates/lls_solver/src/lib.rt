@@ -4,8 +4,10 @@
 mod conflict;
 mod course;
 mod descent;
+mod learning;
 mod loading;
 mod outcome;
+mod searcher;
 mod solving;
 #[cfg(test)]
 mod tests;

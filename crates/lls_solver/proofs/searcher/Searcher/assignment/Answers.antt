@@ -1,20 +1,23 @@
-use Rattle.std.proofs.Common.{◌++◌, ◌∙◌, sym, subst}
+use Rattle.std.proofs.Common.{◌≡◌, ◌++◌, ◌∙◌, ap, sym, subst}
 use Rattle.std.specs.Prelude.{All}
 use Rattle.lls_prooflog.specs.UnitWalk.{numbered}
 use Rattle.lls_store.specs.Clauses.{LiveClause}
-use Rattle.lls_store.specs.Store.{AreWithin}
+use Rattle.lls_store.specs.Store.{AreWithin, StoreState}
 use Rattle.lls_solver.specs.Course.{AllSet, IsComplete}
+use Rattle.lls_solver.specs.Searching.{HoldsFormula, SearcherState}
 use Rattle.lls_analyse.proofs.Trails.{consistent_trail}
 use Rattle.lls_solver.proofs.Satisfied.{IsWhole, clauses_true, satisfies_front}
-use Rattle.lls_solver.proofs.solving.found.Goals as goal
+use Rattle.lls_solver.proofs.searcher.Searcher.assignment.Goals as goal
 
 pub returns : goal.returns
 returns g c =
-    let s = g.S.Store.state c.args.store.now in
+    let s = g.S.Store.state c.self.inside.store in
     let t = c.course.inside.trail in
-    let complete = subst (IsComplete s) (sym c.course.view_is) c.requires.complete in
+    let trail : t ≡ c.args.self.now.trail = c.course.view_is ∙ ap (λ (x : SearcherState). x.trail) c.self.view_is in
+    let store : s ≡ c.args.self.now.store = ap (λ (x : SearcherState). x.store) c.self.view_is in
+    let complete = subst (IsComplete s) (sym trail) (subst (λ (x : StoreState). IsComplete x c.args.self.now.trail) (sym store) c.requires.complete) in
     let formula = c.args.formula.now in
-    let h = c.requires.holds in
+    let h = subst (HoldsFormula formula) (sym store) c.requires.holds in
     let values = c.in_ok-values.values.items in
     let whole : IsWhole formula.vars t.entries values = record {
       are_values = c.in_ok-values.ensures.values;

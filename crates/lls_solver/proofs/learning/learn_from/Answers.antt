@@ -16,8 +16,8 @@ use Rattle.lls_solver.proofs.Kept.{sound_kept, sound_moved, closed_below_kept, c
 use Rattle.lls_solver.proofs.Below.{closed_below_learnt}
 use Rattle.lls_solver.proofs.Clauses.{fresh_id, sealed_live}
 use Rattle.lls_solver.proofs.Logs.{additions-push, good_push, holds_learnt, kept_push}
-use Rattle.lls_solver.proofs.Learning.{back_most, adds_learnt}
-use Rattle.lls_solver.proofs.solving.learn_from.Goals as goal
+use Rattle.lls_solver.proofs.LearntClauses.{back_most, adds_learnt}
+use Rattle.lls_solver.proofs.learning.learn_from.Goals as goal
 
 pub learn-learnt-requires-clause-sound : goal.learn-learnt-requires-clause-sound
 learn-learnt-requires-clause-sound g c =

@@ -9,7 +9,7 @@ use Rattle.lls_analyse.specs.Spelled.{Spells}
 use Rattle.lls_solver.proofs.Kept.{sound_kept, sound_moved}
 use Rattle.lls_solver.proofs.Clauses.{fresh_id}
 use Rattle.lls_solver.proofs.Logs.{kept_push, refutation_push}
-use Rattle.lls_solver.proofs.solving.refute_by.Goals as goal
+use Rattle.lls_solver.proofs.learning.refute_by.Goals as goal
 
 pub refute-requires-clause-sound : goal.refute-requires-clause-sound
 refute-requires-clause-sound g c =

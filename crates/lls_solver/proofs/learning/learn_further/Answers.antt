@@ -5,8 +5,8 @@ use Rattle.lls_store.specs.Store.{StoreState, IsNewId}
 use Rattle.lls_analyse.specs.Spelled.{Spells}
 use Rattle.lls_solver.proofs.Kept.{sound_kept, sound_moved, closed_below_kept, closed_below_moved}
 use Rattle.lls_solver.proofs.Clauses.{fresh_id}
-use Rattle.lls_solver.proofs.Learning.{adds_learnt, further_learnt}
-use Rattle.lls_solver.proofs.solving.learn_further.Goals as goal
+use Rattle.lls_solver.proofs.LearntClauses.{adds_learnt, further_learnt}
+use Rattle.lls_solver.proofs.learning.learn_further.Goals as goal
 
 pub learn-requires-clause-sound : goal.learn-requires-clause-sound
 learn-requires-clause-sound g c =
@@ -25,8 +25,8 @@ learn-requires-clause-most g c =
     let same = ap (λ (s : StoreState). s.count) c.in_ok-reserve_conflict.ensures.state in
     omega (arith, same, h.holds.count, c.len.ensures.len, c.len.ensures.most, c.requires.few)
 
-pub returns : goal.returns
-returns g c =
+pub returns-clause-further : goal.returns-clause-further
+returns-clause-further g c =
     let h = c.requires.searching in
     let formula = c.args.formula.now in
     let pairs = live_after formula c.args.log.now.steps in
@@ -42,4 +42,4 @@ returns g c =
     let spelled = subst (λ (s : StoreState). Spells s.live pairs) (sym c.in_ok-reserve_conflict.ensures.state) h.holds.spelled in
     let closed = closed_below_kept old middle t (sym c.in_ok-reserve_conflict.ensures.state) (closed_below_moved old c.args.course.now t (sym c.course.view_is) h.on_course.closed_below) in
     let adds = adds_learnt formula.vars pairs middle new t c.args.conflict id c.learn.result.back before after learns spelled (ap (λ (x : TrailState). x.vars) c.course.view_is ∙ vars ∙ h.holds.store_vars) (subst (λ (x : TrailState). 0 < x.current) (sym c.course.view_is) c.requires.level) closed in
-    record { further = further_learnt formula.vars pairs middle new t c.args.conflict id c.learn.result.back before after learns spelled adds }
+    further_learnt formula.vars pairs middle new t c.args.conflict id c.learn.result.back before after learns spelled adds
