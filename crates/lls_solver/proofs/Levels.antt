@@ -115,12 +115,12 @@ passes_read p (y ∷ ys) (suc k) x all is = passes_read p ys k x (and_parts (p y
 pub variable_read : (t : TrailState) (k : ℕ) (l : ℤ) → IsTrail t → slice_get (literals_of t.entries) k ≡ Some l → variable_of l ≤ t.vars
 variable_read t k l h is = (variable_bounds t.vars (variable_of l) (passes_read (is_literal_of t.vars) (literals_of t.entries) k l h.within is)).1
 
--- what a test of a level tells
 -- a variable that has a level has a value
 pub known_at_level : (o : Option Entry) (level : ℕ) → option_map (λ (e : Entry). e.level) o ≡ Some level → IsSome o
 known_at_level None level is = absurd cc
 known_at_level (Some e) level is = refl
 
+-- what a test of a level tells
 pub test_told : (t : TrailState) (k level : ℕ) (l : ℤ) (test : Bool) → (read : IsRead t k l) → test ≡ option_map_or (nat_lt level) (level_of t.entries (variable_of l)) false → test ≡ nat_lt level read.entry.level
 test_told t k level l test read is = is ∙ ap (λ o. option_map_or (nat_lt level) o false) read.level
 

@@ -50,6 +50,7 @@ impl<S: Store> Model for Searcher<S> {
 
     ghost Value = { SearcherState };
 
+    // The clauses of a store are sets of literals, whose code has to be named.
     ghost coded = { Prim.hlevel (codes, set.code {R = int_cmp} coded_ℤ) };
 
     ghost view = { λ s. record { store = S.state s.store; trail = s.course } };
