@@ -1,6 +1,6 @@
 -- What holds of a checker's parts, after its marks reach further and after a good step.
 use Rattle.std.proofs.Common.{◌≡◌, ℕ, ◌+◌, ◌<◌, ◌≤◌, Bool, true, false, cond, eqb, List, [], ◌∷◌, ◌++◌, length, get_or, take, Option, Some, None, refl, sym, ◌∙◌, arith, Bor}
-use Rattle.std.specs.Prelude.{ℤ, filter, is_some, Ok}
+use Rattle.std.specs.Prelude.{ℤ, filter, is_some}
 use Rattle.std.specs.List.{list_all, enumerate_from}
 use Rattle.std.specs.Option.{option_copied}
 use Rattle.std.proofs.lemmas.Bool.{and_parts, le-leb}
@@ -10,10 +10,9 @@ use Rattle.lls_lit.specs.Literal.{variable_of}
 use Rattle.lls_lit.specs.Formula.{Clause, Cnf, is_literal_of, is_within}
 use Rattle.lls_cnf.proofs.Within.{is_within-more}
 use Rattle.lls_prooflog.specs.declared.step.Step.TheVariants.{Add, Del}
-use Rattle.lls_prooflog.specs.declared.step_fault.StepFault.{StepFault}
 use Rattle.lls_prooflog.specs.Steps.{Live, numbered, find_clause, unit_walk, fault_of, after, is_empty_addition}
 use Rattle.lls_prooflog.proofs.Soundness.{KeepsSatisfiable-numbered, KeepsSatisfiable-after, unsatisfiable_at_empty}
-use Rattle.lls_lrat.specs.Hinted.{are_within, unless_fault}
+use Rattle.lls_lrat.specs.Hinted.{are_within}
 use Rattle.lls_lrat.specs.Checking.{IsChecking}
 
 -- a literal more
@@ -53,12 +52,8 @@ IsChecking-start formula v e = record { within = are_within-numbered v 1 formula
 pub IsChecking-reach : (formula : Cnf) (live : Live) (v w : ℕ) (done : Bool) → v ≤ w → IsChecking formula live v done → IsChecking formula live w done
 IsChecking-reach formula live v w done le h = record { within = are_within-more v w live le h.within; kept = h.kept; refuted = h.refuted }
 
-faultless : (fault : Option StepFault) → unless_fault fault ≡ Ok tt → fault ≡ None
-faultless None e = refl
-faultless (Some f) e = absurd cc
-
-pub good_addition : (live : Live) (id : ℕ) (lits hints : List ℤ) → is_some (find_clause live id) ≡ false → unless_fault (unit_walk live lits hints) ≡ Ok tt → fault_of live (Add id lits hints) ≡ None
-good_addition live id lits hints free closes = rw free (faultless (unit_walk live lits hints) closes)
+pub good_addition : (live : Live) (id : ℕ) (lits hints : List ℤ) → is_some (find_clause live id) ≡ false → unit_walk live lits hints ≡ None → fault_of live (Add id lits hints) ≡ None
+good_addition live id lits hints free closes = rw free closes
 
 -- a clause was added
 pub IsChecking-add : (formula : Cnf) (live : Live) (v : ℕ) (id : ℕ) (lits hints : List ℤ) (done : Bool) → IsChecking formula live v false → is_within v lits ≡ true → fault_of live (Add id lits hints) ≡ None → is_empty_addition (Add id lits hints) ≡ done → IsChecking formula (live ++ (id, lits) ∷ []) v done

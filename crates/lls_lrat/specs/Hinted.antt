@@ -1,4 +1,4 @@
--- For private contracts alone: the clause of a hint, and where the hints lead.
+-- For private contracts alone: the clause of a hint, and the variables of all clauses.
 use Rattle.std.specs.Prelude.{ℕ, ℤ, pos, negsuc, Bool, Option, Some, None, Result, Ok, Err}
 use Rattle.std.specs.List.{list_all}
 use Rattle.lls_lit.specs.Formula.{Clause, is_within}
@@ -14,11 +14,6 @@ known_clause hint (Some clause) = Ok clause
 abbrev pub hinted_clause : Live → ℤ → Result Clause StepFault
 hinted_clause live (pos id) = known_clause (pos id) (find_clause live id)
 hinted_clause live (negsuc n) = Err (RatHint (negsuc n))
-
--- Ok where there is no fault
-abbrev pub unless_fault : Option StepFault → Result (Unit {0}) StepFault
-unless_fault None = Ok tt
-unless_fault (Some fault) = Err fault
 
 -- no clause has a literal beyond the variables
 abbrev pub are_within : ℕ → Live → Bool

@@ -2,11 +2,13 @@
 ghost use Rattle.std.specs.Prelude.{◌≡◌, true, not, Ok, Err, IfOk, IfErr, filter};
 ghost use Rattle.std.specs.List.{list_all};
 ghost use Rattle.std.specs.FinSet as set;
+ghost use Rattle.std.specs.Result.{result_err};
 ghost use Rattle.lls_lit.specs.Formula.{is_within};
 ghost use Rattle.lls_prooflog.specs.UnitWalk.{unit_walk};
 ghost use Rattle.lls_prooflog.specs.Lent.{hints_of};
 ghost use Rattle.lls_lrat.specs.Left.{left_in, IsOneWithin};
-ghost use Rattle.lls_lrat.specs.Hinted.{are_within, hinted_clause, unless_fault};
+ghost use Rattle.lls_lrat.specs.Hinted.{are_within, hinted_clause};
+ghost use Rattle.lls_lrat.specs.Assumed.{assumed_after, IsConflictAt};
 
 use crate::live::LiveClauses;
 use lls_lit::{Lit, Marks};
@@ -20,16 +22,19 @@ enum Left {
     More,
 }
 
-/// Follows the hints to a conflict where the literals are taken as false. The marks begin anew.
+/// Follows the hints to a conflict where the literals are taken as false, and answers how many hints it looked at. The marks
+/// begin anew, and hold what is taken as false at the end.
 pub(crate) fn follow_hints(
     live: &LiveClauses,
     marks: &mut Marks,
     lits: &[Lit],
     hints: HintsRef,
-) -> Result<(), StepFault>
+) -> Result<usize, StepFault>
     requires lits { is_within marks.old.vars lits.now ≡ true }
     requires live { are_within marks.old.vars live.now ≡ true }
-    ensures exact { result ≡ unless_fault (unit_walk live.now lits.now (hints_of hints.entry)) }
+    ensures exact { result_err result ≡ unit_walk live.now lits.now (hints_of hints.entry) }
+    ensures count { IfOk result (IsConflictAt live.now lits.now (hints_of hints.entry)) }
+    ensures lits { marks.new.lits ≡ set.from_list (assumed_after live.now lits.now (hints_of hints.entry)) }
     ensures vars { marks.new.vars ≡ marks.old.vars }
 {
     mark_all(marks, lits);
@@ -37,7 +42,7 @@ pub(crate) fn follow_hints(
         let hint = hints.get(k);
         let clause = hinted(live, &hint)?;
         match unmarked(clause, marks) {
-            Left::Nothing => return Ok(()),
+            Left::Nothing => return Ok(k + 1),
             Left::One(lit) => marks.put(lit.negated()),
             Left::More => return Err(not_unit(&hint)),
         }

@@ -1,4 +1,4 @@
-use Rattle.std.proofs.Common.{◌≡◌, List, drop}
+use Rattle.std.proofs.Common.{◌≡◌, List, take}
 use Rattle.std.specs.Prelude.{ℤ}
 use Rattle.lls_prooflog.specs.Lent.{hints_of}
 use Rattle.lls_lrat.proofs.Walked.{Walked}
@@ -6,4 +6,4 @@ use Rattle.lls_lrat.proofs.walk.follow_hints.Given as goal
 
 abbrev pub invariant-loop-k : goal.invariant-loop-k
 invariant-loop-k l =
-    (l.marks.vars ≡ l.initial.marks.vars) × ((assumed : List ℤ) × Walked l.live l.lits (hints_of l.hints) (drop l.k (hints_of l.hints)) l.marks assumed)
+    (l.marks.vars ≡ l.initial.marks.vars) × ((assumed : List ℤ) × Walked l.live l.lits (take l.k (hints_of l.hints)) l.marks assumed)
