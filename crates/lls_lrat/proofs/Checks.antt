@@ -36,7 +36,7 @@ are_within-filter v keep (pair ∷ rest) e =
       | false ↦ others
     ]
 
-are_within-numbered : (v n : ℕ) (clauses : List Clause) → list_all (is_within v) clauses ≡ true → are_within v (enumerate_from n clauses) ≡ true
+pub are_within-numbered : (v n : ℕ) (clauses : List Clause) → list_all (is_within v) clauses ≡ true → are_within v (enumerate_from n clauses) ≡ true
 are_within-numbered v n [] e = refl
 are_within-numbered v n (c ∷ cs) e =
     let both = and_parts (is_within v c) (list_all (is_within v) cs) e in

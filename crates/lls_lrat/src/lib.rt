@@ -24,3 +24,5 @@ pub use refusal::Refusal;
 mod log_tests;
 #[cfg(test)]
 mod tests;
+#[cfg(test)]
+mod walk_tests;

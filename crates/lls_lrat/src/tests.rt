@@ -10,7 +10,7 @@ use std::alloc::Global;
 use std::process::Abort;
 use std::test::Fail;
 
-fn are_within(lits: &[Lit], vars: u32) -> bool
+pub(crate) fn are_within(lits: &[Lit], vars: u32) -> bool
     ensures { result ≡ is_within vars lits.now }
 {
     lits.iter().all(|lit| lit.is_of(vars))
