@@ -1,8 +1,7 @@
-use Rattle.std.proofs.Common.{◌≡◌, ◌<◌, Bool, true, false, ap, sym, subst, ◌∙◌, arith, get_or}
-use Rattle.std.specs.Prelude.{pos, map, slice_get, slice_index_or}
+use Rattle.std.proofs.Common.{ap, sym, ◌∙◌, arith}
+use Rattle.std.specs.Prelude.{map, slice_get}
 use Rattle.std.proofs.lemmas.Grind.{common_steps}
-use Rattle.lls_lit.specs.Literal.{index_of}
-use Rattle.lls_arena.specs.Arena.{ArenaState, HeadState, place_of}
+use Rattle.lls_arena.specs.Arena.{ArenaState, HeadState}
 use Rattle.lls_watch.proofs.Changes.{watches_from}
 use Rattle.lls_watch.proofs.tests.watches_at.Goals as goal
 use Rattle.lls_watch.proofs.tests.watches_at.Goals.{then-w, else-w}
