@@ -20,3 +20,10 @@ pub mod Turns
 pub mod Shorts
 pub mod ForGood
 pub mod Tracked
+pub mod Begun
+pub mod Grown
+pub mod SealedStore
+pub mod Beginning
+pub mod Rearranged
+pub mod Killed
+pub mod Compacted

@@ -83,7 +83,7 @@ comes now vars lit c w next second it read is link =
     }
 
 -- the clauses of a segment lead on
-leads_among : (heads : List HeadState) (lit : ℤ) (start : Option ℕ) (cs : List ℕ) (end : Option ℕ) → IsSegment heads lit start cs end → (p : ℕ) → has cs p ≡ true → (next : Option ℕ) × LeadsOn heads lit p next
+pub leads_among : (heads : List HeadState) (lit : ℤ) (start : Option ℕ) (cs : List ℕ) (end : Option ℕ) → IsSegment heads lit start cs end → (p : ℕ) → has cs p ≡ true → (next : Option ℕ) × LeadsOn heads lit p next
 leads_among heads lit start [] end leads p among = absurd cc
 leads_among heads lit start (c ∷ cs) end leads p among = by_test (leads_among heads lit leads.1.0 cs end leads.1.1.1 p) (c == p) refl among
   where

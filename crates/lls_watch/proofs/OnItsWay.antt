@@ -32,7 +32,7 @@ use Rattle.lls_watch.proofs.Steps.{ahead}
 use Rattle.lls_watch.proofs.Walks.{visited_changed, walk_drops}
 
 -- literals stay within the variables where two change places
-within_swapped : (vars : ℕ) (lits : List ℤ) (i j : ℕ) → i < length lits → j < length lits → is_within vars lits ≡ true → is_within vars (swap lits i j) ≡ true
+pub within_swapped : (vars : ℕ) (lits : List ℤ) (i j : ℕ) → i < length lits → j < length lits → is_within vars lits ≡ true → is_within vars (swap lits i j) ≡ true
 within_swapped vars lits i j first second within =
     is_within-from_AreWithin vars (swap lits i j) (subst (AreWithin vars) (sym (from_list_swap lits i j first second)) (AreWithin-from_list vars lits within))
 

@@ -21,7 +21,8 @@ use Rattle.lls_watch.specs.Watches.{WatchState, has}
 use Rattle.lls_watch.specs.Passed.{IsMarked, ArePassed, cut_progress, live_from}
 use Rattle.lls_watch.specs.Propagating.{ArePropagating, LookAlike, WatchesTwo}
 use Rattle.lls_watch.specs.Short.{AreShort, AreSatisfied, AreSatisfiedForGood}
-use Rattle.lls_watch.specs.WatchStore.{IsTail, IsWatchStore, Tracks, WatchStoreState, store_in}
+use Rattle.lls_store.specs.Scan.{IsTail}
+use Rattle.lls_watch.specs.WatchStore.{IsWatchStore, Tracks, WatchStoreState, store_in}
 use Rattle.lls_watch.proofs.ForGood.{for_good_cut, for_good_grown}
 use Rattle.lls_watch.proofs.Kept.{passed_cut, passed_grown}
 use Rattle.lls_watch.proofs.Passed.{AreWatchingOrSettled, closed_by_watches}

@@ -115,6 +115,23 @@ none_below n k (h ∷ hs) below = by_live h.live (none_below (suc n) k hs (omega
     by_live false later = later
     by_live true later = ap (λ b. cond b (Some (record { number = n; id = h.id; lits = set.from_list h.lits })) (clause_numbered (live_from (suc n) hs) k)) apart ∙ later
 
+-- behind the last number neither
+pub none_behind : (n k : ℕ) (heads : List HeadState) → n + length heads ≤ k → clause_numbered (live_from n heads) k ≡ None
+none_behind n k [] far = refl
+none_behind n k (h ∷ hs) far = by_live h.live (none_behind (suc n) k hs (omega (arith, far)))
+  where
+    apart : (n == k) ≡ false
+    apart =
+        elim (n == k) as (λ b. (n == k) ≡ b → b ≡ false) [
+          | true ↦ λ is. absurd (omega (arith, eqb-true n k is, far))
+          | false ↦ λ _. refl
+        ] refl
+
+    by_live : (b : Bool) → clause_numbered (live_from (suc n) hs) k ≡ None
+        → clause_numbered (cond b (record { number = n; id = h.id; lits = set.from_list h.lits } ∷ live_from (suc n) hs) (live_from (suc n) hs)) k ≡ None
+    by_live false later = later
+    by_live true later = ap (λ b. cond b (Some (record { number = n; id = h.id; lits = set.from_list h.lits })) (clause_numbered (live_from (suc n) hs) k)) apart ∙ later
+
 -- what is found is live
 pub live_numbered : (n : ℕ) (heads : List HeadState) (c : ℕ) (clause : LiveClause) → clause_numbered (live_from n heads) (n + c) ≡ Some clause → (h : HeadState) × ((slice_get heads c ≡ Some h) × (h.live ≡ true))
 live_numbered n [] c clause found = absurd cc

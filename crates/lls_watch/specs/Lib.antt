@@ -4,4 +4,5 @@ pub mod Visiting
 pub mod Visit
 pub mod Propagating
 pub mod Short
+pub mod Sealed
 pub mod WatchStore

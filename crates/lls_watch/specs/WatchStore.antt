@@ -1,10 +1,9 @@
 -- A store over watches: what holds of it, and what fits a trail.
-use Rattle.std.specs.Prelude.{◌≡◌, ◌≢◌, ◌≤◌, ◌<◌, ◌+◌, ◌⊎◌, ℕ, ℤ, Bool, true, ◌&&◌, nat_lt, nat_le, List, All, AllPairs, length}
-use Rattle.lls_lit.specs.Literal.{variable_of}
-use Rattle.lls_lit.specs.Formula.{is_within}
+use Rattle.std.specs.Prelude.{◌≡◌, ◌≤◌, ◌<◌, ◌+◌, ◌⊎◌, ℕ, Bool, true, ◌&&◌, nat_lt, nat_le, List, All, length}
 use Rattle.lls_store.specs.declared.store.TheConstants.{MOST_CLAUSES}
 use Rattle.lls_store.specs.Trail.{TrailState}
 use Rattle.lls_store.specs.Store.{StoreState, AreLive}
+use Rattle.lls_store.specs.Scan.{IsTail}
 use Rattle.lls_watch.specs.declared.progress.Progress.{Progress}
 use Rattle.lls_watch.specs.Watches.{WatchState, has}
 use Rattle.lls_watch.specs.Passed.{live_from, store_of}
@@ -26,11 +25,6 @@ store_in s = store_of s.vars s.watches.arena
 -- one more clause, of any kind, and as many literals at the tail as there are variables
 abbrev pub room_in : WatchStoreState → Bool
 room_in s = nat_lt 0 s.watches.arena.spare_heads && nat_le s.vars (length s.watches.arena.tail + s.watches.arena.spare_lits) && nat_lt (length s.short) s.short_room
-
--- literals of the variables up to vars, of which none stands twice
-pub record IsTail (vars : ℕ) (lits : List ℤ) : Type 0 where
-  pub within : is_within vars lits ≡ true
-  pub once : AllPairs (λ l m. variable_of l ≢ variable_of m) lits
 
 -- what holds of every store over watches
 pub record IsWatchStore (s : WatchStoreState) : Type 0 where

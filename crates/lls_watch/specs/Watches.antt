@@ -79,8 +79,11 @@ abbrev pub list_of : WatchState → ℕ → Bool → ℕ
 list_of state c w = index_of (option_map_or (watched w) (slice_get state.arena.heads c) (pos 0))
 
 -- the clause is put before its edge's list
+abbrev pub attached : ℕ → Bool → WatchState → WatchState
+attached c w old = with_first (list_of old c w) (Some c) (with_link_at c w (slice_index_or old.first (list_of old c w) None) old)
+
 abbrev pub AttachedAt : ℕ → Bool → WatchState → WatchState → Type 0
-AttachedAt c w old new = new ≡ with_first (list_of old c w) (Some c) (with_link_at c w (slice_index_or old.first (list_of old c w) None) old)
+AttachedAt c w old new = new ≡ attached c w old
 
 -- the clause isn't in that list
 abbrev pub IsNotIn : Lists → WatchState → ℕ → Bool → Type 0
@@ -119,3 +122,26 @@ pub record CanRewatch (state : WatchState) (c : ℕ) (w : Bool) (n : ℕ) : Type
 -- it took that place
 abbrev pub swapped_at : WatchState → ℕ → Bool → ℕ → WatchState
 swapped_at state c w n = record state { arena = record state.arena { heads = changed_at (swapped (place_of w) n) c state.arena.heads } }
+
+-- a clause of which the first literal and the one at a place behind it differ, and both have lists
+pub record CanBegin (state : WatchState) (c n : ℕ) : Type 0 where
+  pub head : HeadState
+  pub is_head : slice_get state.arena.heads c ≡ Some head
+  pub behind : 0 < n
+  pub inside : n < length head.lits
+  pub differ : slice_index_or head.lits n (pos 0) ≢ slice_index_or head.lits 0 (pos 0)
+  pub first_literal : IsLiteral (slice_index_or head.lits 0 (pos 0))
+  pub other_literal : IsLiteral (slice_index_or head.lits n (pos 0))
+  pub first_within : index_of (slice_index_or head.lits 0 (pos 0)) < length state.first
+  pub other_within : index_of (slice_index_or head.lits n (pos 0)) < length state.first
+
+-- that literal becomes the second, and the clause is put before the lists of both
+abbrev pub begun : ℕ → ℕ → WatchState → WatchState
+begun c n old = attached c true (attached c false (swapped_at old c true n))
+
+-- the clause is in no list
+abbrev pub IsInNone : Lists → WatchState → ℕ → Type 0
+IsInNone lists state c = (i : ℕ) → i < length state.first → has (lists i) c ≡ false
+
+abbrev pub with_begun : Lists → WatchState → ℕ → ℕ → Lists
+with_begun lists old c n = with_attached (with_attached lists (swapped_at old c true n) c false) (attached c false (swapped_at old c true n)) c true

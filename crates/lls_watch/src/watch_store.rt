@@ -1,10 +1,14 @@
 // A store that keeps lists of the clauses that watch each literal.
-ghost use Rattle.std.specs.Prelude.{◌≡◌, ◌≤◌, [], length, replicate, IfOk, IfNone, IfSome, Option, None};
+ghost use Rattle.std.specs.Prelude.{◌≡◌, ◌≤◌, [], ◌∷◌, ◌++◌, true, length, replicate, take, IfOk, IfNone, IfSome, IsSome, IsTrue, OnOk, Option, None};
+ghost use Rattle.lls_lit.specs.Formula.{is_literal_of};
+ghost use Rattle.lls_store.specs.Trail.{TrailState};
+ghost use Rattle.lls_store.specs.Clauses.{clause_numbered};
+ghost use Rattle.lls_store.specs.Removal.{IsNoReason, without_clause};
 ghost use Rattle.lls_arena.specs.Arena.{empty_arena};
 ghost use Rattle.lls_store.specs.Closed.{IsClosed};
 ghost use Rattle.lls_store.specs.Changes.{cut_to, empty_trail};
 ghost use Rattle.lls_store.specs.Sound.{IsSound};
-ghost use Rattle.lls_store.specs.Store.{GoesOn, IsConflict, empty_store};
+ghost use Rattle.lls_store.specs.Store.{GoesOn, IsConflict, IsNewVariable, empty_store};
 ghost use Rattle.lls_watch.specs.Short.{AreSatisfied};
 ghost use Rattle.lls_watch.specs.WatchStore.{Tracks, room_in, store_in};
 
@@ -14,7 +18,7 @@ use crate::short::settle_all;
 use crate::walk::pass_all;
 use lls_arena::Arena;
 use lls_base::Memory;
-use lls_lit::Var;
+use lls_lit::{Lit, Var};
 use lls_store::Trail;
 use std::alloc::Global;
 use std::marker::Model;
@@ -123,5 +127,62 @@ impl WatchStore {
             passed: cut.passed.min(trail.len()),
             mark: None,
         };
+    }
+
+    // Makes room for a learnt clause.
+    pub(crate) fn reserve_learnt(&mut self) -> Result<(), Memory>
+        ensures ok { OnOk result (IsTrue (room_in self.new)) }
+        ensures state { store_in self.new ≡ store_in self.old }
+        ensures room { IsTrue (room_in self.old) → IsTrue (room_in self.new) }
+        ensures tracked { (t : TrailState) → Tracks self.old t → Tracks self.new t }
+    {
+        self.watches.reserve(1, self.vars as usize)?;
+        self.short.reserve(1)?;
+        Ok(())
+    }
+
+    // Begins a clause at the tail.
+    pub(crate) fn begin_learnt(&mut self)
+        requires { IsTrue (room_in self.old) }
+        ensures state { store_in self.new ≡ record (store_in self.old) { tail = [] } }
+        ensures room { IsTrue (room_in self.new) }
+        ensures tracked { (t : TrailState) → Tracks self.old t → Tracks self.new t }
+    {
+        self.watches.cut(0);
+    }
+
+    // Puts a literal at the end of the tail.
+    pub(crate) fn push_learnt(&mut self, lit: Lit)
+        requires room { IsTrue (room_in self.old) }
+        requires within { is_literal_of (store_in self.old).vars lit ≡ true }
+        requires new { IsNewVariable (store_in self.old).tail lit }
+        ensures state { store_in self.new ≡ record (store_in self.old) { tail = (store_in self.old).tail ++ lit ∷ [] } }
+        ensures room { IsTrue (room_in self.new) }
+        ensures tracked { (t : TrailState) → Tracks self.old t → Tracks self.new t }
+    {
+        self.watches.append(lit);
+    }
+
+    // Keeps the first literals of the tail.
+    pub(crate) fn cut_learnt(&mut self, keep: u32)
+        ensures state { store_in self.new ≡ record (store_in self.old) { tail = take keep (store_in self.old).tail } }
+        ensures room { IsTrue (room_in self.old) → IsTrue (room_in self.new) }
+        ensures tracked { (t : TrailState) → Tracks self.old t → Tracks self.new t }
+    {
+        self.watches.cut(keep as usize);
+    }
+
+    // Takes a live clause out, which is no literal's reason.
+    pub(crate) fn remove(&mut self, trail: &Trail, c: u32)
+        requires live { IsSome (clause_numbered (store_in self.old).live c) }
+        requires no_reason { IsNoReason trail.now.entries c }
+        requires tracked { Tracks self.old trail.now }
+        requires sound { IsSound (store_in self.old).live trail.now }
+        ensures state { store_in self.new ≡ without_clause (store_in self.old) c }
+        ensures room { IsTrue (room_in self.old) → IsTrue (room_in self.new) }
+        ensures tracked { Tracks self.new trail.now }
+        ensures sound { IsSound (store_in self.new).live trail.now }
+    {
+        self.watches.kill(c);
     }
 }

@@ -1,5 +1,5 @@
 // Lists of the clauses that watch each literal.
-ghost use Rattle.std.specs.Prelude.{OnOk, ◌-◌, ◌≡◌, ◌≢◌, ◌<◌, ◌≤◌, ◌*◌, ◌∷◌, ◌++◌, ℕ, ℤ, Bool, not, false, List, [], length, replicate, slice_get, slice_index_or, IfOk, IfSome, Option, None, Some};
+ghost use Rattle.std.specs.Prelude.{OnOk, take, ◌+◌, ◌-◌, ◌≡◌, ◌≢◌, ◌<◌, ◌≤◌, ◌*◌, ◌∷◌, ◌++◌, ℕ, ℤ, Bool, not, false, List, [], length, replicate, slice_get, slice_index_or, IfOk, IfSome, Option, None, Some};
 ghost use Rattle.std.specs.Option.{ForSome};
 ghost use Rattle.lls_lit.specs.Literal.{index_of, literal_at};
 ghost use Rattle.lls_arena.specs.Arena.{IsLive, changed_at, empty_arena, killed, place_of, sealed};
@@ -89,6 +89,13 @@ impl Watches {
         ensures { self.new ≡ record self.old { arena = record self.old.arena { tail = self.old.arena.tail ++ lit ∷ []; spare_lits = self.old.arena.spare_lits - 1 } } }
     {
         self.arena.append(lit);
+    }
+
+    /// Keeps the first literals of the clause that is being built.
+    pub fn cut(&mut self, keep: usize)
+        ensures { self.new ≡ record self.old { arena = record self.old.arena { tail = take keep self.old.arena.tail; spare_lits = self.old.arena.spare_lits + (length self.old.arena.tail - keep) } } }
+    {
+        self.arena.cut(keep);
     }
 
     /// Makes the clause that is being built a live one, which is in no list yet, and answers its number.

@@ -1,0 +1,27 @@
+use Rattle.std.proofs.Common.{ℕ, List, refl, sym, subst}
+use Rattle.std.specs.Prelude.{vec_capacity}
+use Rattle.lls_watch.specs.Watches.{WatchState}
+use Rattle.lls_watch.specs.WatchStore.{Tracks, WatchStoreState}
+use Rattle.lls_watch.proofs.Rearranged.{tracks_arena}
+use Rattle.lls_watch.proofs.watch_store.WatchStore.reserve_learnt.Goals as goal
+
+pub returns-in_err-reserve-clause-tracked : goal.returns-in_err-reserve-clause-tracked
+returns-in_err-reserve-clause-tracked c =
+    let s : WatchStoreState = record { vars = c.self.inside.vars; watches = c.self.inside.watches; progress = c.self.inside.progress; short = c.self.inside.short.items; short_room = vec_capacity c.self.inside.short; satisfied = c.self.inside.satisfied } in
+    λ t it. subst (λ (w : WatchState). Tracks (record s { watches = w }) t) (sym c.reserve.ensures.same) (tracks_arena s t _ s.short_room refl (subst (λ x. Tracks x t) (sym c.self.view_is) it))
+
+pub returns-in_err-reserve-2-clause-tracked : goal.returns-in_err-reserve-2-clause-tracked
+returns-in_err-reserve-2-clause-tracked c =
+    let s : WatchStoreState = record { vars = c.self.inside.vars; watches = c.self.inside.watches; progress = c.self.inside.progress; short = c.self.inside.short.items; short_room = vec_capacity c.self.inside.short; satisfied = c.self.inside.satisfied } in
+    λ t it.
+    subst (λ (cs : List ℕ). Tracks (record s { watches = c.reserve.new.self; short = cs; short_room = vec_capacity c.reserve-2.new.self }) t) (sym c.reserve-2.ensures.items)
+    (subst (λ (w : WatchState). Tracks (record s { watches = w; short_room = vec_capacity c.reserve-2.new.self }) t) (sym c.reserve.ensures.same)
+    (tracks_arena s t _ (vec_capacity c.reserve-2.new.self) refl (subst (λ x. Tracks x t) (sym c.self.view_is) it)))
+
+pub returns-clause-tracked : goal.returns-clause-tracked
+returns-clause-tracked c =
+    let s : WatchStoreState = record { vars = c.self.inside.vars; watches = c.self.inside.watches; progress = c.self.inside.progress; short = c.self.inside.short.items; short_room = vec_capacity c.self.inside.short; satisfied = c.self.inside.satisfied } in
+    λ t it.
+    subst (λ (cs : List ℕ). Tracks (record s { watches = c.reserve.new.self; short = cs; short_room = vec_capacity c.reserve-2.new.self }) t) (sym c.reserve-2.ensures.items)
+    (subst (λ (w : WatchState). Tracks (record s { watches = w; short_room = vec_capacity c.reserve-2.new.self }) t) (sym c.reserve.ensures.same)
+    (tracks_arena s t _ (vec_capacity c.reserve-2.new.self) refl (subst (λ x. Tracks x t) (sym c.self.view_is) it)))
