@@ -27,3 +27,4 @@ pub mod Beginning
 pub mod Rearranged
 pub mod Killed
 pub mod Compacted
+pub mod Places

@@ -3,6 +3,7 @@
 #![tactic(auto)]
 
 mod progress;
+mod sealing;
 mod short;
 #[cfg(test)]
 mod tests;

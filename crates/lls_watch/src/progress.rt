@@ -1,6 +1,11 @@
 // How far unit propagation has come along a trail.
-ghost use Rattle.std.specs.Prelude.{◌≡◌, ℕ};
+ghost use Rattle.std.specs.Prelude.{◌≡◌, ◌≢◌, ◌≤◌, ◌<◌, ℕ, Some, slice_get};
+ghost use Rattle.lls_lit.specs.Literal.{negation, variable_of};
+ghost use Rattle.lls_store.specs.Trail.{Entry};
 ghost use Rattle.lls_watch.specs.Passed.{IsMarked, cut_progress};
+
+use lls_lit::Lit;
+use lls_store::Trail;
 
 // How many literals, from the first, have been passed, and the place that is marked, if one is.
 #[derive(Clone, Copy, Debug)]
@@ -19,6 +24,20 @@ impl Progress {
         match self.mark {
             Some(mark) if mark <= self.passed => {}
             _ => self.mark = Some(self.passed),
+        }
+    }
+
+    // Takes back what was passed from the place on where a literal became false, if it did.
+    pub(crate) fn take_back(&mut self, trail: &Trail, lit: Lit)
+        requires { variable_of lit ≤ trail.now.vars }
+        ensures less { self.new.passed ≤ self.old.passed }
+        ensures mark { self.new.mark ≡ self.old.mark }
+        ensures apart { (place : ℕ) (entry : Entry) → place < self.new.passed → slice_get trail.now.entries place ≡ Some entry → entry.lit ≢ negation lit }
+    {
+        if let Some(value) = trail.value(lit) {
+            if !value {
+                self.passed = self.passed.min(trail.known_place(lit.var()));
+            }
         }
     }
 

@@ -3,7 +3,7 @@ ghost use Rattle.std.specs.Prelude.{OnOk, take, ◌+◌, ◌-◌, ◌≡◌, ◌
 ghost use Rattle.std.specs.Option.{ForSome};
 ghost use Rattle.lls_lit.specs.Literal.{index_of, literal_at};
 ghost use Rattle.lls_arena.specs.Arena.{IsLive, changed_at, empty_arena, killed, place_of, sealed};
-ghost use Rattle.lls_watch.specs.Watches.{AttachedAt, BeginsWith, CanRewatch, ComesAfter, HasLiteral, IsNotIn, IsThreaded, Lists, WatchesAt, swapped_at, with_attached, with_first, with_link_at, with_list};
+ghost use Rattle.lls_watch.specs.Watches.{AttachedAt, BeginsWith, CanBegin, CanRewatch, ComesAfter, HasLiteral, IsInNone, IsNotIn, IsThreaded, Lists, WatchesAt, begun, swapped_at, with_attached, with_begun, with_first, with_link_at, with_list};
 
 use lls_arena::{Arena, MOST_HEADS};
 use lls_base::Memory;
@@ -129,6 +129,19 @@ impl Watches {
         let i = self.arena.watched(c, w).index();
         self.arena.set_link(c, w, self.first[i]);
         self.first[i] = Some(c);
+    }
+
+    /// Has a live clause that is in no list watch its first literal and the one at place n behind it, which becomes its second, and
+    /// puts it first in the lists of both.
+    pub fn begin(&mut self, c: u32, n: usize)
+        requires live { IsLive self.old.arena.heads c }
+        requires clause { CanBegin self.old c n }
+        ensures state { self.new ≡ begun c n self.old }
+        ensures threaded { (lists : Lists) → IsThreaded self.old lists → IsInNone lists self.old c → IsThreaded self.new (with_begun lists self.old c n) }
+    {
+        self.arena.swap(c, 1, n);
+        self.attach(c, false);
+        self.attach(c, true);
     }
 
     /// Takes the first clause out of a literal's list: the list begins with the next one.
