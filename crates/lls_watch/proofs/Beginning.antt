@@ -27,7 +27,7 @@ use Rattle.lls_watch.proofs.Stays.{live_from_linked, live_from_swapped}
 abbrev pub with_sealed : WatchState → ℕ → WatchState
 with_sealed state id = record state { arena = sealed state.arena id }
 
-abbrev new_head : WatchState → ℕ → HeadState
+abbrev pub new_head : WatchState → ℕ → HeadState
 new_head state id = record { id = id; live = true; lits = state.arena.tail; first = None; second = None }
 
 -- the links that it gets

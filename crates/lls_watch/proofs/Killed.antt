@@ -152,6 +152,7 @@ watch_store_killed s c it =
       there = λ k d within. subst (λ n. slice_index_or s.short k d < n) (sym (length_changed killed c heads)) (it.there k d within);
       are_short = λ k d within clause is. it.are_short k d within clause (numbered_but (live_from 0 heads) c (slice_index_or s.short k d) clause (sym (ap (λ l. clause_numbered l (slice_index_or s.short k d)) live) ∙ is));
       covered = λ k. ⊎_elim (λ two. inl (still k two)) (λ among. inr among) (it.covered k);
+      vars_fit = it.vars_fit;
       settled = it.settled;
     }
   where

@@ -24,6 +24,7 @@ pub mod Begun
 pub mod Grown
 pub mod SealedStore
 pub mod Beginning
+pub mod Newest
 pub mod Rearranged
 pub mod Killed
 pub mod Compacted

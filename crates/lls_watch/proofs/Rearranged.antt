@@ -62,6 +62,7 @@ watch_store_arena s arena room same tail it = record {
   there = subst (λ (hs : List HeadState). All (λ c. c < length hs) s.short) (sym same) it.there;
   are_short = subst (λ hs. AreShort (live_from 0 hs) s.vars s.short) (sym same) it.are_short;
   covered = subst (λ (hs : List HeadState). (c : ℕ) → WatchesTwo hs c ⊎ (has s.short c ≡ true)) (sym same) it.covered;
+  vars_fit = it.vars_fit;
   settled = it.settled;
 }
 

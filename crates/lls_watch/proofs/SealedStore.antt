@@ -88,6 +88,7 @@ watch_store_sealed s id new progress longer room it new_id few within store =
       there = there;
       are_short = shorts;
       covered = covered;
+      vars_fit = store.vars_fit;
       settled = ⊎_elim (λ put. omega (arith, ap length put.1, store.settled)) (λ put. omega (arith, ap length put.1, length_push s.short (length heads), store.settled)) it.put;
     }
   where

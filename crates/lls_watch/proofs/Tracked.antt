@@ -102,6 +102,7 @@ watch_store_passed s watches progress alike it = record {
   there = λ k d within. subst (λ n. slice_index_or s.short k d < n) (sym alike.count) (it.there k d within);
   are_short = subst (λ live. AreShort live s.vars s.short) (sym alike.live) it.are_short;
   covered = λ c. ⊎_elim (λ two. inl (alike.watching c two)) (λ among. inr among) (it.covered c);
+  vars_fit = it.vars_fit;
   settled = it.settled;
 }
 

@@ -1,5 +1,6 @@
 -- A store over watches: what holds of it, and what fits a trail.
 use Rattle.std.specs.Prelude.{◌≡◌, ◌≤◌, ◌<◌, ◌+◌, ◌⊎◌, ℕ, Bool, true, ◌&&◌, nat_lt, nat_le, List, All, length}
+use Rattle.lls_lit.specs.declared.var.TheConstants.Var.{MOST}
 use Rattle.lls_store.specs.declared.store.TheConstants.{MOST_CLAUSES}
 use Rattle.lls_store.specs.Trail.{TrailState}
 use Rattle.lls_store.specs.Store.{StoreState, AreLive}
@@ -28,6 +29,7 @@ room_in s = nat_lt 0 s.watches.arena.spare_heads && nat_le s.vars (length s.watc
 
 -- what holds of every store over watches
 pub record IsWatchStore (s : WatchStoreState) : Type 0 where
+  pub vars_fit : s.vars ≤ MOST
   pub are_live : AreLive (store_in s)
   pub few : length s.watches.arena.heads ≤ MOST_CLAUSES
   pub is_tail : IsTail s.vars s.watches.arena.tail
