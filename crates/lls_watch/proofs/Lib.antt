@@ -16,6 +16,7 @@ pub mod Moving
 pub mod OnItsWay
 pub mod Meeting
 pub mod Visited
+pub mod Read
 pub mod Turns
 pub mod Shorts
 pub mod ForGood

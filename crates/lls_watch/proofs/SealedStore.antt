@@ -11,7 +11,7 @@ use Rattle.lls_lit.specs.Formula.{is_within}
 use Rattle.lls_store.specs.declared.store.TheConstants.{MOST_CLAUSES}
 use Rattle.lls_store.specs.Trail.{TrailState}
 use Rattle.lls_store.specs.Clauses.{LiveClause, clause_numbered}
-use Rattle.lls_store.specs.Store.{AreLive, IsNewId, sealed}
+use Rattle.lls_store.specs.Store.{AreLive, IsNewId, with_clause}
 use Rattle.lls_store.proofs.Live.{AreLive-with_clause}
 use Rattle.lls_store.proofs.Sets.{AreWithin-from_list}
 use Rattle.lls_store.proofs.Tails.{IsTail-empty}
@@ -31,11 +31,15 @@ use Rattle.lls_watch.proofs.Visited.{none_behind}
 abbrev pub sealed_store : WatchStoreState → WatchState → Progress → List ℕ → ℕ → WatchStoreState
 sealed_store s new progress longer room = record s { watches = new; progress = progress; short = longer; short_room = room }
 
-pub store_sealed : (s : WatchStoreState) (id : ℕ) (new : WatchState) (progress : Progress) (longer : List ℕ) (room : ℕ) → HasSealed s.vars s.watches s.short id new longer
-    → store_in (sealed_store s new progress longer room) ≡ sealed (store_in s) id
-store_sealed s id new progress longer room it =
+-- watches with another clause at the tail, and other room
+abbrev pub with_tail : WatchState → List ℤ → ℕ → ℕ → WatchState
+with_tail state lits heads_left lits_left = record state { arena = record state.arena { tail = lits; spare_heads = heads_left; spare_lits = lits_left } }
+
+pub store_sealed : (s : WatchStoreState) (lits : List ℤ) (heads_left lits_left id : ℕ) (new : WatchState) (progress : Progress) (longer : List ℕ) (room : ℕ) → HasSealed s.vars (with_tail s.watches lits heads_left lits_left) s.short id new longer
+    → store_in (sealed_store s new progress longer room) ≡ record (with_clause (store_in s) id lits) { tail = [] }
+store_sealed s lits heads_left lits_left id new progress longer room it =
     let heads = s.watches.arena.heads in
-    let live = live_from 0 heads ++ record { number = length heads; id = id; lits = set.from_list s.watches.arena.tail } ∷ [] in
+    let live = live_from 0 heads ++ record { number = length heads; id = id; lits = set.from_list lits } ∷ [] in
     ap (λ (n : ℕ). record { vars = s.vars; count = n; live = live_from 0 new.arena.heads; tail = new.arena.tail }) it.count
     ∙ ap (λ (l : List LiveClause). record { vars = s.vars; count = length heads + 1; live = l; tail = new.arena.tail }) it.live
     ∙ ap (λ (tail : List ℤ). record { vars = s.vars; count = length heads + 1; live = live; tail = tail }) it.tail
@@ -61,28 +65,28 @@ number_there s store k c found =
     read (x ∷ xs) zero found = cc
     read (x ∷ xs) (suc k) found = read xs k found
 
-pub tracks_sealed : (s : WatchStoreState) (t : TrailState) (id : ℕ) (new : WatchState) (progress : Progress) (longer : List ℕ) (room : ℕ) → HasSealed s.vars s.watches s.short id new longer
+pub tracks_sealed : (s : WatchStoreState) (t : TrailState) (lits : List ℤ) (heads_left lits_left id : ℕ) (new : WatchState) (progress : Progress) (longer : List ℕ) (room : ℕ) → HasSealed s.vars (with_tail s.watches lits heads_left lits_left) s.short id new longer
     → ArePropagating new t progress → progress.passed ≤ length t.entries → IsWatchStore s → Tracks s t → Tracks (sealed_store s new progress longer room) t
-tracks_sealed s t id new progress longer room it propagating reach store tracks = record {
+tracks_sealed s t lits heads_left lits_left id new progress longer room it propagating reach store tracks = record {
   vars = tracks.vars;
   propagating = propagating;
   reach = reach;
   for_good = λ k c below found clause live.
-      let was = front_of s.vars s.watches s.short new longer it.put k c (omega (arith, below, store.settled)) found in
+      let was = front_of s.vars (with_tail s.watches lits heads_left lits_left) s.short new longer it.put k c (omega (arith, below, store.settled)) found in
       let given = number_there s store k c was in
-      let before = sym (numbered_front (live_from 0 s.watches.arena.heads) (record { number = length s.watches.arena.heads; id = id; lits = set.from_list s.watches.arena.tail }) c (λ e. absurd (omega (arith, e, given))))
+      let before = sym (numbered_front (live_from 0 s.watches.arena.heads) (record { number = length s.watches.arena.heads; id = id; lits = set.from_list lits }) c (λ e. absurd (omega (arith, e, given))))
       ∙ sym (ap (λ l. clause_numbered l c) it.live) ∙ live in
       tracks.for_good k c below was clause before;
 }
 
-pub watch_store_sealed : (s : WatchStoreState) (id : ℕ) (new : WatchState) (progress : Progress) (longer : List ℕ) (room : ℕ) → HasSealed s.vars s.watches s.short id new longer
-    → IsNewId (live_from 0 s.watches.arena.heads) id → length s.watches.arena.heads < MOST_CLAUSES → is_within s.vars s.watches.arena.tail ≡ true → IsWatchStore s → IsWatchStore (sealed_store s new progress longer room)
-watch_store_sealed s id new progress longer room it new_id few within store =
+pub watch_store_sealed : (s : WatchStoreState) (lits : List ℤ) (heads_left lits_left id : ℕ) (new : WatchState) (progress : Progress) (longer : List ℕ) (room : ℕ) → HasSealed s.vars (with_tail s.watches lits heads_left lits_left) s.short id new longer
+    → IsNewId (live_from 0 s.watches.arena.heads) id → length s.watches.arena.heads < MOST_CLAUSES → is_within s.vars lits ≡ true → IsWatchStore s → IsWatchStore (sealed_store s new progress longer room)
+watch_store_sealed s lits heads_left lits_left id new progress longer room it new_id few within store =
     let heads = s.watches.arena.heads in
-    let more = AreLive-with_clause (store_in s) id s.watches.arena.tail store.are_live new_id (AreWithin-from_list s.vars s.watches.arena.tail within) in
-    let live : AreLive (sealed (store_in s) id) = record { ids = more.ids; numbers = more.numbers; given = more.given; ids_fit = more.ids_fit; within = more.within } in
+    let more = AreLive-with_clause (store_in s) id lits store.are_live new_id (AreWithin-from_list s.vars lits within) in
+    let live : AreLive (record (with_clause (store_in s) id lits) { tail = [] }) = record { ids = more.ids; numbers = more.numbers; given = more.given; ids_fit = more.ids_fit; within = more.within } in
     record {
-      are_live = subst AreLive (sym (store_sealed s id new progress longer room it)) live;
+      are_live = subst AreLive (sym (store_sealed s lits heads_left lits_left id new progress longer room it)) live;
       few = omega (arith, it.count, few);
       is_tail = subst (IsTail s.vars) (sym it.tail) (IsTail-empty s.vars);
       there = there;
@@ -93,9 +97,9 @@ watch_store_sealed s id new progress longer room it new_id few within store =
     }
   where
     clause : LiveClause
-    clause = record { number = length s.watches.arena.heads; id = id; lits = set.from_list s.watches.arena.tail }
+    clause = record { number = length s.watches.arena.heads; id = id; lits = set.from_list lits }
 
-    each : (P : ℕ → Type 0) → ((k d : ℕ) → k < length s.short → P (slice_index_or s.short k d)) → (HasOneAtMost s.vars (set.from_list s.watches.arena.tail) → P (length s.watches.arena.heads))
+    each : (P : ℕ → Type 0) → ((k d : ℕ) → k < length s.short → P (slice_index_or s.short k d)) → (HasOneAtMost s.vars (set.from_list lits) → P (length s.watches.arena.heads))
         → (k d : ℕ) → k < length longer → P (slice_index_or longer k d)
     each P old last k d within =
         ⊎_elim (λ put. subst (λ cs. P (slice_index_or cs k d)) (sym put.1) (old k d (omega (arith, within, ap length put.1))))

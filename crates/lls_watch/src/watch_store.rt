@@ -1,6 +1,6 @@
 // A store that keeps lists of the clauses that watch each literal.
-ghost use Rattle.std.specs.Prelude.{◌≡◌, ◌≤◌, [], ◌∷◌, ◌++◌, true, length, replicate, take, IfOk, IfNone, IfSome, IsSome, IsTrue, OnOk, Option, None};
-ghost use Rattle.lls_lit.specs.Formula.{is_literal_of};
+ghost use Rattle.std.specs.Prelude.{◌≡◌, ◌<◌, ◌≤◌, [], ◌∷◌, ◌++◌, true, length, replicate, take, IfOk, IfNone, IfSome, IsSome, IsTrue, OnErr, OnOk, Option, None, is_some};
+ghost use Rattle.lls_lit.specs.Formula.{is_literal_of, is_within};
 ghost use Rattle.lls_store.specs.Trail.{TrailState};
 ghost use Rattle.lls_store.specs.Clauses.{clause_numbered};
 ghost use Rattle.lls_store.specs.Removal.{IsNoReason, without_clause};
@@ -8,12 +8,15 @@ ghost use Rattle.lls_arena.specs.Arena.{empty_arena};
 ghost use Rattle.lls_store.specs.Closed.{IsClosed};
 ghost use Rattle.lls_store.specs.Changes.{cut_to, empty_trail};
 ghost use Rattle.lls_store.specs.Sound.{IsSound};
-ghost use Rattle.lls_store.specs.Store.{GoesOn, IsConflict, IsNewVariable, empty_store};
+ghost use Rattle.std.specs.FinSet as set;
+ghost use Rattle.lls_store.specs.declared.store.TheConstants.{MOST_CLAUSES};
+ghost use Rattle.lls_store.specs.Store.{AreLive, GoesOn, IsConflict, IsNewId, IsNewVariable, empty_store, sealed, with_clause};
 ghost use Rattle.lls_watch.specs.Short.{AreSatisfied};
 ghost use Rattle.lls_watch.specs.WatchStore.{Tracks, room_in, store_in};
 
 use crate::Watches;
 use crate::progress::Progress;
+use crate::sealing::seal;
 use crate::short::settle_all;
 use crate::walk::pass_all;
 use lls_arena::Arena;
@@ -71,6 +74,65 @@ impl WatchStore {
         ensures { result.now ≡ self.now.watches.arena }
     {
         self.watches.arena()
+    }
+
+    // Adds a clause, and answers its number. Memory is taken for it alone: the room for a learnt clause stays.
+    pub(crate) fn add(&mut self, trail: &Trail, id: u64, lits: &[Lit]) -> Result<u32, Memory>
+        requires tracked { Tracks self.old trail.now }
+        requires tail { (store_in self.old).tail ≡ [] }
+        requires id { IsNewId (store_in self.old).live id }
+        requires within { is_within (store_in self.old).vars lits.now ≡ true }
+        requires most { (store_in self.old).count < MOST_CLAUSES }
+        ensures number { IfOk result (λ number. number ≡ (store_in self.old).count) }
+        ensures ok { OnOk result (store_in self.new ≡ with_clause (store_in self.old) id lits.now) }
+        ensures err { OnErr result (store_in self.new ≡ store_in self.old) }
+        ensures room { IsTrue (room_in self.old) → IsTrue (room_in self.new) }
+        ensures tracked { Tracks self.new trail.now }
+        ensures sound { IsSound (store_in self.new).live trail.now }
+    {
+        self.short.reserve(2)?;
+        self.watches.reserve(2, lits.len() + self.vars as usize)?;
+        self.watches.append_all(lits);
+        Ok(seal(
+            &mut self.watches,
+            &mut self.progress,
+            &mut self.short,
+            trail,
+            id,
+        ))
+    }
+
+    // How many numbers were given.
+    pub(crate) fn count(&self) -> u32
+        ensures count { result ≡ (store_in self.now).count }
+        ensures most { result ≤ MOST_CLAUSES }
+        ensures live { AreLive (store_in self.now) }
+    {
+        self.watches.arena().count()
+    }
+
+    // Whether the clause of that number is live.
+    pub(crate) fn live(&self, c: u32) -> bool
+        requires { c < (store_in self.now).count }
+        ensures { result ≡ is_some (clause_numbered (store_in self.now).live c) }
+    {
+        self.watches.arena().live(c)
+    }
+
+    // The id of a live clause.
+    pub(crate) fn id(&self, c: u32) -> u64
+        requires { c < (store_in self.now).count }
+        ensures { IfSome (clause_numbered (store_in self.now).live c) (λ clause. result ≡ clause.id) }
+    {
+        self.watches.arena().id(c)
+    }
+
+    // The literals of a live clause, in any order.
+    pub(crate) fn lits(&self, c: u32) -> &[Lit]
+        requires { c < (store_in self.now).count }
+        ensures { IfSome (clause_numbered (store_in self.now).live c) (λ clause. set.from_list result.now ≡ clause.lits) }
+    {
+        self.watches.arena().lits(c)
     }
 
     // Extends the trail by forced literals, until a clause is false, whose number it answers, or nothing is left to do.
@@ -170,6 +232,26 @@ impl WatchStore {
         ensures tracked { (t : TrailState) → Tracks self.old t → Tracks self.new t }
     {
         self.watches.cut(keep as usize);
+    }
+
+    // Makes the tail a live clause, and answers its number.
+    pub(crate) fn seal_learnt(&mut self, trail: &Trail, id: u64) -> u32
+        requires room { IsTrue (room_in self.old) }
+        requires id { IsNewId (store_in self.old).live id }
+        requires most { (store_in self.old).count < MOST_CLAUSES }
+        requires tracked { Tracks self.old trail.now }
+        ensures number { result ≡ (store_in self.old).count }
+        ensures state { store_in self.new ≡ sealed (store_in self.old) id }
+        ensures tracked { Tracks self.new trail.now }
+        ensures sound { IsSound (store_in self.new).live trail.now }
+    {
+        seal(
+            &mut self.watches,
+            &mut self.progress,
+            &mut self.short,
+            trail,
+            id,
+        )
     }
 
     // Takes a live clause out, which is no literal's reason.

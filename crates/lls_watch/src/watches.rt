@@ -91,6 +91,16 @@ impl Watches {
         self.arena.append(lit);
     }
 
+    /// Puts literals at the end of the clause that is being built.
+    pub fn append_all(&mut self, lits: &[Lit])
+        requires { length lits.now ≤ self.old.arena.spare_lits }
+        ensures { self.new ≡ record self.old { arena = record self.old.arena { tail = self.old.arena.tail ++ lits.now; spare_lits = self.old.arena.spare_lits - length lits.now } } }
+    {
+        for k in 0..lits.len() {
+            self.append(lits[k]);
+        }
+    }
+
     /// Keeps the first literals of the clause that is being built.
     pub fn cut(&mut self, keep: usize)
         ensures { self.new ≡ record self.old { arena = record self.old.arena { tail = take keep self.old.arena.tail; spare_lits = self.old.arena.spare_lits + (length self.old.arena.tail - keep) } } }

@@ -1,0 +1,10 @@
+use Rattle.std.proofs.Common.{ap, ◌∙◌}
+use Rattle.lls_arena.specs.Arena.{HeadState}
+use Rattle.lls_watch.specs.WatchStore.{WatchStoreState}
+use Rattle.lls_watch.proofs.Read.{behind_arena, read_lits}
+use Rattle.lls_watch.proofs.watch_store.WatchStore.lits.Goals as goal
+
+pub returns : goal.returns
+returns c =
+    read_lits c.args.self.now.watches.arena.heads c.args.c c.lits.result.now
+    (behind_arena (λ (head : HeadState). head.lits) c.arena.result.now c.args.self.now.watches.arena c.args.c c.lits.result.now (c.arena.ensures ∙ ap (λ (s : WatchStoreState). s.watches.arena) c.self.view_is) c.lits.ensures)
