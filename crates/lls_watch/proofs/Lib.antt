@@ -29,4 +29,5 @@ pub mod Newest
 pub mod Rearranged
 pub mod Killed
 pub mod Compacted
+pub mod Threading
 pub mod Places

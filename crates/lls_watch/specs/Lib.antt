@@ -5,4 +5,5 @@ pub mod Visit
 pub mod Propagating
 pub mod Short
 pub mod Sealed
+pub mod Anew
 pub mod WatchStore

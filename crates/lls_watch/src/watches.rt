@@ -1,8 +1,9 @@
 // Lists of the clauses that watch each literal.
-ghost use Rattle.std.specs.Prelude.{OnOk, take, ◌+◌, ◌-◌, ◌≡◌, ◌≢◌, ◌<◌, ◌≤◌, ◌*◌, ◌∷◌, ◌++◌, ℕ, ℤ, Bool, not, false, List, [], length, replicate, slice_get, slice_index_or, IfOk, IfSome, Option, None, Some};
+ghost use Rattle.std.specs.Prelude.{OnOk, take, ◌+◌, ◌-◌, ◌≡◌, ◌≢◌, ◌<◌, ◌≤◌, ◌*◌, ◌∷◌, ◌++◌, ℕ, ℤ, Bool, not, true, false, map, List, [], length, replicate, slice_get, slice_index_or, IfOk, IfSome, Option, None, Some};
 ghost use Rattle.std.specs.Option.{ForSome};
 ghost use Rattle.lls_lit.specs.Literal.{index_of, literal_at};
-ghost use Rattle.lls_arena.specs.Arena.{IsLive, changed_at, empty_arena, killed, place_of, sealed};
+ghost use Rattle.lls_arena.specs.Arena.{IsLive, changed_at, compacted, empty_arena, killed, place_of, sealed, unlinked};
+ghost use Rattle.lls_watch.specs.Anew.{AreLonger, BeginApart, CanBeListed, HasLists, IsRelinked};
 ghost use Rattle.lls_watch.specs.Watches.{AttachedAt, BeginsWith, CanBegin, CanRewatch, ComesAfter, HasLiteral, IsInNone, IsNotIn, IsThreaded, Lists, WatchesAt, begun, swapped_at, with_attached, with_begun, with_first, with_link_at, with_list};
 
 use lls_arena::{Arena, MOST_HEADS};
@@ -128,6 +129,56 @@ impl Watches {
         self.arena.kill(c);
     }
 
+    /// Settles where each live clause is to go when the dead ones are taken away. All lists are lost.
+    pub fn plan_compact(&mut self)
+        requires { self.old.arena.tail ≡ [] }
+        ensures heads { map unlinked self.new.arena.heads ≡ map unlinked self.old.arena.heads }
+        ensures same { self.new ≡ record self.old { arena = record self.old.arena { heads = self.new.arena.heads; planned = true } } }
+    {
+        self.arena.plan_compact();
+    }
+
+    /// Takes the dead clauses away, and has each that is left and watches two literals in the lists of both. The lists ascend.
+    pub fn finish_compact(&mut self)
+        requires planned { self.old.arena.planned ≡ true }
+        requires tail { self.old.arena.tail ≡ [] }
+        requires listable { CanBeListed self.old }
+        ensures relinked { IsRelinked (record self.old { arena = compacted self.old.arena }) self.new }
+        ensures listed { HasLists self.new }
+    {
+        self.arena.finish_compact();
+        empty_lists(&mut self.first);
+        self.list_all();
+    }
+
+    // Puts the clauses that watch two literals into the lists of both, from the last one on. The lists have none yet.
+    fn list_all(&mut self)
+        requires none { IsThreaded self.old (λ _. []) }
+        requires listable { CanBeListed self.old }
+        ensures relinked { IsRelinked self.old self.new }
+        ensures listed { HasLists self.new }
+    {
+        let mut c = self.arena.count();
+        while c > 0 {
+            c -= 1;
+            self.list(c);
+        }
+    }
+
+    // Puts a clause first in the lists of its first two literals, where it watches them.
+    #[inline]
+    fn list(&mut self, c: u32)
+        requires there { c < length self.old.arena.heads }
+        requires listable { CanBeListed self.old }
+        ensures relinked { IsRelinked self.old self.new }
+        ensures longer { (lists : Lists) → IsThreaded self.old lists → IsInNone lists self.old c → AreLonger self.new lists c }
+    {
+        if begin_apart(self.arena.lits(c)) {
+            self.attach(c, false);
+            self.attach(c, true);
+        }
+    }
+
     /// Puts a clause first in the list of its first literal, or of its second where `w`.
     #[inline]
     pub fn attach(&mut self, c: u32, w: bool)
@@ -191,6 +242,24 @@ impl Watches {
     {
         self.arena.swap(c, place(w), n);
         self.attach(c, w);
+    }
+}
+
+// Whether there are two literals, and the first two differ.
+#[inline]
+fn begin_apart(lits: &[Lit]) -> bool
+    ensures yes { result ≡ true → BeginApart lits.now }
+    ensures no { result ≡ false → ¬ BeginApart lits.now }
+{
+    lits.len() > 1 && lits[0] != lits[1]
+}
+
+// Has every list begin with no clause.
+fn empty_lists(first: &mut [Option<u32>])
+    ensures { first.new ≡ map (λ _. None) first.old }
+{
+    for start in first.iter_mut() {
+        *start = None;
     }
 }
 
