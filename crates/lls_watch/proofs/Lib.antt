@@ -29,5 +29,6 @@ pub mod Newest
 pub mod Rearranged
 pub mod Killed
 pub mod Compacted
+pub mod Numbers
 pub mod Threading
 pub mod Places

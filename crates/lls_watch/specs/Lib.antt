@@ -6,4 +6,5 @@ pub mod Propagating
 pub mod Short
 pub mod Sealed
 pub mod Anew
+pub mod Renumbered
 pub mod WatchStore

@@ -2,6 +2,7 @@
 //! one list to another without memory being taken.
 #![tactic(auto)]
 
+mod compaction;
 mod progress;
 mod sealing;
 mod short;

@@ -3,7 +3,7 @@ ghost use Rattle.std.specs.Prelude.{◌≡◌, ◌<◌, ◌≤◌, [], ◌∷◌
 ghost use Rattle.lls_lit.specs.Formula.{is_literal_of, is_within};
 ghost use Rattle.lls_store.specs.Trail.{TrailState};
 ghost use Rattle.lls_store.specs.Clauses.{clause_numbered};
-ghost use Rattle.lls_store.specs.Removal.{IsNoReason, without_clause};
+ghost use Rattle.lls_store.specs.Removal.{IsNoReason, compacted, renamed, without_clause};
 ghost use Rattle.lls_arena.specs.Arena.{empty_arena};
 ghost use Rattle.lls_store.specs.Closed.{IsClosed};
 ghost use Rattle.lls_store.specs.Changes.{cut_to, empty_trail};
@@ -15,6 +15,7 @@ ghost use Rattle.lls_watch.specs.Short.{AreSatisfied};
 ghost use Rattle.lls_watch.specs.WatchStore.{Tracks, room_in, store_in};
 
 use crate::Watches;
+use crate::compaction::{count_live, rename_numbers, rename_reasons};
 use crate::progress::Progress;
 use crate::sealing::seal;
 use crate::short::settle_all;
@@ -266,5 +267,22 @@ impl WatchStore {
         ensures sound { IsSound (store_in self.new).live trail.now }
     {
         self.watches.kill(c);
+    }
+
+    // Numbers the live clauses from 0 in their order, and changes each reason of the trail to its clause's new number.
+    pub(crate) fn compact(&mut self, trail: &mut Trail)
+        requires tail { (store_in self.old).tail ≡ [] }
+        requires tracked { Tracks self.old trail.old }
+        ensures state { store_in self.new ≡ compacted (store_in self.old) }
+        ensures renamed { trail.new ≡ renamed (store_in self.old).live trail.old }
+        ensures room { IsTrue (room_in self.old) → IsTrue (room_in self.new) }
+        ensures tracked { Tracks self.new trail.new }
+        ensures sound { IsSound (store_in self.new).live trail.new }
+    {
+        self.watches.plan_compact();
+        rename_reasons(self.watches.arena(), trail);
+        self.satisfied = count_live(self.watches.arena(), &self.short[..self.satisfied]);
+        rename_numbers(self.watches.arena(), &mut self.short);
+        self.watches.finish_compact();
     }
 }
