@@ -31,4 +31,7 @@ pub mod Killed
 pub mod Compacted
 pub mod Numbers
 pub mod Threading
+pub mod Slid
+pub mod Moves
+pub mod CompactedStore
 pub mod Places

@@ -36,7 +36,7 @@ sealed_lits state new arena id c lits is same number found =
 pub literal_of : (vars : ℕ) (l : ℤ) → vars ≤ MOST → is_literal_of vars l ≡ true → IsLiteral l
 literal_of vars l few is = let bounds = variable_bounds vars (variable_of l) is in (bounds.0, omega (arith, bounds.1, few))
 
-listed_of : (state : WatchState) (vars : ℕ) (l : ℤ) → vars ≤ MOST → Fits state vars → is_literal_of vars l ≡ true → index_of l < length state.first
+pub listed_of : (state : WatchState) (vars : ℕ) (l : ℤ) → vars ≤ MOST → Fits state vars → is_literal_of vars l ≡ true → index_of l < length state.first
 listed_of state vars l few fits is =
     subst (λ n. index_of l < n) (sym fits.lists) (index_within l vars (literal_of vars l few is) (variable_bounds vars (variable_of l) is).1)
 
