@@ -1,6 +1,6 @@
 -- A store over watches whose clauses were numbered anew.
 use Rattle.std.proofs.Common.{◌≡◌, ◌≤◌, ◌<◌, ◌+◌, ◌⊎◌, zero, suc, ℕ, ℤ, Bool, true, false, not, ◌||◌, ◌&&◌, cond, List, [], ◌∷◌, Option, Some, None, refl, sym, ap, ◌∙◌, subst, arith, length, map, take, zero-add, inl, inr, ⊎_elim}
-use Rattle.std.specs.Prelude.{filter, nat_le, nat_lt, slice_get, slice_index_or}
+use Rattle.std.specs.Prelude.{filter, nat_le, nat_lt, slice_get}
 use Rattle.std.specs.Option.{option_map}
 use Rattle.std.specs.Ordering.{int_eq}
 use Rattle.std.specs.FinSet as set
@@ -10,7 +10,6 @@ use Rattle.std.proofs.lemmas.Option.{get_or_from_slice_get, slice_get-map, slice
 use Rattle.lls_lit.specs.Literal.{IsLiteral, index_of, negation}
 use Rattle.lls_lit.specs.declared.var.TheConstants.Var.{MOST}
 use Rattle.lls_lit.specs.Formula.{is_within}
-use Rattle.lls_store.specs.declared.store.TheConstants.{MOST_CLAUSES}
 use Rattle.lls_store.specs.Trail.{Entry, TrailState, has as has_literal}
 use Rattle.lls_store.specs.Changes.{entries_up_to}
 use Rattle.lls_store.specs.Clauses.{LiveClause, IsIn, clause_numbered}
@@ -23,7 +22,7 @@ use Rattle.lls_arena.specs.Arena.{ArenaState, HeadState, compacted as compacted_
 use Rattle.lls_watch.specs.declared.progress.Progress.{Progress}
 use Rattle.lls_watch.specs.Watches.{WatchState, IsWatching, has, watched}
 use Rattle.lls_watch.specs.Passed.{ArePassed, IsOffset, live_from}
-use Rattle.lls_watch.specs.Propagating.{ArePropagating, Fits, WatchesTwo}
+use Rattle.lls_watch.specs.Propagating.{Fits, WatchesTwo}
 use Rattle.lls_watch.specs.Short.{AreSatisfiedForGood, HasOneAtMost, IsShort}
 use Rattle.lls_watch.specs.Anew.{CanBeListed, HasLists, IsRelinked}
 use Rattle.lls_watch.specs.Renumbered.{is_live_at, live_among, moved_among}
@@ -187,9 +186,13 @@ for_good_anew s t new rising it good k to within found clause named =
     let at = was_there heads s.short s.satisfied k to within found in
     let both = is_anew s.watches new at.number rising it at.live in
     let same : clause ≡ renumbered live both.clause = same_live clause (renumbered live both.clause) (sym named ∙ ap (clause_numbered (live_from 0 new.arena.heads)) (sym at.goes) ∙ both.now) in
-    let one = good at.place at.number at.before at.found both.clause both.was in
-    (one.0, (subst (λ (x : LiveClause). IsIn x.lits one.0) (sym same) one.1.0,
-      ap (λ es. has_literal es one.0) (up_to_anew live 0 t.entries) ∙ has_anew live (entries_up_to 0 t.entries) one.0 ∙ one.1.1))
+    let one = good at.place at.number at.before at.found both.clause both.was in (
+      one.0,
+      (
+        subst (λ (x : LiveClause). IsIn x.lits one.0) (sym same) one.1.0,
+        ap (λ es. has_literal es one.0) (up_to_anew live 0 t.entries) ∙ has_anew live (entries_up_to 0 t.entries) one.0 ∙ one.1.1,
+      ),
+    )
   where
     same_live : (a b : LiveClause) → Some a ≡ Some b → a ≡ b
     same_live a b e = cc

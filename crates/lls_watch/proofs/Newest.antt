@@ -1,5 +1,5 @@
 -- The clause that was sealed last, before and behind its beginning to watch.
-use Rattle.std.proofs.Common.{◌≡◌, ◌≤◌, ◌<◌, zero, suc, ℕ, ℤ, pos, Bool, true, false, List, [], ◌∷◌, Option, Some, refl, sym, ap, ◌∙◌, subst, arith, length, map}
+use Rattle.std.proofs.Common.{◌≡◌, ◌≤◌, ◌<◌, zero, suc, ℕ, ℤ, pos, Bool, true, false, List, [], ◌∷◌, Some, sym, ap, ◌∙◌, subst, arith, length, map}
 use Rattle.std.specs.Prelude.{◌≢◌, IfSome, slice_get, slice_index_or}
 use Rattle.std.specs.Option.{option_map}
 use Rattle.std.proofs.lemmas.Option.{slice_get-map, slice_get_within}

@@ -1,14 +1,12 @@
 -- Numbers of live clauses, one after another.
-use Rattle.std.proofs.Common.{◌≡◌, ◌≤◌, ◌<◌, ◌+◌, ℕ, Bool, true, false, cond, List, [], ◌∷◌, ◌++◌, Option, Some, refl, sym, ap, ◌∙◌, subst, arith, get_or, length, map, take, drop, length-append}
+use Rattle.std.proofs.Common.{◌≡◌, ◌≤◌, ◌<◌, ◌+◌, ℕ, Bool, true, false, cond, List, [], ◌∷◌, ◌++◌, Option, Some, sym, ap, ◌∙◌, arith, get_or, length, map, take, drop, length-append}
 use Rattle.std.specs.Prelude.{slice_set, filter, is_some, option_and_then, slice_get}
-use Rattle.std.specs.Option.{IsSome}
 use Rattle.std.proofs.lemmas.List.{append-nil, drop-set-lt, get_or-drop, length-map, map-append, take_more, take_more_set}
 use Rattle.std.proofs.lemmas.Grind.{drop_more_same}
 use Rattle.std.proofs.lemmas.List.Elements.{filter-append}
 use Rattle.std.proofs.lemmas.Option.{get_or_from_slice_get, slice_get_within}
 use Rattle.lls_store.specs.Trail.{Entry, TrailState, reason_of}
 use Rattle.lls_store.specs.Changes.{with_reason}
-use Rattle.lls_store.specs.Clauses.{clause_numbered}
 use Rattle.lls_store.specs.Sound.{IsSound}
 use Rattle.lls_store.specs.Removal.{new_number}
 use Rattle.lls_store.proofs.Renaming.{IsRead, renamed_front, renamed_front-forced}

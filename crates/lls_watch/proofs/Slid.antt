@@ -6,7 +6,7 @@ use Rattle.std.proofs.lemmas.List.Sums.{sum_by-cons}
 use Rattle.lls_store.specs.Clauses.{LiveClause}
 use Rattle.lls_arena.specs.Arena.{HeadState, live_before, lives_of, unlinked}
 use Rattle.lls_watch.specs.Passed.{live_from}
-use Rattle.lls_watch.specs.Renumbered.{is_live_at, live_among, moved_among}
+use Rattle.lls_watch.specs.Renumbered.{live_among, moved_among}
 
 abbrev is_live_head : HeadState → Bool
 is_live_head head = head.live

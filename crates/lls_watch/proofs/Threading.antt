@@ -9,7 +9,7 @@ use Rattle.std.proofs.lemmas.Option.{slice_get_within}
 use Rattle.lls_lit.specs.Literal.{IsLiteral, index_of, literal_at}
 use Rattle.lls_lit.specs.Indices.{literal_at-index_of}
 use Rattle.lls_arena.specs.Arena.{ArenaState, HeadState, changed_at, compacted, unlinked, with_link}
-use Rattle.lls_watch.specs.Watches.{WatchState, Lists, IsInNone, IsThreaded, IsWatching, WatchesAt, attached, has, list_of, watched, with_attached, with_list}
+use Rattle.lls_watch.specs.Watches.{WatchState, Lists, IsInNone, IsThreaded, IsWatching, WatchesAt, attached, has, list_of, watched, with_attached}
 use Rattle.lls_watch.specs.Anew.{AreListedFrom, AreLonger, BeginApart, CanBeListed, HasLists, IsRelinked}
 use Rattle.lls_watch.proofs.Begun.{attached_has, has_attached, linked_watched, linked_watching}
 use Rattle.lls_watch.proofs.Changed.{some_same}

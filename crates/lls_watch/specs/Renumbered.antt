@@ -1,5 +1,5 @@
 -- Numbers of clauses, as those that are live get them where the dead ones are taken away.
-use Rattle.std.specs.Prelude.{◌≡◌, ℕ, Bool, true, false, List, map, filter, slice_index_or}
+use Rattle.std.specs.Prelude.{ℕ, Bool, false, List, map, filter, slice_index_or}
 use Rattle.lls_arena.specs.Arena.{HeadState, live_before, lives_of}
 
 -- the clause of that number is there and live

@@ -1,8 +1,9 @@
 -- A store over watches: what holds of it, and what fits a trail.
-use Rattle.std.specs.Prelude.{◌≡◌, ◌≤◌, ◌<◌, ◌+◌, ◌⊎◌, ℕ, Bool, true, ◌&&◌, nat_lt, nat_le, List, All, length}
+use Rattle.std.specs.Prelude.{◌≡◌, ◌≤◌, ◌<◌, ◌+◌, ◌⊎◌, ℕ, ℤ, Bool, true, ◌&&◌, nat_lt, nat_le, List, All, length}
 use Rattle.lls_lit.specs.declared.var.TheConstants.Var.{MOST}
 use Rattle.lls_store.specs.declared.store.TheConstants.{MOST_CLAUSES}
 use Rattle.lls_store.specs.Trail.{TrailState}
+use Rattle.lls_store.specs.Changes.{decided}
 use Rattle.lls_store.specs.Store.{StoreState, AreLive}
 use Rattle.lls_store.specs.Scan.{IsTail}
 use Rattle.lls_watch.specs.declared.progress.Progress.{Progress}
@@ -44,3 +45,8 @@ pub record Tracks (s : WatchStoreState) (t : TrailState) : Type 0 where
   pub propagating : ArePropagating s.watches t s.progress
   pub reach : s.progress.passed ≤ length t.entries
   pub for_good : AreSatisfiedForGood (live_from 0 s.watches.arena.heads) t.entries s.short s.satisfied
+
+-- it fits, and it will where a literal is decided
+pub record Settles (s : WatchStoreState) (t : TrailState) : Type 0 where
+  pub tracks : Tracks s t
+  pub behind : (l : ℤ) → Tracks s (decided t l)

@@ -9,11 +9,11 @@ loop-number-preserved c =
     let low = c.loop-number.invariant.0 in
     elim c.if-live.branch [
       | then-live w ↦ (
-          omega (arith, w.count-is, low),
-          w.count-is ∙ counted_live heads c.args.numbers.now c.loop-number.number-index c.loop-number.count c.loop-number-test.true (c.live.ensures ∙ ap Some w.if-live.true) c.loop-number.invariant.1,
-        )
+        omega (arith, w.count-is, low),
+        w.count-is ∙ counted_live heads c.args.numbers.now c.loop-number.number-index c.loop-number.count c.loop-number-test.true (c.live.ensures ∙ ap Some w.if-live.true) c.loop-number.invariant.1,
+      )
       | else-live w ↦ (
-          omega (arith, w.count-is, low),
-          w.count-is ∙ counted_dead heads c.args.numbers.now c.loop-number.number-index c.loop-number.count c.loop-number-test.true (c.live.ensures ∙ ap Some w.if-live.false) c.loop-number.invariant.1,
-        )
+        omega (arith, w.count-is, low),
+        w.count-is ∙ counted_dead heads c.args.numbers.now c.loop-number.number-index c.loop-number.count c.loop-number-test.true (c.live.ensures ∙ ap Some w.if-live.false) c.loop-number.invariant.1,
+      )
     ]

@@ -1,5 +1,5 @@
 -- So far the live ones are moved, and those from this place on stand as at first.
-use Rattle.std.proofs.Common.{◌≡◌, ◌≤◌, take, drop, length}
+use Rattle.std.proofs.Common.{◌≡◌, ◌≤◌, take, drop}
 use Rattle.lls_watch.specs.Renumbered.{moved_among}
 use Rattle.lls_watch.proofs.compaction.move_live.Given as goal
 

@@ -1,11 +1,11 @@
-use Rattle.std.proofs.Common.{◌≡◌, ◌≤◌, ℕ, ℤ, Bool, true, false, List, [], ◌∷◌, ◌++◌, Some, length, refl, sym, ap, ◌∙◌, subst, arith}
+use Rattle.std.proofs.Common.{◌≡◌, ℕ, ℤ, Bool, true, false, List, [], ◌∷◌, ◌++◌, Some, length, sym, ap, ◌∙◌, subst, arith}
 use Rattle.std.specs.Prelude.{◌≢◌, ◌<◌, IfSome, slice_get}
 use Rattle.lls_lit.specs.Literal.{negation}
 use Rattle.std.specs.FinSet as set
 use Rattle.lls_store.specs.Trail.{Entry}
 use Rattle.lls_store.specs.Clauses.{IsIn}
-use Rattle.lls_arena.specs.Arena.{ArenaState, HeadState}
-use Rattle.lls_watch.specs.Watches.{CanBegin, IsInNone, IsThreaded, Lists, WatchState, begun, watched, with_begun}
+use Rattle.lls_arena.specs.Arena.{HeadState}
+use Rattle.lls_watch.specs.Watches.{CanBegin, IsThreaded, WatchState, begun, watched}
 use Rattle.lls_watch.specs.Propagating.{ArePropagating}
 use Rattle.lls_watch.specs.Sealed.{HasSealed}
 use Rattle.lls_watch.proofs.Beginning.{begun_propagating, begun_sealed, last_head, short_propagating, short_sealed, with_sealed}

@@ -1,7 +1,7 @@
-use Rattle.std.proofs.Common.{◌≡◌, ◌∙◌, ℕ, [], ap, length, map, List, Option, None, sym, subst}
+use Rattle.std.proofs.Common.{◌∙◌, ℕ, [], ap, map, List, Option, None, sym, subst}
 use Rattle.std.proofs.lemmas.List.{length-map, with_items_is}
 use Rattle.lls_arena.specs.declared.TheConstants.{MOST_HEADS}
-use Rattle.lls_arena.specs.Arena.{ArenaState, compacted}
+use Rattle.lls_arena.specs.Arena.{ArenaState}
 use Rattle.lls_watch.specs.Watches.{IsThreaded, WatchState}
 use Rattle.lls_watch.specs.Anew.{CanBeListed}
 use Rattle.lls_watch.proofs.Threading.{compacted_listable, none_given, none_threaded}

@@ -3,7 +3,7 @@ use Rattle.std.specs.Prelude.{slice_get}
 use Rattle.lls_arena.specs.Arena.{HeadState}
 use Rattle.lls_watch.specs.Watches.{WatchState, WatchesAt, attached}
 use Rattle.lls_watch.specs.Anew.{AreLonger, IsRelinked}
-use Rattle.lls_watch.proofs.Threading.{apart_head, attached_watches, listable, listable_at, listed_twice, none_longer, not_apart, twice_longer, twice_relinked}
+use Rattle.lls_watch.proofs.Threading.{apart_head, attached_watches, listable, listable_at, none_longer, not_apart, twice_longer, twice_relinked}
 use Rattle.lls_watch.proofs.watches.Watches.list.Goals as goal
 
 pub attach-requires : goal.attach-requires

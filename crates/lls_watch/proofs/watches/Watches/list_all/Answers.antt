@@ -13,6 +13,6 @@ loop-c-preserved c =
       omega (arith, same, c.loop-c.invariant.0),
       (
         relinked_further c.args.self.now c.loop-c.self c.list.new.self c.loop-c.invariant.1.0 it,
-        (listable_still c.loop-c.self c.list.new.self it c.loop-c.invariant.1.1.0, listed_one_more c.loop-c.self c.list.new.self (c.loop-c.c - 1) it from (c.list.ensures.longer from.lists from.threaded (not_among c.loop-c.self (c.loop-c.c - 1) from)))
+        (listable_still c.loop-c.self c.list.new.self it c.loop-c.invariant.1.1.0, listed_one_more c.loop-c.self c.list.new.self (c.loop-c.c - 1) it from (c.list.ensures.longer from.lists from.threaded (not_among c.loop-c.self (c.loop-c.c - 1) from))),
       ),
     )

@@ -1,9 +1,10 @@
 use Rattle.std.proofs.Common.{ℕ, List, refl, sym, subst}
 use Rattle.std.specs.Prelude.{vec_capacity}
+use Rattle.lls_store.specs.Changes.{decided}
 use Rattle.lls_watch.specs.Watches.{WatchState}
 use Rattle.lls_watch.specs.WatchStore.{Tracks, WatchStoreState}
 use Rattle.lls_watch.proofs.Rearranged.{tracks_arena}
-use Rattle.lls_watch.proofs.watch_store.WatchStore.reserve_learnt.Goals as goal
+use Rattle.lls_watch.proofs.watch_store.WatchStoreStore.reserve_learnt.Goals as goal
 
 pub returns-in_err-reserve-clause-tracked : goal.returns-in_err-reserve-clause-tracked
 returns-in_err-reserve-clause-tracked c =
@@ -25,3 +26,12 @@ returns-clause-tracked c =
     subst (λ (cs : List ℕ). Tracks (record s { watches = c.reserve.new.self; short = cs; short_room = vec_capacity c.reserve-2.new.self }) t) (sym c.reserve-2.ensures.items)
     (subst (λ (w : WatchState). Tracks (record s { watches = w; short_room = vec_capacity c.reserve-2.new.self }) t) (sym c.reserve.ensures.same)
     (tracks_arena s t _ (vec_capacity c.reserve-2.new.self) refl (subst (λ x. Tracks x t) (sym c.self.view_is) it)))
+
+pub returns-in_err-reserve-clause-settled : goal.returns-in_err-reserve-clause-settled
+returns-in_err-reserve-clause-settled c = λ t it. record { tracks = returns-in_err-reserve-clause-tracked c t it.tracks; behind = λ l. returns-in_err-reserve-clause-tracked c (decided t l) (it.behind l) }
+
+pub returns-in_err-reserve-2-clause-settled : goal.returns-in_err-reserve-2-clause-settled
+returns-in_err-reserve-2-clause-settled c = λ t it. record { tracks = returns-in_err-reserve-2-clause-tracked c t it.tracks; behind = λ l. returns-in_err-reserve-2-clause-tracked c (decided t l) (it.behind l) }
+
+pub returns-clause-settled : goal.returns-clause-settled
+returns-clause-settled c = λ t it. record { tracks = returns-clause-tracked c t it.tracks; behind = λ l. returns-clause-tracked c (decided t l) (it.behind l) }

@@ -7,7 +7,7 @@ use Rattle.lls_watch.specs.Watches.{IsThreaded, WatchState}
 use Rattle.lls_watch.specs.WatchStore.{IsWatchStore, Tracks, WatchStoreState, store_in}
 use Rattle.lls_watch.proofs.Killed.{store_killed, tracks_killed, watch_store_killed}
 use Rattle.lls_watch.proofs.Rearranged.{live_in_arena}
-use Rattle.lls_watch.proofs.watch_store.WatchStore.remove.Goals as goal
+use Rattle.lls_watch.proofs.watch_store.WatchStoreStore.remove.Goals as goal
 
 pub kill-requires : goal.kill-requires
 kill-requires c =

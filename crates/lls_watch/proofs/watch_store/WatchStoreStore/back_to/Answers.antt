@@ -7,7 +7,7 @@ use Rattle.lls_watch.specs.declared.progress.Progress.{Progress}
 use Rattle.lls_watch.specs.Passed.{live_from}
 use Rattle.lls_watch.specs.WatchStore.{Tracks, WatchStoreState}
 use Rattle.lls_watch.proofs.Tracked.{cut_same, tracks_cut}
-use Rattle.lls_watch.proofs.watch_store.WatchStore.back_to.Goals as goal
+use Rattle.lls_watch.proofs.watch_store.WatchStoreStore.back_to.Goals as goal
 
 pub returns-then-level-current-clause-cut : goal.returns-then-level-current-clause-cut
 returns-then-level-current-clause-cut c = cut_same c.args.trail.now c.args.level c.current.ensures.kept (c.if-level-current.true ∙ c.current.ensures.current)

@@ -2,7 +2,7 @@ use Rattle.std.proofs.Common.{ap, ◌∙◌}
 use Rattle.lls_arena.specs.Arena.{HeadState}
 use Rattle.lls_watch.specs.WatchStore.{WatchStoreState}
 use Rattle.lls_watch.proofs.Read.{behind_arena, read_live}
-use Rattle.lls_watch.proofs.watch_store.WatchStore.live.Goals as goal
+use Rattle.lls_watch.proofs.watch_store.WatchStoreStore.live.Goals as goal
 
 pub returns : goal.returns
 returns c =

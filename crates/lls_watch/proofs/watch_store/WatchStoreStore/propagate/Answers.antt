@@ -6,8 +6,8 @@ use Rattle.lls_watch.specs.Passed.{live_from}
 use Rattle.lls_watch.specs.Short.{AreSatisfied}
 use Rattle.lls_watch.specs.WatchStore.{Tracks, WatchStoreState}
 use Rattle.lls_watch.proofs.Shorts.{satisfied_grown}
-use Rattle.lls_watch.proofs.Tracked.{closed_all, tracks_passed, watch_store_passed}
-use Rattle.lls_watch.proofs.watch_store.WatchStore.propagate.Goals as goal
+use Rattle.lls_watch.proofs.Tracked.{closed_all, tracks_decided, tracks_passed, watch_store_passed}
+use Rattle.lls_watch.proofs.watch_store.WatchStoreStore.propagate.Goals as goal
 
 where_none : (o : Option ℕ) (P : Type 0) → (o ≡ None → P) → IfNone o P
 where_none None P it = it refl
@@ -23,6 +23,11 @@ pub returns-clause-tracked : goal.returns-clause-tracked
 returns-clause-tracked c =
     tracks_passed _ c.settle_short.new.trail c.pass_all.new.trail c.pass_all.new.watches c.pass_all.new.progress c.pass_all.ensures.grown c.pass_all.ensures.alike c.pass_all.ensures.kept c.pass_all.ensures.reach
     (subst (λ s. Tracks s c.settle_short.new.trail) (sym c.self.view_is) c.settle_short.ensures.tracked)
+
+pub returns-clause-settled : goal.returns-clause-settled
+returns-clause-settled c =
+    let tracks = returns-clause-tracked c in
+    where_none c.pass_all.result _ (λ _. record { tracks = tracks; behind = λ l. tracks_decided _ c.pass_all.new.trail l tracks })
 
 pub returns-clause-closed : goal.returns-clause-closed
 returns-clause-closed c =

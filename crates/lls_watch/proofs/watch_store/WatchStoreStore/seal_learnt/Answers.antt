@@ -1,12 +1,12 @@
-use Rattle.std.proofs.Common.{◌≡◌, ◌<◌, ℕ, sym, ap, ◌∙◌, subst, length}
+use Rattle.std.proofs.Common.{◌<◌, sym, subst, length}
 use Rattle.std.specs.Prelude.{vec_capacity}
 use Rattle.lls_store.specs.declared.store.TheConstants.{MOST_CLAUSES}
 use Rattle.lls_store.specs.Store.{IsNewId}
 use Rattle.lls_watch.specs.Sealed.{HasSealed}
 use Rattle.lls_watch.specs.Passed.{live_from}
-use Rattle.lls_watch.specs.WatchStore.{Tracks, WatchStoreState, store_in}
-use Rattle.lls_watch.proofs.SealedStore.{store_sealed, tracks_sealed, watch_store_sealed}
-use Rattle.lls_watch.proofs.watch_store.WatchStore.seal_learnt.Goals as goal
+use Rattle.lls_watch.specs.WatchStore.{Tracks, WatchStoreState}
+use Rattle.lls_watch.proofs.SealedStore.{tracks_sealed, watch_store_sealed}
+use Rattle.lls_watch.proofs.watch_store.WatchStoreStore.seal_learnt.Goals as goal
 
 pub invariant_of-self : goal.invariant_of-self
 invariant_of-self c =

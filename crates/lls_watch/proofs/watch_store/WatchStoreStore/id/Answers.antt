@@ -2,7 +2,7 @@ use Rattle.std.proofs.Common.{ap, ◌∙◌}
 use Rattle.lls_arena.specs.Arena.{HeadState}
 use Rattle.lls_watch.specs.WatchStore.{WatchStoreState}
 use Rattle.lls_watch.proofs.Read.{behind_arena, read_id}
-use Rattle.lls_watch.proofs.watch_store.WatchStore.id.Goals as goal
+use Rattle.lls_watch.proofs.watch_store.WatchStoreStore.id.Goals as goal
 
 pub returns : goal.returns
 returns c =

@@ -5,10 +5,11 @@ use Rattle.lls_lit.specs.Formula.{is_literal_of}
 use Rattle.lls_store.specs.Store.{IsNewVariable}
 use Rattle.lls_store.specs.Scan.{IsTail}
 use Rattle.lls_store.proofs.Tails.{IsTail-push, length-IsTail}
+use Rattle.lls_store.specs.Changes.{decided}
 use Rattle.lls_watch.specs.Watches.{WatchState}
 use Rattle.lls_watch.specs.WatchStore.{IsWatchStore, Tracks, WatchStoreState, room_in}
 use Rattle.lls_watch.proofs.Rearranged.{room_parts, tracks_arena, watch_store_arena}
-use Rattle.lls_watch.proofs.watch_store.WatchStore.push_learnt.Goals as goal
+use Rattle.lls_watch.proofs.watch_store.WatchStoreStore.push_learnt.Goals as goal
 
 pub append-requires : goal.append-requires
 append-requires c =
@@ -31,3 +32,6 @@ pub returns-clause-tracked : goal.returns-clause-tracked
 returns-clause-tracked c =
     let s : WatchStoreState = record { vars = c.self.inside.vars; watches = c.self.inside.watches; progress = c.self.inside.progress; short = c.self.inside.short.items; short_room = vec_capacity c.self.inside.short; satisfied = c.self.inside.satisfied } in
     λ t it. subst (λ (w : WatchState). Tracks (record s { watches = w }) t) (sym c.append.ensures) (tracks_arena s t _ s.short_room refl (subst (λ x. Tracks x t) (sym c.self.view_is) it))
+
+pub returns-clause-settled : goal.returns-clause-settled
+returns-clause-settled c = λ t it. record { tracks = returns-clause-tracked c t it.tracks; behind = λ l. returns-clause-tracked c (decided t l) (it.behind l) }

@@ -10,7 +10,7 @@ use Rattle.lls_watch.specs.Sealed.{HasSealed}
 use Rattle.lls_watch.specs.WatchStore.{Tracks, WatchStoreState}
 use Rattle.lls_watch.proofs.Rearranged.{tracks_arena}
 use Rattle.lls_watch.proofs.SealedStore.{tracks_sealed, watch_store_sealed, with_tail}
-use Rattle.lls_watch.proofs.watch_store.WatchStore.add.Goals as goal
+use Rattle.lls_watch.proofs.watch_store.WatchStoreStore.add.Goals as goal
 
 pub returns-in_err-reserve-clause-sound : goal.returns-in_err-reserve-clause-sound
 returns-in_err-reserve-clause-sound c =

@@ -1,6 +1,5 @@
 use Rattle.std.proofs.Common.{◌≡◌, ℕ, true, List, take, length, sym, ap, ◌∙◌, subst}
 use Rattle.std.specs.Prelude.{vec_capacity}
-use Rattle.lls_store.specs.Trail.{TrailState}
 use Rattle.lls_store.specs.Clauses.{LiveClause}
 use Rattle.lls_store.specs.Removal.{compacted, renamed}
 use Rattle.lls_store.specs.Sound.{IsSound}
@@ -12,7 +11,7 @@ use Rattle.lls_watch.specs.Renumbered.{live_among, moved_among}
 use Rattle.lls_watch.specs.WatchStore.{IsWatchStore, Tracks, WatchStoreState, room_in, store_in}
 use Rattle.lls_watch.proofs.CompactedStore.{IsCompactedFrom, anew_store, compacted_from, fits_listable, planned_listable, room_anew, store_anew, tracks_anew, watch_store_anew}
 use Rattle.lls_watch.proofs.Slid.{among_same, live_same, moved_same}
-use Rattle.lls_watch.proofs.watch_store.WatchStore.compact.Goals as goal
+use Rattle.lls_watch.proofs.watch_store.WatchStoreStore.compact.Goals as goal
 
 pub rename_reasons-requires-clause-sound : goal.rename_reasons-requires-clause-sound
 rename_reasons-requires-clause-sound c =
