@@ -7,7 +7,8 @@ use crate::searcher::{Searcher, Turn};
 use lls_base::Memory;
 use lls_cnf::Formula;
 use lls_prooflog::Log;
-use lls_store::{ScanStore, Store};
+use lls_store::Store;
+use lls_watch::WatchStore;
 use std::alloc::Global;
 
 /// The greatest budget.
@@ -39,7 +40,8 @@ pub fn solve(
     ensures decides_kept { keep_all ≡ true → 3 ^ formula.now.vars ≤ budget → result ≢ Ok Outcome.Undecided }
 {
     let vars = formula.vars();
-    let mut searcher = Searcher::new(alloc, ScanStore::new(alloc, vars), formula)?;
+    let store = WatchStore::new(alloc, vars)?;
+    let mut searcher = Searcher::new(alloc, store, formula)?;
     take_turns(alloc, formula, &mut searcher, log, budget, keep_all)
 }
 
