@@ -128,7 +128,7 @@ fn give_making<S: Shelf, O: Sink, E: Sink>(
 }
 
 /// Answers a question, and gives the answer.
-pub(crate) fn give_answer<S: Shelf, O: Sink, E: Sink>(
+pub fn give_answer<S: Shelf, O: Sink, E: Sink>(
     alloc: Global,
     question: Question,
     shelf: &mut S,

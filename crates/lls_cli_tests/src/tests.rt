@@ -8,8 +8,8 @@ mod making;
 mod outside;
 mod searches;
 
-use crate::run::run;
-use crate::status::Status;
+use lls_cli::run::run;
+use lls_cli::status::Status;
 use lls_base::{MemShelf, MemSink, Name, Plan};
 use std::alloc::{AllocError, Global};
 use std::process::Abort;
