@@ -1,10 +1,8 @@
 -- What follows from how a run ends.
 use Rattle.std.proofs.Common.{◌≡◌, ◌≤◌, ℕ, Option, None, Some, Result, Ok, Err, refl, ap, sym, subst, ◌∙◌, inl, inr, arith, ◌⊎◌}
 use Rattle.std.specs.Prelude.{IsErr}
-use Rattle.std.specs.Option.{option_map}
 use Rattle.lls_base.specs.Faults.{Rose}
 use Rattle.lls_base.specs.Shelf.{Files}
-use Rattle.lls_lrat.specs.declared.error.CheckError.{CheckError}
 use Rattle.lls_search_file.specs.declared.error.PosedError.{PosedError}
 use Rattle.lls_search_file.specs.declared.error.PosedError.TheVariants as posed
 use Rattle.lls_cnf.specs.declared.dimacs_error.DimacsError.{DimacsError}
@@ -13,12 +11,9 @@ use Rattle.lls_rle.specs.declared.rle_error.RleError.{RleError}
 use Rattle.lls_rle.specs.declared.rle_error.RleError.TheVariants as pictures
 use Rattle.lls_problem.specs.declared.demands.DemandError.{DemandError}
 use Rattle.lls_problem.specs.declared.demands.DemandError.TheVariants as demands
-use Rattle.lls_problem.specs.declared.judgement.Judgement.{Judgement}
-use Rattle.lls_problem.specs.declared.judgement.Judgement.TheVariants as judgements
 use Rattle.lls_words.specs.declared.error.WordsError.{WordsError}
 use Rattle.lls_words.specs.declared.error.WordsError.TheVariants as words
 use Rattle.lls_words.specs.declared.job.Job.{Job}
-use Rattle.lls_words.specs.declared.job.Job.TheVariants as jobs
 use Rattle.lls_cli.specs.declared.fault.Fault.{Fault}
 use Rattle.lls_cli.specs.declared.fault.Fault.TheVariants as faults
 use Rattle.lls_cli.specs.declared.fault.OutsideFault.TheVariants as outside
@@ -28,8 +23,8 @@ use Rattle.lls_cli.specs.Fault.{status_of, words_status, posed_status, demand_st
 use Rattle.lls_cli.specs.Evidence.{NamedFile}
 use Rattle.lls_cli.specs.Answer.{GivenAnswer, IsAnswer, Holds, YesHolds, NoHolds, SomeHolds, NoneHolds, HasShortBudget}
 use Rattle.lls_cli.specs.Question.{Question, Asking, of_none, of_one, of_two, asking_of, question_by, question_of, AsksBy, Asks, input_of}
-use Rattle.lls_cli.specs.Moment.{ShelfMoment, SinkMoment, Moment, with_shelf, files_at}
-use Rattle.lls_cli.specs.Ends.{LacksMemory, FileFailed, WroteFile, IsDecided, with_file, End, refused, lacked, input_failed, ahead_failed, answered, file_failed, output_failed, IsEndOf, IsEndBehind, Ends, ahead_of, IsEnd}
+use Rattle.lls_cli.specs.Moment.{ShelfMoment, SinkMoment, Moment, files_at}
+use Rattle.lls_cli.specs.Ends.{FileFailed, WroteFile, IsDecided, End, refused, lacked, input_failed, ahead_failed, answered, file_failed, output_failed, IsEndBehind, Ends, ahead_of, IsEnd}
 use Rattle.lls_cli.proofs.Behind.{answer_of, WroteAhead, ahead_faults, lacking}
 use Rattle.lls_cli.specs.Claims.{OfQuestion, IsSilent, IsAnswered, IsFaultStatus, MissesFile, HasCause, NothingFailed, CountsNeverFall}
 

@@ -1,9 +1,8 @@
 -- What a search found to be absent is checked again with the same words.
-use Rattle.std.proofs.Common.{◌≡◌, ◌≢◌, ◌≤◌, ℕ, Bool, true, false, List, [], ◌∷◌, Option, None, Some, Result, Ok, Err, refl, sym, ap, subst, ◌∙◌, arith, length}
+use Rattle.std.proofs.Common.{◌≡◌, ◌≢◌, ◌≤◌, ℕ, Bool, List, [], ◌∷◌, Option, None, Some, Result, Ok, Err, refl, sym, ap, subst, ◌∙◌, length}
 use Rattle.std.proofs.lemmas.Bool.{le-ltb}
 use Rattle.std.proofs.lemmas.List.Elements.{All-nil, All-cons}
 use Rattle.std.specs.FinMap as map
-use Rattle.std.specs.Option.{option_map}
 use Rattle.lls_base.specs.Results.{and_then}
 use Rattle.lls_base.specs.Shelf.{Files}
 use Rattle.lls_problem.specs.declared.demands.Demands.{Demands}
@@ -15,13 +14,11 @@ use Rattle.lls_words.specs.declared.job.Job.TheVariants as jobs
 use Rattle.lls_cli.specs.declared.status.Status.{Status}
 use Rattle.lls_cli.specs.declared.status.Status.TheVariants as statuses
 use Rattle.lls_cli.specs.declared.fault.Fault.{Fault}
-use Rattle.lls_cli.specs.declared.fault.Fault.TheVariants as faults
 use Rattle.lls_cli.specs.Question.{Question, Effort, asked_with, checks, searches, check_question, effort_of, input_from, input_of, problem_in, proof_limit, search_limit}
 use Rattle.lls_cli.specs.Evidence.{HasProof}
 use Rattle.lls_cli.specs.Answer.{NoneHolds}
 use Rattle.lls_cli.specs.Claims.{OfQuestion, Leaves, ChangesOnly, Publishes, log_at, outputs_of_words}
-use Rattle.lls_cli.proofs.Apart.{IsApart, AreApart}
-use Rattle.lls_cli.proofs.Files.{and_then-both}
+use Rattle.lls_cli.proofs.Apart.{AreApart}
 
 -- a file that is no longer than the limit is an input
 input_within : (files : Files) (name bytes : List ℕ) (limit : ℕ) → map.get files name ≡ Some bytes → length bytes ≤ limit → input_of files name limit ≡ Ok bytes
