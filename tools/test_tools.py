@@ -246,10 +246,10 @@ class Building(unittest.TestCase):
         with open(f"{TOP}/lls", encoding="utf-8") as file:
             self.wrapper = scratch(self, "lls", file.read())
         self.top = os.path.dirname(self.wrapper)
-        os.makedirs(f"{self.top}/crates/lls_cli/out")
+        os.makedirs(f"{self.top}/crates/lls/out")
         os.makedirs(f"{self.top}/bin")
-        self.write("crates.txt", "# crates\nlow:\nmid: low kit_crate\nother: low\nlls_cli: mid\n")
-        self.program = f"{self.top}/crates/lls_cli/out/lls_cli"
+        self.write("crates.txt", "# crates\nlow:\nmid: low kit_crate\nother: low\nlls: mid\n")
+        self.program = f"{self.top}/crates/lls/out/lls"
 
     def write(self, name, text):
         path = f"{self.top}/{name}"
@@ -263,7 +263,7 @@ class Building(unittest.TestCase):
         script = 'PATH=$1:$PATH; shift; exec bash "$@"'
         return ran("bash", "-c", script, "bash", f"{self.top}/bin", self.wrapper, *words, folder=self.top)
 
-    MAKES = "printf '#!/bin/bash\\necho new \"$@\"\\nexit 10\\n' > out/lls_cli; chmod +x out/lls_cli"
+    MAKES = "printf '#!/bin/bash\\necho new \"$@\"\\nexit 10\\n' > out/lls; chmod +x out/lls"
 
     def test_says_the_crates_and_runs_what_was_made(self):
         says = "echo 'rt: chose --jobs 2 for low'; sleep 1.5; echo 'fn mid::a::b: proved'; echo 'library low: modules loaded=1'; sleep 1.5"
@@ -272,25 +272,25 @@ class Building(unittest.TestCase):
         crates = [line for line in err.split("\n") if line.startswith("lls: at ")]
         self.assertEqual(crates, ["lls: at low; crates left after it: 2", "lls: at mid; crates left after it: 1"])
         self.assertIn("--unproved", err)
-        self.assertEqual(os.listdir(f"{self.top}/crates/lls_cli"), ["out"])
+        self.assertEqual(os.listdir(f"{self.top}/crates/lls"), ["out"])
 
     def test_a_failed_build_runs_nothing(self):
-        self.write("crates/lls_cli/out/lls_cli", "#!/bin/bash\necho old\n")
-        self.write("crates/lls_cli/main.rt", "newer")
+        self.write("crates/lls/out/lls", "#!/bin/bash\necho old\n")
+        self.write("crates/lls/main.rt", "newer")
         os.utime(self.program, (1, 1))
         status, out, err = self.lls("echo 'not proved'; exit 1", "rule", "B3/S23")
         self.assertEqual((status, out), (1, ""))
         self.assertIn("the program wasn't built", err)
-        with open(f"{self.top}/crates/lls_cli/build.log", encoding="utf-8") as file:
+        with open(f"{self.top}/crates/lls/build.log", encoding="utf-8") as file:
             self.assertEqual(file.read(), "not proved\n")
 
     def test_a_program_that_is_there_is_run_at_once(self):
-        path = self.write("crates/lls_cli/out/lls_cli", "#!/bin/bash\necho there\nexit 3\n")
+        path = self.write("crates/lls/out/lls", "#!/bin/bash\necho there\nexit 3\n")
         os.utime(path, (2**31, 2**31))
         self.assertEqual(self.lls("echo built >&2", "judge"), (3, "there\n", ""))
 
     def test_posed(self):
-        path = self.write("crates/lls_cli/out/lls_cli", "#!/bin/bash\nprintf '%s\\n' \"$@\"\nexit 3\n")
+        path = self.write("crates/lls/out/lls", "#!/bin/bash\nprintf '%s\\n' \"$@\"\nexit 3\n")
         os.utime(path, (2**31, 2**31))
         self.write("q.lls", "# a ship\n#! --period 4,1,1 --live=0:1- --rule B2-a/S12\n* *\n")
         self.write("form.lls", "#! --formula 1 --edge open\n* *\n")
@@ -306,7 +306,7 @@ class Building(unittest.TestCase):
             self.assertEqual(self.lls("exit 9", "--posed", *words), (3, "\n".join(ran_with) + "\n", said), words)
 
     def test_posed_refusals(self):
-        path = self.write("crates/lls_cli/out/lls_cli", "#!/bin/bash\necho ran\n")
+        path = self.write("crates/lls/out/lls", "#!/bin/bash\necho ran\n")
         os.utime(path, (2**31, 2**31))
         self.write("q.lls", "#! --period 4,1,1\n* *\n")
         self.write("plain.lls", "# --period 4\n* *\n")

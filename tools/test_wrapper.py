@@ -222,12 +222,12 @@ class Case(unittest.TestCase):
         folder = tempfile.TemporaryDirectory()
         self.addCleanup(folder.cleanup)
         self.top = folder.name
-        os.makedirs(f"{self.top}/crates/lls_cli/out")
+        os.makedirs(f"{self.top}/crates/lls/out")
         os.makedirs(f"{self.top}/folder")
         shutil.copy(f"{TOP}/lls", self.top)
         for name in ("tools", "docs"):
             os.symlink(f"{TOP}/{name}", f"{self.top}/{name}")
-        self.write("crates.txt", "lls_cli:\n")
+        self.write("crates.txt", "lls:\n")
         self.program(PROGRAM)
         for name, text in FILES.items():
             self.write(name, text)
@@ -237,10 +237,10 @@ class Case(unittest.TestCase):
             file.write(text)
 
     def program(self, text):
-        self.write("crates/lls_cli/out/lls_cli", text)
-        os.chmod(f"{self.top}/crates/lls_cli/out/lls_cli", 0o755)
+        self.write("crates/lls/out/lls", text)
+        os.chmod(f"{self.top}/crates/lls/out/lls", 0o755)
         # Newer than its sources, whenever these are written.
-        os.utime(f"{self.top}/crates/lls_cli/out/lls_cli", (2**31, 2**31))
+        os.utime(f"{self.top}/crates/lls/out/lls", (2**31, 2**31))
 
     def lls(self, *given, **environment):
         done = subprocess.run(

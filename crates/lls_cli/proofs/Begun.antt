@@ -1,5 +1,5 @@
 -- What a failure of the outside leaves of the files that a run writes.
-use Rattle.std.proofs.Common.{◌≡◌, ℕ, length, take, Option, None, Some, Result, Ok, Err, refl, ap, sym, subst, ◌∙◌, inl, inr, arith, ◌⊎◌}
+use Rattle.std.proofs.Common.{◌≡◌, length, Option, None, Some, Result, Ok, Err, ap, sym, subst, ◌∙◌, inl, inr, arith, ◌⊎◌}
 use Rattle.std.specs.FinMap as map
 use Rattle.std.specs.Option.{option_map}
 use Rattle.std.proofs.lemmas.List.{take_all}
@@ -15,7 +15,7 @@ use Rattle.lls_cli.specs.Evidence.{NamedFile}
 use Rattle.lls_cli.specs.Answer.{GivenAnswer}
 use Rattle.lls_cli.specs.Question.{Question}
 use Rattle.lls_cli.specs.Moment.{ShelfMoment, Moment, files_at}
-use Rattle.lls_cli.specs.Ends.{WroteFile, LeavesPart, with_file, End, refused, lacked, input_failed, ahead_failed, answered, file_failed, output_failed, ahead_of, IsEnd}
+use Rattle.lls_cli.specs.Ends.{LeavesPart, with_file, End, refused, lacked, input_failed, ahead_failed, answered, file_failed, output_failed, ahead_of, IsEnd}
 use Rattle.lls_cli.specs.Claims.{IsAnswered, IsBegun, IsBegunFor, LeavesBegun}
 use Rattle.lls_cli.proofs.Behind.{WroteAhead, answer_of, lacking}
 use Rattle.lls_cli.proofs.Changes.{option_map-none}

@@ -3,10 +3,9 @@ use Rattle.std.proofs.Common.{◌≡◌, Option, None, Some, Ok, refl, sym, subs
 use Rattle.lls_base.specs.Shelf.{Files}
 use Rattle.lls_words.specs.declared.job.Job.{Job}
 use Rattle.lls_cli.specs.declared.status.Status.{Status}
-use Rattle.lls_cli.specs.declared.status.Status.TheVariants as statuses
 use Rattle.lls_cli.specs.Question.{Question, Asks}
 use Rattle.lls_cli.specs.Evidence.{NamedFile}
-use Rattle.lls_cli.specs.Moment.{ShelfMoment, Moment, with_shelf, files_at}
+use Rattle.lls_cli.specs.Moment.{ShelfMoment, Moment, with_shelf}
 use Rattle.lls_cli.specs.Ends.{LacksMemory, WroteFile, End, refused, lacked, input_failed, ahead_failed, answered, file_failed, output_failed, IsEndOf, IsEndBehind, Ends, ahead_of}
 
 -- the file stands, or there is none and the shelf is as before

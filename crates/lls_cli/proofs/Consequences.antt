@@ -1,10 +1,8 @@
 -- What follows from how a run ends.
 use Rattle.std.proofs.Common.{◌≡◌, ◌≤◌, ℕ, Option, None, Some, Result, Ok, Err, refl, ap, sym, subst, ◌∙◌, inl, inr, arith, ◌⊎◌}
 use Rattle.std.specs.Prelude.{IsErr}
-use Rattle.std.specs.Option.{option_map}
 use Rattle.lls_base.specs.Faults.{Rose}
 use Rattle.lls_base.specs.Shelf.{Files}
-use Rattle.lls_lrat.specs.declared.error.CheckError.{CheckError}
 use Rattle.lls_search_file.specs.declared.error.PosedError.{PosedError}
 use Rattle.lls_search_file.specs.declared.error.PosedError.TheVariants as posed
 use Rattle.lls_cnf.specs.declared.dimacs_error.DimacsError.{DimacsError}
@@ -13,12 +11,9 @@ use Rattle.lls_rle.specs.declared.rle_error.RleError.{RleError}
 use Rattle.lls_rle.specs.declared.rle_error.RleError.TheVariants as pictures
 use Rattle.lls_problem.specs.declared.demands.DemandError.{DemandError}
 use Rattle.lls_problem.specs.declared.demands.DemandError.TheVariants as demands
-use Rattle.lls_problem.specs.declared.judgement.Judgement.{Judgement}
-use Rattle.lls_problem.specs.declared.judgement.Judgement.TheVariants as judgements
 use Rattle.lls_words.specs.declared.error.WordsError.{WordsError}
 use Rattle.lls_words.specs.declared.error.WordsError.TheVariants as words
 use Rattle.lls_words.specs.declared.job.Job.{Job}
-use Rattle.lls_words.specs.declared.job.Job.TheVariants as jobs
 use Rattle.lls_cli.specs.declared.fault.Fault.{Fault}
 use Rattle.lls_cli.specs.declared.fault.Fault.TheVariants as faults
 use Rattle.lls_cli.specs.declared.fault.OutsideFault.TheVariants as outside
@@ -26,10 +21,10 @@ use Rattle.lls_cli.specs.declared.status.Status.{Status}
 use Rattle.lls_cli.specs.declared.status.Status.TheVariants as statuses
 use Rattle.lls_cli.specs.Fault.{status_of, words_status, posed_status, demand_status, dimacs_status, rle_status}
 use Rattle.lls_cli.specs.Evidence.{NamedFile}
-use Rattle.lls_cli.specs.Answer.{GivenAnswer, IsAnswer, Holds, YesHolds, NoHolds, IsThere, IsNowhere, HasShortBudget}
-use Rattle.lls_cli.specs.Question.{Question, question_of, Asks}
-use Rattle.lls_cli.specs.Moment.{ShelfMoment, SinkMoment, Moment, with_shelf, files_at}
-use Rattle.lls_cli.specs.Ends.{LacksMemory, FileFailed, WroteFile, IsDecided, with_file, End, refused, lacked, input_failed, ahead_failed, answered, file_failed, output_failed, IsEndOf, IsEndBehind, Ends, ahead_of, IsEnd}
+use Rattle.lls_cli.specs.Answer.{GivenAnswer, IsAnswer, Holds, YesHolds, NoHolds, SomeHolds, NoneHolds, HasShortBudget}
+use Rattle.lls_cli.specs.Question.{Question, Asking, of_none, of_one, of_two, asking_of, question_by, question_of, AsksBy, Asks, input_of}
+use Rattle.lls_cli.specs.Moment.{ShelfMoment, SinkMoment, Moment, files_at}
+use Rattle.lls_cli.specs.Ends.{FileFailed, WroteFile, IsDecided, End, refused, lacked, input_failed, ahead_failed, answered, file_failed, output_failed, IsEndBehind, Ends, ahead_of, IsEnd}
 use Rattle.lls_cli.proofs.Behind.{answer_of, WroteAhead, ahead_faults, lacking}
 use Rattle.lls_cli.specs.Claims.{OfQuestion, IsSilent, IsAnswered, IsFaultStatus, MissesFile, HasCause, NothingFailed, CountsNeverFall}
 
@@ -227,15 +222,13 @@ stays_silent (Err error) before after status (answered answer, ended) silent = a
 stays_silent (Err error) before after status (file_failed answer fault, ended) silent = absurd ended
 stays_silent (Err error) before after status (output_failed answer, ended) silent = absurd ended
 
+asks-question_by : (files : Files) (asking : Asking) (question : Result Question Fault) → AsksBy (Some files) asking question → question_by (input_of files) asking ≡ question
+asks-question_by files (of_none known) question asked = sym asked
+asks-question_by files (of_one name limit make) question asked = rw (← asked.input_is) (sym asked.made)
+asks-question_by files (of_two one one_limit two two_limit make) question asked = rw (← asked.first_is, ← asked.second_is) (sym asked.made)
+
 pub asks-question_of : (job : Job) (files : Files) (question : Result Question Fault) → Asks job (Some files) question → question_of job files ≡ question
-asks-question_of (jobs.Check one two rule demands form) files question asked = rw (← asked.first_is, ← asked.second_is) (sym asked.made)
-asks-question_of (jobs.Judge one two rule demands rle) files question asked = rw (← asked.first_is, ← asked.second_is) (sym asked.made)
-asks-question_of (jobs.Search one two rule demands form budget keep_all rle) files question asked = rw (← asked.input_is) (sym asked.made)
-asks-question_of (jobs.Sat one two budget keep_all) files question asked = rw (← asked.input_is) (sym asked.made)
-asks-question_of (jobs.Cnf one rule demands form) files question asked = rw (← asked.input_is) (sym asked.made)
-asks-question_of (jobs.Lrat one two) files question asked = rw (← asked.first_is, ← asked.second_is) (sym asked.made)
-asks-question_of (jobs.Rule rule) files question asked = sym asked
-asks-question_of (jobs.Make seed size one two) files question asked = sym asked
+asks-question_of job files question asked = asks-question_by files (asking_of job) question asked
 
 misses : (job : Job) (files : Option Files) (fault : Fault) → Asks job files (Err fault) → fault ≡ faults.Outside outside.NoFile → MissesFile (Ok job) files
 misses job None fault asked is = tt
@@ -369,13 +362,13 @@ pub no_means : (job : Result Job WordsError) (before after : Moment) (status : S
 no_means job before after status ended is =
     status_means NoHolds job before after status ended (subst IsAnswered (sym is) tt) (λ question holds. subst (Holds question) is holds)
 
-pub found_means : (job : Result Job WordsError) (before after : Moment) (status : Status) → (end : End) × IsEnd job before after status end → status ≡ statuses.Pattern → OfQuestion IsThere job (files_at before.shelf)
+pub found_means : (job : Result Job WordsError) (before after : Moment) (status : Status) → (end : End) × IsEnd job before after status end → status ≡ statuses.Pattern → OfQuestion SomeHolds job (files_at before.shelf)
 found_means job before after status ended is =
-    status_means IsThere job before after status ended (subst IsAnswered (sym is) tt) (λ question holds. subst (Holds question) is holds)
+    status_means SomeHolds job before after status ended (subst IsAnswered (sym is) tt) (λ question holds. subst (Holds question) is holds)
 
-pub none_means : (job : Result Job WordsError) (before after : Moment) (status : Status) → (end : End) × IsEnd job before after status end → status ≡ statuses.NoPattern → OfQuestion IsNowhere job (files_at before.shelf)
+pub none_means : (job : Result Job WordsError) (before after : Moment) (status : Status) → (end : End) × IsEnd job before after status end → status ≡ statuses.NoPattern → OfQuestion NoneHolds job (files_at before.shelf)
 none_means job before after status ended is =
-    status_means IsNowhere job before after status ended (subst IsAnswered (sym is) tt) (λ question holds. subst (Holds question) is holds)
+    status_means NoneHolds job before after status ended (subst IsAnswered (sym is) tt) (λ question holds. subst (Holds question) is holds)
 
 pub short_means : (job : Result Job WordsError) (before after : Moment) (status : Status) → (end : End) × IsEnd job before after status end → status ≡ statuses.Undecided → OfQuestion HasShortBudget job (files_at before.shelf)
 short_means job before after status ended is =

@@ -1,5 +1,5 @@
 -- How an answer was given, by how its file and its text were.
-use Rattle.std.proofs.Common.{◌≡◌, List, Option, refl, inl, inr}
+use Rattle.std.proofs.Common.{◌≡◌, Option, refl, inl, inr}
 use Rattle.lls_cli.specs.declared.fault.Fault.TheVariants.{Outside}
 use Rattle.lls_cli.specs.declared.fault.OutsideFault.{OutsideFault}
 use Rattle.lls_cli.specs.declared.status.Status.{Status}

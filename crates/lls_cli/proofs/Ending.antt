@@ -17,8 +17,8 @@ use Rattle.lls_cli.specs.declared.status.Status.TheVariants as statuses
 use Rattle.lls_cli.specs.Fault.{fault_line, words_fault}
 use Rattle.lls_cli.specs.Evidence.{NamedFile}
 use Rattle.lls_cli.specs.Answer.{GivenAnswer, IsAnswer}
-use Rattle.lls_cli.specs.Question.{Question, prints, makes, default_effort, Asks}
-use Rattle.lls_cli.specs.Moment.{ShelfMoment, SinkMoment, Moment, moment, with_shelf, files_at}
+use Rattle.lls_cli.specs.Question.{Question, prints, Asks}
+use Rattle.lls_cli.specs.Moment.{ShelfMoment, SinkMoment, Moment, moment, files_at}
 use Rattle.lls_cli.specs.Ends.{GrewBy, KeepsFiles, LacksMemory, IsOfInput, WroteFile, FileFailed, LeavesPart, LeavesShelf, HasInputs, IsDecided, with_file, End, refused, lacked, input_failed, ahead_failed, answered, file_failed, output_failed, IsEndOf, IsEndBehind, Ends, ahead_of, IsEnd}
 use Rattle.lls_cli.specs.Steps.{Stops, Says, IsDelivery, LeavesPrinting}
 

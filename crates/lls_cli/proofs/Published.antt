@@ -1,9 +1,8 @@
 -- What a search found to be absent is checked again with the same words.
-use Rattle.std.proofs.Common.{◌≡◌, ◌≢◌, ◌≤◌, ℕ, Bool, true, false, List, [], ◌∷◌, Option, None, Some, Result, Ok, Err, refl, sym, ap, subst, ◌∙◌, arith, length}
+use Rattle.std.proofs.Common.{◌≡◌, ◌≢◌, ◌≤◌, ℕ, Bool, List, [], ◌∷◌, Option, None, Some, Result, Ok, Err, refl, sym, ap, subst, ◌∙◌, length}
 use Rattle.std.proofs.lemmas.Bool.{le-ltb}
 use Rattle.std.proofs.lemmas.List.Elements.{All-nil, All-cons}
 use Rattle.std.specs.FinMap as map
-use Rattle.std.specs.Option.{option_map}
 use Rattle.lls_base.specs.Results.{and_then}
 use Rattle.lls_base.specs.Shelf.{Files}
 use Rattle.lls_problem.specs.declared.demands.Demands.{Demands}
@@ -15,13 +14,11 @@ use Rattle.lls_words.specs.declared.job.Job.TheVariants as jobs
 use Rattle.lls_cli.specs.declared.status.Status.{Status}
 use Rattle.lls_cli.specs.declared.status.Status.TheVariants as statuses
 use Rattle.lls_cli.specs.declared.fault.Fault.{Fault}
-use Rattle.lls_cli.specs.declared.fault.Fault.TheVariants as faults
 use Rattle.lls_cli.specs.Question.{Question, Effort, asked_with, checks, searches, check_question, effort_of, input_from, input_of, problem_in, proof_limit, search_limit}
 use Rattle.lls_cli.specs.Evidence.{HasProof}
-use Rattle.lls_cli.specs.Answer.{IsNowhere}
+use Rattle.lls_cli.specs.Answer.{NoneHolds}
 use Rattle.lls_cli.specs.Claims.{OfQuestion, Leaves, ChangesOnly, Publishes, log_at, outputs_of_words}
-use Rattle.lls_cli.proofs.Apart.{IsApart, AreApart}
-use Rattle.lls_cli.proofs.Files.{and_then-both}
+use Rattle.lls_cli.proofs.Apart.{AreApart}
 
 -- a file that is no longer than the limit is an input
 input_within : (files : Files) (name bytes : List ℕ) (limit : ℕ) → map.get files name ≡ Some bytes → length bytes ≤ limit → input_of files name limit ≡ Ok bytes
@@ -41,7 +38,7 @@ search_asked search_file proof rule demands form files question effort rle (Ok p
 search_asked search_file proof rule demands form files question effort rle (Err fault) is asks = absurd cc
 
 search_publishes : (search_file proof : List ℕ) (rule : List Bool) (demands : Demands) (form : Form) (budget : ℕ) (keep_all rle : Bool) (before after : Files) → search_file ≢ proof
-    → OfQuestion IsNowhere (Ok (jobs.Search search_file proof rule demands form budget keep_all rle)) (Some before)
+    → OfQuestion NoneHolds (Ok (jobs.Search search_file proof rule demands form budget keep_all rle)) (Some before)
     → OfQuestion (Leaves HasProof (Some after)) (Ok (jobs.Search search_file proof rule demands form budget keep_all rle)) (Some before)
     → ChangesOnly (proof ∷ []) (Some before) (Some after)
     → Publishes (Ok (jobs.Search search_file proof rule demands form budget keep_all rle)) (Some before) (Some after)
@@ -53,7 +50,7 @@ search_publishes search_file proof rule demands form budget keep_all rle before 
     let bytes = file.0 in
     let twice : Ok nowhere.0 ≡ Ok leaves.0 = sym nowhere.1 ∙ leaves.1 in
     let once : nowhere.0 ≡ leaves.0 = cc in
-    let none = subst IsNowhere (once ∙ asked.question_is) nowhere.2 in
+    let none = subst NoneHolds (once ∙ asked.question_is) nowhere.2 in
     let stays : Some (map.get after search_file) ≡ Some (map.get before search_file) = only search_file (All-cons (λ changed. search_file ≢ changed) proof [] apart (All-nil (λ changed. search_file ≢ changed))) in
     let same : map.get after search_file ≡ map.get before search_file = cc in (
       about,
@@ -68,7 +65,7 @@ search_publishes search_file proof rule demands form budget keep_all rle before 
       (file.2.accepted, none),
     )
 
-pub publishes : (job : Result Job WordsError) (before after : Option Files) (status : Status) → status ≡ statuses.NoPattern → AreApart job → OfQuestion IsNowhere job before → OfQuestion (Leaves HasProof after) job before
+pub publishes : (job : Result Job WordsError) (before after : Option Files) (status : Status) → status ≡ statuses.NoPattern → AreApart job → OfQuestion NoneHolds job before → OfQuestion (Leaves HasProof after) job before
     → ChangesOnly (outputs_of_words job status) before after → Publishes job before after
 publishes (Ok (jobs.Search one two rule demands form budget keep_all rle)) (Some before) (Some after) status is apart nowhere leaves only =
     search_publishes one two rule demands form budget keep_all rle before after apart nowhere leaves (subst (λ s. ChangesOnly (log_at s two) (Some before) (Some after)) is only)

@@ -1,7 +1,6 @@
 -- What a search comes to is a right answer.
-use Rattle.std.proofs.Common.{◌≡◌, ◌≤◌, ◌+◌, ◌++◌, ◌&&◌, ℕ, Bool, true, cond, List, [], ◌∷◌, length, refl, sym, ap, subst, ◌∙◌, arith}
+use Rattle.std.proofs.Common.{◌≡◌, ◌≤◌, ◌+◌, ◌++◌, ◌&&◌, ℕ, Bool, cond, List, [], ◌∷◌, length, refl, sym, ap, subst, ◌∙◌, arith}
 use Rattle.std.specs.Prelude.{codes}
-use Rattle.std.specs.List.{list_all}
 use Rattle.std.proofs.lemmas.List.Sums.{count_by-le-length, sum_by-append}
 use Rattle.lls_lit.specs.Formula.{Cnf, IsUnsatisfiable}
 use Rattle.lls_grid.specs.History.{History}
@@ -20,7 +19,7 @@ use Rattle.lls_cli.specs.Question.{Effort, formula_asked, searches, decides}
 use Rattle.lls_cli.specs.Evidence.{NamedFile, HasProof, HasSpentLog}
 use Rattle.lls_cli.specs.ModelText.{model_text}
 use Rattle.lls_cli.specs.PatternText.{pattern_text}
-use Rattle.lls_cli.specs.Answer.{GivenAnswer, IsAnswer, IsShort, Holds, shown, said_behind, none_behind, satisfied, unsatisfied, unknown, found, absent, undecided, Answers}
+use Rattle.lls_cli.specs.Answer.{GivenAnswer, IsAnswer, IsShort, shown, said_behind, none_behind, satisfied, unsatisfied, unknown, found, absent, undecided}
 
 -- steps with one more behind them
 one_more : (learnt : List Step) (last : Step) (steps : List Step) (budget : ℕ) → steps ≡ learnt ++ last ∷ [] → additions learnt ≤ budget → additions steps ≤ budget + 1

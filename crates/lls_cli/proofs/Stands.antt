@@ -1,5 +1,5 @@
 -- The search file of a made problem stands whole once the problem is answered.
-use Rattle.std.proofs.Common.{◌≡◌, ◌≢◌, ℕ, List, [], ◌∷◌, Option, None, Some, Result, Ok, Err, refl, ap, sym, subst, ◌∙◌, inl, inr}
+use Rattle.std.proofs.Common.{◌≡◌, ◌≢◌, ℕ, List, ◌∷◌, Option, None, Some, Result, Ok, Err, refl, ap, sym, ◌∙◌}
 use Rattle.std.specs.FinMap as map
 use Rattle.std.specs.Option.{option_map}
 use Rattle.lls_base.specs.Shelf.{Files}
@@ -11,11 +11,11 @@ use Rattle.lls_cli.specs.declared.status.Status.{Status}
 use Rattle.lls_cli.specs.declared.status.Status.TheVariants as statuses
 use Rattle.lls_cli.specs.Question.{Question, Effort, checks, refutes, judges, searches, decides, encodes, prints, makes, default_effort, Asks}
 use Rattle.lls_cli.specs.Evidence.{NamedFile}
-use Rattle.lls_cli.specs.Answer.{GivenAnswer, IsMaking, Answers}
+use Rattle.lls_cli.specs.Answer.{GivenAnswer, Answers}
 use Rattle.lls_cli.specs.Making.{made_file}
 use Rattle.lls_cli.specs.Moment.{ShelfMoment, Moment, files_at}
 use Rattle.lls_cli.specs.Ends.{WroteFile, End, ahead_of, IsEnd}
-use Rattle.lls_cli.specs.Claims.{OfQuestion, IsAnswered, StandsIn, outputs_of}
+use Rattle.lls_cli.specs.Claims.{OfQuestion, IsAnswered, HasWhole, outputs_of}
 use Rattle.lls_cli.proofs.Apart.{AreApart, IsApart}
 use Rattle.lls_cli.proofs.Behind.{WroteAhead}
 use Rattle.lls_cli.proofs.Consequences.{IsAsked, meant, of_this}
@@ -55,12 +55,12 @@ names_apart (Ok job) files (encodes of) apart asked = tt
 names_apart (Ok job) files (prints rule) apart asked = tt
 names_apart (Err error) files question apart asked = absurd asked
 
-nothing_ahead : (files : Option Files) → StandsIn files None
+nothing_ahead : (files : Option Files) → HasWhole files None
 nothing_ahead None = tt
 nothing_ahead (Some files) = tt
 
 -- a file that was written, and that nothing changed then
-stands_from : (file : NamedFile) (before mid after : Option Files) → mid ≡ option_map (λ files. map.insert files file.name file.bytes) before → Same file.name mid after → StandsIn after (Some file)
+stands_from : (file : NamedFile) (before mid after : Option Files) → mid ≡ option_map (λ files. map.insert files file.name file.bytes) before → Same file.name mid after → HasWhole after (Some file)
 stands_from file before mid None is same = tt
 stands_from file None mid (Some files) is same =
     let none : Some (map.get files file.name) ≡ None = same ∙ ap (option_map (λ known. map.get known file.name)) is in
@@ -71,7 +71,7 @@ stands_from file (Some known) mid (Some files) is same =
     equal ∙ get-insert_same known file.name file.bytes
 
 stands_in : (question : Question) (answer : GivenAnswer) (before mid after : ShelfMoment) → NamesApart question → Answers question answer → WroteAhead (ahead_of question) before mid
-    → WroteFile answer.file mid after → StandsIn (files_at after) (ahead_of question)
+    → WroteFile answer.file mid after → HasWhole (files_at after) (ahead_of question)
 stands_in (makes seed size name effort) answer before mid after apart right ahead wrote =
     let file = made_file seed size name in
     stands_from file (files_at before) (files_at mid) (files_at after) (wrote_some (Some file) file before mid refl ahead)
@@ -85,8 +85,8 @@ stands_in (encodes asked) answer before mid after apart right ahead wrote = noth
 stands_in (prints rule) answer before mid after apart right ahead wrote = nothing_ahead (files_at after)
 
 pub stands : (job : Result Job WordsError) (before after : Moment) (status : Status) → AreApart job → (end : End) × IsEnd job before after status end → IsAnswered status
-    → OfQuestion (λ question. StandsIn (files_at after.shelf) (ahead_of question)) job (files_at before.shelf)
+    → OfQuestion (λ question. HasWhole (files_at after.shelf) (ahead_of question)) job (files_at before.shelf)
 stands job before after status apart ended is =
     let given = meant job before after status ended is in
-    of_this (λ question. StandsIn (files_at after.shelf) (ahead_of question)) given.question job (files_at before.shelf) given.asked
+    of_this (λ question. HasWhole (files_at after.shelf) (ahead_of question)) given.question job (files_at before.shelf) given.asked
     (stands_in given.question given.answer before.shelf given.mid after.shelf (names_apart job (files_at before.shelf) given.question apart given.asks) given.right.answers given.ahead given.wrote)

@@ -115,17 +115,17 @@ NoHolds (makes seed size name effort) = ⊥
 
 -- what it says that a search found something: there is a solution, which keeps the rule on the whole plane where it has to, or
 -- an assignment that satisfies the formula
-abbrev pub IsThere : Question → Type 0
-IsThere (searches asked effort rle) = (history : History) × IsSolution asked.problem history × PlaneLaw asked.problem history
-IsThere (decides formula effort) = (values : List Bool) × IsModel formula values
-IsThere (makes seed size name effort) = (history : History) × IsSolution (made_problem seed size) history × PlaneLaw (made_problem seed size) history
-IsThere question = ⊥
+abbrev pub SomeHolds : Question → Type 0
+SomeHolds (searches asked effort rle) = (history : History) × IsSolution asked.problem history × PlaneLaw asked.problem history
+SomeHolds (decides formula effort) = (values : List Bool) × IsModel formula values
+SomeHolds (makes seed size name effort) = (history : History) × IsSolution (made_problem seed size) history × PlaneLaw (made_problem seed size) history
+SomeHolds question = ⊥
 
 -- what it says that there is nothing to find; of a made problem nothing says so
-abbrev pub IsNowhere : Question → Type 0
-IsNowhere (searches asked effort rle) = IsAbsent asked.problem
-IsNowhere (decides formula effort) = IsUnsatisfiable formula
-IsNowhere question = ⊥
+abbrev pub NoneHolds : Question → Type 0
+NoneHolds (searches asked effort rle) = IsAbsent asked.problem
+NoneHolds (decides formula effort) = IsUnsatisfiable formula
+NoneHolds question = ⊥
 
 -- a budget that needn't decide: it is less than 9 to the number of variables, and where no learnt clause is deleted than 3 to it
 pub record IsShort (formula : Cnf) (effort : Effort) : Type 0 where
@@ -143,8 +143,8 @@ HasShortBudget question = ⊥
 abbrev pub Holds : Question → Status → Type 0
 Holds question statuses.Done = YesHolds question
 Holds question statuses.Refused = NoHolds question
-Holds question statuses.Pattern = IsThere question
-Holds question statuses.NoPattern = IsNowhere question
+Holds question statuses.Pattern = SomeHolds question
+Holds question statuses.NoPattern = NoneHolds question
 Holds question statuses.Undecided = HasShortBudget question
 Holds question status = ⊥
 

@@ -122,9 +122,9 @@ Leaves Has files (makes seed size name effort) = OfFile (Has (formula_of (made_p
 Leaves Has files question = ⊥
 
 -- a file that is written before the answer is looked for stands whole
-abbrev pub StandsIn : Option Files → Option NamedFile → Type 0
-StandsIn (Some files) (Some file) = map.get files file.name ≡ Some file.bytes
-StandsIn files file = Unit {0}
+abbrev pub HasWhole : Option Files → Option NamedFile → Type 0
+HasWhole (Some files) (Some file) = map.get files file.name ≡ Some file.bytes
+HasWhole files file = Unit {0}
 
 -- after a search that found nothing, a check with the same words for the problem asks of the files that are left whether the
 -- proof is accepted, where it is no longer than a check reads; and the check's yes holds

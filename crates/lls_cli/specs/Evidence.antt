@@ -1,5 +1,5 @@
 -- What a search leaves in its file: a proof that there is nothing to find, or the log of a budget that is spent.
-use Rattle.std.specs.Prelude.{◌≡◌, ◌≤◌, ℕ, ◌+◌, Bool, true, List, count_by}
+use Rattle.std.specs.Prelude.{◌≡◌, ◌≤◌, ℕ, ◌+◌, true, List, count_by}
 use Rattle.std.specs.List.{list_all}
 use Rattle.lls_lit.specs.Formula.{Cnf}
 use Rattle.lls_prooflog.specs.declared.step.Step.{Step}

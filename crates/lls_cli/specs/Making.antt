@@ -2,7 +2,6 @@
 use Rattle.std.specs.Prelude.{ℕ, ◌*◌, ◌+◌, ◌++◌, Bool, true, false, List, codes, count_by, decimal, length, take}
 use Rattle.lls_lit.specs.Formula.{Cnf}
 use Rattle.lls_grid.specs.Changes.{population}
-use Rattle.lls_search_file.specs.declared.cell.Cell.{Cell}
 use Rattle.lls_search_file.specs.declared.cell.Kind.{Kind}
 use Rattle.lls_search_file.specs.declared.cell.Kind.TheVariants.{Dead, Live}
 use Rattle.lls_search_file.specs.Posed.{PosedFile}

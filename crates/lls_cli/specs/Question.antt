@@ -152,20 +152,33 @@ default_effort proof = effort_of default_budget false proof
 abbrev pub encode_question : List Bool → Demands → Form → Result (List ℕ) Fault → Result Question Fault
 encode_question rule demands form input = and_then (and_then input (problem_in rule demands)) (λ problem. Ok (encodes (asked_with form problem)))
 
+-- what a job asks of its inputs: of none, of one or of two, each by its name and with at most so many bytes, and the question that
+-- what was read of them makes
+pub data Asking : Type 0 where
+  of_none : Question → Asking
+  of_one : List ℕ → ℕ → (Result (List ℕ) Fault → Result Question Fault) → Asking
+  of_two : List ℕ → ℕ → List ℕ → ℕ → (Result (List ℕ) Fault → Result (List ℕ) Fault → Result Question Fault) → Asking
+
+abbrev pub asking_of : Job → Asking
+asking_of (jobs.Check search_file proof rule demands form) = of_two search_file search_limit proof proof_limit (check_question rule demands form)
+asking_of (jobs.Judge search_file pattern rule demands rle) = of_two search_file search_limit pattern search_limit (judge_question rule demands rle)
+asking_of (jobs.Search search_file proof rule demands form budget keep_all rle) =
+    of_one search_file search_limit (search_question rule demands form (effort_of budget keep_all proof) rle)
+asking_of (jobs.Sat formula proof budget keep_all) = of_one formula formula_limit (decide_question (effort_of budget keep_all proof))
+asking_of (jobs.Cnf search_file rule demands form) = of_one search_file search_limit (encode_question rule demands form)
+asking_of (jobs.Lrat formula proof) = of_two formula formula_limit proof proof_limit refute_question
+asking_of (jobs.Rule rule) = of_none (prints rule)
+asking_of (jobs.Make seed size search_file proof) = of_none (makes seed size search_file (default_effort proof))
+
+-- the question, or the first refusal, where each input is read so, by its name and its limit
+abbrev pub question_by : (List ℕ → ℕ → Result (List ℕ) Fault) → Asking → Result Question Fault
+question_by read (of_none question) = Ok question
+question_by read (of_one name limit make) = make (read name limit)
+question_by read (of_two one one_limit two two_limit make) = make (read one one_limit) (read two two_limit)
+
 -- what a job asks of these files, or the first refusal
 abbrev pub question_of : Job → Files → Result Question Fault
-question_of (jobs.Check search_file proof rule demands form) files =
-    check_question rule demands form (input_of files search_file search_limit) (input_of files proof proof_limit)
-question_of (jobs.Judge search_file pattern rule demands rle) files =
-    judge_question rule demands rle (input_of files search_file search_limit) (input_of files pattern search_limit)
-question_of (jobs.Search search_file proof rule demands form budget keep_all rle) files =
-    search_question rule demands form (effort_of budget keep_all proof) rle (input_of files search_file search_limit)
-question_of (jobs.Sat formula proof budget keep_all) files = decide_question (effort_of budget keep_all proof) (input_of files formula formula_limit)
-question_of (jobs.Cnf search_file rule demands form) files = encode_question rule demands form (input_of files search_file search_limit)
-question_of (jobs.Lrat formula proof) files =
-    refute_question (input_of files formula formula_limit) (input_of files proof proof_limit)
-question_of (jobs.Rule rule) files = Ok (prints rule)
-question_of (jobs.Make seed size search_file proof) files = Ok (makes seed size search_file (default_effort proof))
+question_of job files = question_by (input_of files) (asking_of job)
 
 -- what an input can be read as, whatever its file says
 abbrev pub CanBeRead : ℕ → Result (List ℕ) Fault → Type 0
@@ -193,17 +206,11 @@ pub record MadeOf (files : Option Files) (one : List ℕ) (one_limit : ℕ) (two
   pub second_is : IsInput files two two_limit second
   pub made : question ≡ make first second
 
--- what a job asks, by inputs that are those of the files, where the shelf tells them
+-- what is asked by inputs that are those of the files, where the shelf tells them
+abbrev pub AsksBy : Option Files → Asking → Result Question Fault → Type 0
+AsksBy files (of_none asked) question = question ≡ Ok asked
+AsksBy files (of_one name limit make) question = MadeOfOne files name limit make question
+AsksBy files (of_two one one_limit two two_limit make) question = MadeOf files one one_limit two two_limit make question
+
 abbrev pub Asks : Job → Option Files → Result Question Fault → Type 0
-Asks (jobs.Check search_file proof rule demands form) files question =
-    MadeOf files search_file search_limit proof proof_limit (check_question rule demands form) question
-Asks (jobs.Judge search_file pattern rule demands rle) files question =
-    MadeOf files search_file search_limit pattern search_limit (judge_question rule demands rle) question
-Asks (jobs.Search search_file proof rule demands form budget keep_all rle) files question =
-    MadeOfOne files search_file search_limit (search_question rule demands form (effort_of budget keep_all proof) rle) question
-Asks (jobs.Sat formula proof budget keep_all) files question =
-    MadeOfOne files formula formula_limit (decide_question (effort_of budget keep_all proof)) question
-Asks (jobs.Cnf search_file rule demands form) files question = MadeOfOne files search_file search_limit (encode_question rule demands form) question
-Asks (jobs.Lrat formula proof) files question = MadeOf files formula formula_limit proof proof_limit refute_question question
-Asks (jobs.Rule rule) files question = question ≡ Ok (prints rule)
-Asks (jobs.Make seed size search_file proof) files question = question ≡ Ok (makes seed size search_file (default_effort proof))
+Asks job files question = AsksBy files (asking_of job) question

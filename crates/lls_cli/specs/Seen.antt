@@ -52,6 +52,6 @@ seen_finding (findings.Answered answer) = seen_answer answer
 seen_finding (findings.Absent proof file) = none_behind (seen_file file)
 
 -- the formula that was checked is the problem's, of the form that is asked about
-abbrev pub Stands : Asked → searched.Finding → Type 0
-Stands asked (findings.Answered answer) = Unit {0}
-Stands asked (findings.Absent proof file) = proof ≡ formula_asked asked
+abbrev pub IsOfAsked : Asked → searched.Finding → Type 0
+IsOfAsked asked (findings.Answered answer) = Unit {0}
+IsOfAsked asked (findings.Absent proof file) = proof ≡ formula_asked asked

@@ -11,7 +11,7 @@ use crate::status::Status;
 use lls_base::Memory;
 use lls_cnf::print_dimacs;
 use lls_encode::encode;
-use lls_hensel::{PrintRuleError, print_rule};
+use lls_hensel::PrintRuleError;
 use lls_rule::Rule;
 use std::alloc::Global;
 
@@ -28,11 +28,11 @@ pub fn print_formula(alloc: Global, asked: &Asked) -> Result<Answer, Memory>
 }
 
 /// The canonical text of a rule, as a line.
-pub fn print_line(alloc: Global, rule: &Rule) -> Result<Answer, Memory>
+pub fn print_rule(alloc: Global, rule: &Rule) -> Result<Answer, Memory>
     requires { IsIsotropic rule.now }
     ensures { IfOk result (λ answer. IsAnswer (prints rule.now) (seen_answer answer)) }
 {
-    let mut text = match print_rule(alloc, rule) {
+    let mut text = match lls_hensel::print_rule(alloc, rule) {
         Ok(text) => text,
         Err(PrintRuleError::NotIsotropic(_)) => unreachable!(),
         Err(PrintRuleError::Memory) => return Err(Memory),

@@ -2,8 +2,8 @@
 ghost use Rattle.std.specs.Prelude.{◌≡◌, ◌≤◌, ◌⊎◌, map, string_bytes, IfOk, IsErr};
 ghost use Rattle.lls_base.specs.Shelf.{known_files};
 ghost use Rattle.lls_words.specs.Job.{job_of};
-ghost use Rattle.lls_cli.specs.Answer.{HasShortBudget, IsAnswer, IsNowhere, IsThere, NoHolds, YesHolds};
-ghost use Rattle.lls_cli.specs.Claims.{ChangesOnly, CountsNeverFall, HasCause, IsAnswered, IsComplete, IsFaultStatus, IsSilent, Leaves, LeavesBegun, NothingFailed, OfQuestion, Publishes, SaysWhy, StandsIn, outputs_of_words};
+ghost use Rattle.lls_cli.specs.Answer.{HasShortBudget, IsAnswer, NoHolds, NoneHolds, SomeHolds, YesHolds};
+ghost use Rattle.lls_cli.specs.Claims.{ChangesOnly, CountsNeverFall, HasCause, IsAnswered, IsComplete, IsFaultStatus, IsSilent, Leaves, LeavesBegun, NothingFailed, OfQuestion, Publishes, SaysWhy, HasWhole, outputs_of_words};
 ghost use Rattle.lls_cli.specs.Evidence.{HasProof, HasSpentLog};
 ghost use Rattle.lls_cli.specs.Ends.{End, Ends, IsEnd, IsEndOf, ahead_of};
 ghost use Rattle.lls_cli.specs.Moment.{moment, shelf_moment, sink_moment};
@@ -11,7 +11,7 @@ ghost use Rattle.lls_hensel.specs.Isotropy.{IsIsotropic};
 ghost use Rattle.lls_solver.specs.declared.solving.TheConstants.{MOST_BUDGET};
 ghost use Rattle.lls_cli.specs.Question as questions;
 ghost use Rattle.lls_cli.specs.Question.{makes, searches};
-ghost use Rattle.lls_cli.specs.Seen.{seen_answer, seen_effort, seen_finding, seen_question, CanAnswer, IsSize, Stands};
+ghost use Rattle.lls_cli.specs.Seen.{seen_answer, seen_effort, seen_finding, seen_question, CanAnswer, IsOfAsked, IsSize};
 ghost use Rattle.lls_cli.specs.Steps.{LeavesPrinting};
 
 use crate::answer::Answer;
@@ -22,7 +22,7 @@ use crate::deliver::{deliver, deliver_none, lack, refuse, say, write_answer_file
 use crate::fault::Fault;
 use crate::judge::judge;
 use crate::making::{make_file, solve_made};
-use crate::print::{print_formula, print_line};
+use crate::print::{print_formula, print_rule};
 use crate::question::{Asked, Effort, Question};
 use crate::search::{Finding, search};
 use crate::status::Status;
@@ -60,7 +60,7 @@ fn give_finding<'f, S: Shelf, O: Sink, E: Sink>(
     out: &mut O,
     err: &mut E,
 ) -> Status
-    requires { IfOk finding (Stands asked.now) }
+    requires { IfOk finding (IsOfAsked asked.now) }
     ensures { (question : questions.Question) → IfOk finding.entry (λ found. IsAnswer question (seen_finding found)) → (end : End) × IsEndOf question
         (moment (shelf_moment (S.told shelf.old) (S.has_input shelf.old) (S.has_output shelf.old) (S.faults shelf.old)) (sink_moment (O.written out.old) (O.faults out.old)) (sink_moment (E.written err.old) (E.faults err.old)))
         (moment (shelf_moment (S.told shelf.new) (S.has_input shelf.new) (S.has_output shelf.new) (S.faults shelf.new)) (sink_moment (O.written out.new) (O.faults out.new)) (sink_moment (E.written err.new) (E.faults err.new)))
@@ -128,7 +128,7 @@ fn give_making<S: Shelf, O: Sink, E: Sink>(
 }
 
 /// Answers a question, and gives the answer.
-pub(crate) fn give_answer<S: Shelf, O: Sink, E: Sink>(
+pub fn give_answer<S: Shelf, O: Sink, E: Sink>(
     alloc: Global,
     question: Question,
     shelf: &mut S,
@@ -168,7 +168,7 @@ pub(crate) fn give_answer<S: Shelf, O: Sink, E: Sink>(
             err,
         ),
         Question::Encode { asked } => give(print_formula(alloc, &asked), shelf, out, err),
-        Question::Print { rule } => give(print_line(alloc, &rule), shelf, out, err),
+        Question::Print { rule } => give(print_rule(alloc, &rule), shelf, out, err),
         Question::Make {
             seed,
             size,
@@ -226,11 +226,11 @@ pub fn run<S: Shelf, O: Sink, E: Sink>(
     // that there is nothing only where there is none. Then its file has a proof that the checker accepts. Where it is
     // undecided, its file has the log of just as many clauses as it may learn, each of them fresh. A made problem's search file
     // stands whole at its answers.
-    ensures found { result ≡ Status.Pattern → OfQuestion IsThere (job_of (map string_bytes words.now)) (known_files (S.told shelf.old)) }
-    ensures absent { result ≡ Status.NoPattern → OfQuestion IsNowhere (job_of (map string_bytes words.now)) (known_files (S.told shelf.old)) }
+    ensures found { result ≡ Status.Pattern → OfQuestion SomeHolds (job_of (map string_bytes words.now)) (known_files (S.told shelf.old)) }
+    ensures absent { result ≡ Status.NoPattern → OfQuestion NoneHolds (job_of (map string_bytes words.now)) (known_files (S.told shelf.old)) }
     ensures proof { result ≡ Status.NoPattern → OfQuestion (Leaves HasProof (known_files (S.told shelf.new))) (job_of (map string_bytes words.now)) (known_files (S.told shelf.old)) }
     ensures log { result ≡ Status.Undecided → OfQuestion (Leaves HasSpentLog (known_files (S.told shelf.new))) (job_of (map string_bytes words.now)) (known_files (S.told shelf.old)) }
-    ensures made { IsAnswered result → OfQuestion (λ question. StandsIn (known_files (S.told shelf.new)) (ahead_of question)) (job_of (map string_bytes words.now)) (known_files (S.told shelf.old)) }
+    ensures made { IsAnswered result → OfQuestion (λ question. HasWhole (known_files (S.told shelf.new)) (ahead_of question)) (job_of (map string_bytes words.now)) (known_files (S.told shelf.old)) }
     ensures published { result ≡ Status.NoPattern → Publishes (job_of (map string_bytes words.now)) (known_files (S.told shelf.old)) (known_files (S.told shelf.new)) }
 
     // A search is undecided only where its budget is below 9 to the number of the formula's variables, and below 3 to it where

@@ -4,7 +4,7 @@ ghost use Rattle.lls_hensel.specs.Isotropy.{IsIsotropic};
 ghost use Rattle.lls_solver.specs.declared.solving.TheConstants.{MOST_BUDGET};
 ghost use Rattle.lls_cli.specs.Answer.{IsAnswer};
 ghost use Rattle.lls_cli.specs.Question.{formula_asked, searches};
-ghost use Rattle.lls_cli.specs.Seen.{seen_effort, seen_finding, Stands};
+ghost use Rattle.lls_cli.specs.Seen.{seen_effort, seen_finding, IsOfAsked};
 
 use crate::answer::{Answer, AnswerFile};
 use crate::evidence::{check_proof, log_file};
@@ -40,7 +40,7 @@ pub fn search<'f>(
     requires budget { effort.budget ≤ MOST_BUDGET }
     requires isotropic { IsIsotropic asked.now.problem.rule }
     ensures right { IfOk result (λ finding. IsAnswer (searches asked.now (seen_effort effort) rle) (seen_finding finding)) }
-    ensures stands { IfOk result (Stands asked.now) }
+    ensures stands { IfOk result (IsOfAsked asked.now) }
 {
     // What the type of a problem keeps is known from here on.
     let problem = &asked.problem;

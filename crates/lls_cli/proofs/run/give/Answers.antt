@@ -1,4 +1,3 @@
-use Rattle.std.proofs.Common.{subst, sym}
 use Rattle.lls_cli.specs.Seen.{seen_answer}
 use Rattle.lls_cli.specs.Ends.{lacked}
 use Rattle.lls_cli.proofs.Ending.{delivered, lacks}

@@ -24,4 +24,4 @@ returns-in-Encode-clause-end g c =
 
 pub returns-in-Print-clause-end : goal.returns-in-Print-clause-end
 returns-in-Print-clause-end g c =
-    rw c.in-Print.is (c.give-in-Print.ensures.end (prints c.in-Print.rule) c.print_line.ensures)
+    rw c.in-Print.is (c.give-in-Print.ensures.end (prints c.in-Print.rule) c.print_rule.ensures)

@@ -1,6 +1,5 @@
 use Rattle.std.proofs.Common.{◌∙◌, ap, Ok}
-use Rattle.lls_cli.specs.Answer.{none_behind}
-use Rattle.lls_cli.specs.Seen.{seen_answer, seen_file}
+use Rattle.lls_cli.specs.Seen.{seen_answer}
 use Rattle.lls_cli.specs.Ends.{lacked}
 use Rattle.lls_cli.proofs.Ending.{delivered, lacks}
 use Rattle.lls_cli.proofs.run.give_finding.Goals as goal

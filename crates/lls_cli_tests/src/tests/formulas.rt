@@ -1,6 +1,6 @@
 // The commands that print a formula and that check a proof against one.
 use super::{Row, answers};
-use crate::status::Status;
+use lls_cli::status::Status;
 use std::test::Fail;
 
 // The texts are those that the script in tools/ makes, which shares nothing with the program.

@@ -1,6 +1,6 @@
 // The commands that judge patterns and print rules.
 use super::{Row, answers};
-use crate::status::Status;
+use lls_cli::status::Status;
 use std::test::Fail;
 
 #[test]

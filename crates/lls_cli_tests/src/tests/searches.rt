@@ -1,6 +1,6 @@
 // The commands that search.
 use super::{Failing, NOTHING, Row, answers, is_fault, run_over, words_of};
-use crate::status::Status;
+use lls_cli::status::Status;
 use std::alloc::Global;
 use std::process::Abort;
 use std::test::Fail;

@@ -8,9 +8,9 @@ mod making;
 mod outside;
 mod searches;
 
-use crate::run::run;
-use crate::status::Status;
 use lls_base::{MemShelf, MemSink, Name, Plan};
+use lls_cli::run::run;
+use lls_cli::status::Status;
 use std::alloc::{AllocError, Global};
 use std::process::Abort;
 use std::test::Fail;

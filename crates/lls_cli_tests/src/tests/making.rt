@@ -1,9 +1,9 @@
 // The command that makes a problem. What it makes is as tools/made.py makes it.
 use super::{Ended, Failing, NOTHING, is_fault, run_over, shelf_of, words_of};
-use crate::question::{Effort, Question};
-use crate::run::{give_answer, run};
-use crate::status::Status;
 use lls_base::{MemSink, Name};
+use lls_cli::question::{Effort, Question};
+use lls_cli::run::{give_answer, run};
+use lls_cli::status::Status;
 use std::alloc::Global;
 use std::test::Fail;
 

@@ -1,6 +1,6 @@
 // The judging of demands: symmetry, a period with a shift, bounds on live cells, differing generations.
 use super::{Row, answers};
-use crate::status::Status;
+use lls_cli::status::Status;
 use std::test::Fail;
 
 // Each answer was worked out by a script that shares nothing with the program, and checked by hand.

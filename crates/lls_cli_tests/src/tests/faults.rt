@@ -1,6 +1,6 @@
 // Command lines that have no answer.
 use super::{NOTHING, Row, is_fault, run_over, words_of};
-use crate::status::Status;
+use lls_cli::status::Status;
 use std::alloc::{AllocError, Global};
 use std::process::Abort;
 use std::test::Fail;

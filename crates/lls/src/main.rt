@@ -1,0 +1,29 @@
+//! The program `lls`: `run` over the words, the files and the streams that the system gives.
+#![tactic(auto)]
+
+use lls_base::{DiskShelf, StdSink};
+use lls_cli::lack;
+use lls_cli::run::run;
+use std::env;
+use std::io::ErrorKind;
+use std::process::ExitCode;
+
+/// The status where the system gives no words.
+const NO_WORDS: u8 = 7;
+
+fn main(rt: HostRuntime) -> ExitCode {
+    let mut err = StdSink::new(rt.stderr());
+    let words = match env::args(&rt) {
+        Ok(words) => words,
+        Err(error) if error.kind() == ErrorKind::OutOfMemory => {
+            return ExitCode::from(lack(&mut err).code());
+        }
+        Err(_) => return ExitCode::from(NO_WORDS),
+    };
+    let Ok(words) = words.skip(1).collect::<Vec<String>>(rt.alloc()) else {
+        return ExitCode::from(lack(&mut err).code());
+    };
+    let mut shelf = DiskShelf::new(&rt);
+    let mut out = StdSink::new(rt.stdout());
+    ExitCode::from(run(rt.alloc(), &words, &mut shelf, &mut out, &mut err).code())
+}

@@ -1,0 +1,24 @@
+//! All of the program `lls` but its `main`: searches of two-state cellular automata whose answers carry their evidence. `run` does all
+//! that the program does, over files and sinks of the caller's.
+#![tactic(auto)]
+
+mod absence;
+mod answer;
+mod ask;
+mod check;
+mod decide;
+mod deliver;
+mod evidence;
+mod fault;
+mod input;
+mod judge;
+mod making;
+mod model;
+mod pattern;
+mod print;
+pub mod question;
+pub mod run;
+mod search;
+pub mod status;
+
+pub use deliver::lack;
