@@ -1,5 +1,5 @@
 // Tables of known rows.
-use crate::{Cube, Table, cover, rows};
+use lls_cube::{Cube, Table, cover, rows};
 use std::test::Fail;
 
 #[test]
