@@ -5,7 +5,7 @@ ghost use Rattle.lls_prooflog.specs.Worked.{worked};
 ghost use Rattle.lls_prooflog.specs.declared.step.Step.TheVariants.{Add, Del};
 ghost use Rattle.lls_prooflog.specs.declared.step_fault.StepFault.TheVariants.{IdLive, NoClause, NotUnit, NoConflict, RatHint};
 
-use lls_prooflog::{StepFault};
+use lls_prooflog::StepFault;
 use std::test::Fail;
 
 // The clauses 1, 2, 1 -2 and -1 -2 have the ids 1 to 4. Each clause is one line of a proof, worked by hand.

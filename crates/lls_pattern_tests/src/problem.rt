@@ -5,7 +5,9 @@ ghost use Rattle.lls_problem.specs.Bounds.{HasEnds};
 ghost use Rattle.lls_problem.specs.Problem.{IsPeriod};
 
 use lls_grid::History;
-use lls_problem::{Bound, Bounds, DemandError, Demands, Edge, Judgement, Period, judge, make_problem};
+use lls_problem::{
+    Bound, Bounds, DemandError, Demands, Edge, Judgement, Period, judge, make_problem,
+};
 use lls_rule::Rule;
 use lls_search_file::{read_history, read_posed};
 use lls_symmetry::Symmetry;

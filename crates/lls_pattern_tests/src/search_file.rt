@@ -2,7 +2,9 @@
 ghost use Rattle.std.specs.Prelude.{◌≡◌, IfOk};
 
 use lls_grid::{History, print_history};
-use lls_search_file::{Cell, HistoryError, Kind, PosedError, print_posed, read_history, read_posed};
+use lls_search_file::{
+    Cell, HistoryError, Kind, PosedError, print_posed, read_history, read_posed,
+};
 use std::alloc::{AllocError, Global};
 use std::test::Fail;
 
