@@ -1,6 +1,5 @@
 // Worked rows: texts with their canonical forms and faults, classes with their sizes, published rules.
-use super::*;
-use lls_hensel::nine::with_centre;
+use lls_hensel::{Class, PrintRuleError, RuleError, class_of, print_rule, read_rule};
 use lls_rule::Rule;
 
 #[test]

@@ -3,13 +3,13 @@
 #![tactic(auto)]
 
 #[cfg(test)]
-mod gen;
-
-#[cfg(test)]
 mod grid;
 
 #[cfg(test)]
 mod hensel;
+
+#[cfg(test)]
+mod making;
 
 #[cfg(test)]
 mod problem;
