@@ -10,7 +10,7 @@ use std::alloc::Global;
 use std::process::Abort;
 use std::test::Fail;
 
-pub(crate) fn are_within(lits: &[Lit], vars: u32) -> bool
+fn are_within(lits: &[Lit], vars: u32) -> bool
     ensures { result ≡ is_within vars lits.now }
 {
     lits.iter().all(|lit| lit.is_of(vars))
@@ -156,61 +156,63 @@ fn room_is_used_again(rt: HostRuntime) -> Result<(), Fail> {
     Ok(())
 }
 
-fn addition(alloc: Global, id: u64, lits: &[i32], hints: &[i64]) -> Result<Step, Fail> {
-    let lits = literals(alloc, lits)?;
-    let hints = hints.to_vec(alloc)?;
-    Ok(Step::Add {
-        id,
-        lits: Lits::new(lits),
-        hints: Hints::new(hints),
-    })
+// A step by its numbers.
+#[derive(Clone, Copy, Debug)]
+pub(crate) enum Row {
+    Add(u64, &'static [i32], &'static [i64]),
+    Del(&'static [u64]),
 }
 
-fn deletion(alloc: Global, ids: &[u64]) -> Result<Step, Fail> {
-    Ok(Step::Del {
-        ids: Ids::new(ids.to_vec(alloc)?),
-    })
+fn step_of(alloc: Global, row: Row) -> Result<Step, Fail> {
+    match row {
+        Row::Add(id, lits, hints) => Ok(Step::Add {
+            id,
+            lits: Lits::new(literals(alloc, lits)?),
+            hints: Hints::new(hints.to_vec(alloc)?),
+        }),
+        Row::Del(ids) => Ok(Step::Del {
+            ids: Ids::new(ids.to_vec(alloc)?),
+        }),
+    }
 }
 
-type Taken = Result<Progress, Refusal>;
-
-fn steps(alloc: Global) -> Result<Vec<(Step, Taken)>, Fail> {
-    let mut steps = Vec::new(alloc);
-    steps.push((addition(alloc, 5, &[1], &[1])?, Ok(Progress::Going)))?;
-    steps.push((deletion(alloc, &[1, 9])?, Ok(Progress::Going)))?;
-    steps.push((
-        addition(alloc, 6, &[], &[1, 2, 4])?,
-        Err(StepFault::NoClause(1).into()),
-    ))?;
-    steps.push((
-        addition(alloc, 5, &[], &[5, 2, 4])?,
-        Err(StepFault::IdLive(5).into()),
-    ))?;
-    steps.push((
-        addition(alloc, 6, &[], &[5, -2, 4])?,
-        Err(StepFault::RatHint(-2).into()),
-    ))?;
-    steps.push((
-        addition(alloc, 6, &[], &[3, 2, 4])?,
-        Err(StepFault::NotUnit(3).into()),
-    ))?;
-    steps.push((addition(alloc, 1, &[-2], &[5, 4])?, Ok(Progress::Going)))?;
-    steps.push((
-        addition(alloc, 6, &[], &[5])?,
-        Err(StepFault::NoConflict.into()),
-    ))?;
-    steps.push((addition(alloc, 6, &[], &[5, 2, 4])?, Ok(Progress::Done)))?;
-    steps.push((addition(alloc, 6, &[], &[])?, Ok(Progress::Done)))?;
-    Ok(steps)
-}
+// Steps in turn, and what the checker answers.
+const STEPS: [(Row, Result<Progress, Refusal>); 10] = [
+    (Row::Add(5, &[1], &[1]), Ok(Progress::Going)),
+    (Row::Del(&[1, 9]), Ok(Progress::Going)),
+    (
+        Row::Add(6, &[], &[1, 2, 4]),
+        Err(Refusal::Fault(StepFault::NoClause(1))),
+    ),
+    (
+        Row::Add(5, &[], &[5, 2, 4]),
+        Err(Refusal::Fault(StepFault::IdLive(5))),
+    ),
+    (
+        Row::Add(6, &[], &[5, -2, 4]),
+        Err(Refusal::Fault(StepFault::RatHint(-2))),
+    ),
+    (
+        Row::Add(6, &[], &[3, 2, 4]),
+        Err(Refusal::Fault(StepFault::NotUnit(3))),
+    ),
+    (Row::Add(1, &[-2], &[5, 4]), Ok(Progress::Going)),
+    (
+        Row::Add(6, &[], &[5]),
+        Err(Refusal::Fault(StepFault::NoConflict)),
+    ),
+    (Row::Add(6, &[], &[5, 2, 4]), Ok(Progress::Done)),
+    (Row::Add(6, &[], &[]), Ok(Progress::Done)),
+];
 
 #[test]
 fn steps_in_turn(rt: HostRuntime) -> Result<(), Fail> {
     let formula = formula(&rt, rt.alloc())?;
     let mut checker = Checker::new(rt.alloc(), &formula)?;
-    for (step, want) in &steps(rt.alloc())? {
+    for (row, want) in &STEPS {
+        let step = step_of(rt.alloc(), *row)?;
         assert!(rt; step.is_in_range());
-        assert_eq!(rt; checker.step(step), *want, "at {step:?}");
+        assert_eq!(rt; checker.step(&step), *want, "at {row:?}");
     }
     assert!(rt; checker.finish().is_some());
     Ok(())

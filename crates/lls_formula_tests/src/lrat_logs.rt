@@ -1,17 +1,10 @@
 // Logs against the formula 1, 2, 1 -2, -1 -2: what they amount to, and their texts.
-use crate::lrat::{formula, literals};
+use crate::lrat::{Row, formula, literals};
 use lls_lrat::{CheckError, Checked, check, check_bytes};
 use lls_prooflog::{Hints, Ids, Lits, Log, Step, print_log};
 use std::alloc::Global;
 use std::process::Abort;
 use std::test::Fail;
-
-// A step by its numbers.
-#[derive(Clone, Copy)]
-enum Row {
-    Add(u64, &'static [i32], &'static [i64]),
-    Del(&'static [u64]),
-}
 
 fn push(rt: &impl Abort, alloc: Global, log: &mut Log, row: Row) -> Result<(), Fail> {
     match row {
