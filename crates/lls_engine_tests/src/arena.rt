@@ -236,6 +236,22 @@ fn numbers(alloc: Global, lits: &[Lit]) -> Result<Vec<i32>, Fail> {
     Ok(numbers)
 }
 
+// Whether the clause's edges watch its first two literals, where it has them.
+fn watches_its_first(arena: &Arena, c: u32) -> bool
+    requires { c < length arena.now.heads }
+{
+    let lits = arena.lits(c);
+    if lits.len() > 0 {
+        if arena.watched(c, false) != lits[0] {
+            return false;
+        }
+    }
+    if lits.len() > 1 {
+        return arena.watched(c, true) == lits[1];
+    }
+    true
+}
+
 // Whether the clause is as worked, and its edges watch its first two literals.
 fn assert_head(
     rt: &impl Abort,
@@ -246,19 +262,16 @@ fn assert_head(
 ) -> Result<(), Fail>
     requires { c < length arena.now.heads }
 {
-    assert_eq!(rt; arena.id(c), head.0);
-    assert_eq!(rt; arena.live(c), head.1);
-    let lits = arena.lits(c);
-    let shown = numbers(alloc, lits)?;
-    assert_eq!(rt; shown.as_slice(), head.2);
-    assert_eq!(rt; arena.link(c, false), head.3);
-    assert_eq!(rt; arena.link(c, true), head.4);
-    if lits.len() > 0 {
-        assert!(rt; arena.watched(c, false) == lits[0]);
-    }
-    if lits.len() > 1 {
-        assert!(rt; arena.watched(c, true) == lits[1]);
-    }
+    let lits = numbers(alloc, arena.lits(c))?;
+    let shown: Shown<'_> = (
+        arena.id(c),
+        arena.live(c),
+        lits.as_slice(),
+        arena.link(c, false),
+        arena.link(c, true),
+    );
+    assert_eq!(rt; shown, *head);
+    assert!(rt; watches_its_first(arena, c));
     Ok(())
 }
 

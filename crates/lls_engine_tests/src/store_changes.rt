@@ -10,6 +10,7 @@ use crate::store_trail::{Shown, VARS, shown};
 use lls_lit::Lit;
 use lls_store::{MOST_CLAUSES, ScanStore, Store, Trail};
 use std::alloc::Global;
+use std::process::Abort;
 use std::test::Fail;
 
 #[derive(Clone, Copy, Debug)]
@@ -361,20 +362,36 @@ fn stepped<S: Store>(
     }
 }
 
+fn assert_row(
+    rt: &impl Abort,
+    alloc: Global,
+    trail: &Trail,
+    answer: Option<u32>,
+    row: &Row,
+) -> Result<(), Fail>
+    requires { trail.now.vars ≡ VARS }
+{
+    let entries = shown(alloc, trail)?;
+    assert_eq!(rt; (answer, entries.as_slice()), (row.answer, row.entries));
+    Ok(())
+}
+
+// Whether the learnt clause stands in its place.
+fn assert_learnt<S: Store>(rt: &impl Abort, alloc: Global, store: &S) -> Result<(), Fail> {
+    assert_eq!(rt; store.count(), 7);
+    assert!(rt; store.live(4));
+    let learnt = literals(alloc, &[-2, -4])?;
+    assert_eq!(rt; (store.id(4), store.lits(4)), (5, learnt.as_slice()));
+    Ok(())
+}
+
 #[test]
 fn a_store_and_its_trail_change_as_worked(rt: HostRuntime) -> Result<(), Fail> {
     let mut trail = Trail::new(rt.alloc(), VARS)?;
     let mut store = ScanStore::new(rt.alloc(), VARS);
     for row in &ROWS {
         let answer = stepped(rt.alloc(), &mut store, &mut trail, row.step)?;
-        assert_eq!(rt; answer, row.answer);
-        let entries = shown(rt.alloc(), &trail)?;
-        assert_eq!(rt; entries.as_slice(), row.entries);
+        assert_row(&rt, rt.alloc(), &trail, answer, row)?;
     }
-    assert_eq!(rt; store.count(), 7);
-    assert!(rt; store.live(4));
-    assert_eq!(rt; store.id(4), 5);
-    let learnt = literals(rt.alloc(), &[-2, -4])?;
-    assert_eq!(rt; store.lits(4), learnt.as_slice());
-    Ok(())
+    assert_learnt(&rt, rt.alloc(), &store)
 }

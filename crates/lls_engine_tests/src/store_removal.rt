@@ -299,6 +299,22 @@ fn assert_live<S: Store>(
     Ok(())
 }
 
+fn assert_row<S: Store>(
+    rt: &impl Abort,
+    alloc: Global,
+    store: &S,
+    trail: &Trail,
+    answer: Option<u32>,
+    row: &Row,
+) -> Result<(), Fail>
+    requires { trail.now.vars ≡ VARS }
+{
+    assert_eq!(rt; (answer, store.count()), (row.answer, row.count));
+    let entries = shown(alloc, trail)?;
+    assert_eq!(rt; entries.as_slice(), row.entries);
+    assert_live(rt, alloc, store, row.live)
+}
+
 #[test]
 fn clauses_are_removed_and_numbered_anew_as_worked(rt: HostRuntime) -> Result<(), Fail> {
     let mut trail = Trail::new(rt.alloc(), VARS)?;
@@ -307,11 +323,7 @@ fn clauses_are_removed_and_numbered_anew_as_worked(rt: HostRuntime) -> Result<()
     for row in &ROWS {
         let (now, answer) = stepped(rt.alloc(), &mut store, &mut trail, last, row.step)?;
         last = now;
-        assert_eq!(rt; answer, row.answer);
-        assert_eq!(rt; store.count(), row.count);
-        assert_live(&rt, rt.alloc(), &store, row.live)?;
-        let entries = shown(rt.alloc(), &trail)?;
-        assert_eq!(rt; entries.as_slice(), row.entries);
+        assert_row(&rt, rt.alloc(), &store, &trail, answer, row)?;
     }
     Ok(())
 }
