@@ -39,9 +39,8 @@ fn a_sink_fails_at_listed_calls(rt: HostRuntime) -> Result<(), Fail> {
     ];
     for (call, answer, bytes) in rows {
         let mut sink = MemSink::new(alloc, vec![in alloc; call]?, 3);
-        assert_eq!(rt; write_all(&mut sink, b"glider"), answer);
-        assert_eq!(rt; sink.bytes(), bytes);
-        assert_eq!(rt; sink.lacked(), 0);
+        let found = write_all(&mut sink, b"glider");
+        assert_eq!(rt; (found, sink.bytes(), sink.lacked()), (answer, bytes, 0));
     }
     Ok(())
 }
@@ -60,13 +59,13 @@ fn a_file_is_written_whole_or_in_front(rt: HostRuntime) -> Result<(), Fail> {
         plan.creates.push(create)?;
         plan.writes.push(write)?;
         let mut shelf = shelf(alloc, plan)?;
+        let found = write_file(&mut shelf, &name(alloc, "seed")?, b"block");
+        let file = shelf.file("seed").ok_or("no file")?;
+        let other = shelf.file("see").is_some();
         assert_eq!(rt;
-            write_file(&mut shelf, &name(alloc, "seed")?, b"block"),
-            answer
+            (found, file, other, shelf.lacked()),
+            (answer, bytes, false, 0)
         );
-        assert_eq!(rt; shelf.file("seed").ok_or("no file")?, bytes);
-        assert!(rt; shelf.file("see").is_none());
-        assert_eq!(rt; shelf.lacked(), 0);
     }
     Ok(())
 }
@@ -75,12 +74,10 @@ fn a_file_is_written_whole_or_in_front(rt: HostRuntime) -> Result<(), Fail> {
 fn a_file_is_made(rt: HostRuntime) -> Result<(), Fail> {
     let alloc = rt.alloc();
     let mut shelf = shelf(alloc, no_faults(alloc))?;
-    assert_eq!(rt;
-        write_file(&mut shelf, &name(alloc, "proof")?, b"5 0 1"),
-        Ok(())
-    );
-    assert_eq!(rt; shelf.file("proof").ok_or("no file")?, b"5 0 1".as_slice());
-    assert_eq!(rt; shelf.file("seed").ok_or("no file")?, b"glider".as_slice());
+    let found = write_file(&mut shelf, &name(alloc, "proof")?, b"5 0 1");
+    let files = (shelf.file("proof"), shelf.file("seed"));
+    let wanted = (Some(b"5 0 1".as_slice()), Some(b"glider".as_slice()));
+    assert_eq!(rt; (found, files), (Ok(()), wanted));
     Ok(())
 }
 
@@ -102,12 +99,11 @@ fn a_file_is_read_up_to_its_limit(rt: HostRuntime) -> Result<(), Fail> {
         plan.reads.push(read)?;
         let mut shelf = shelf(alloc, plan)?;
         let mut into = b"> ".to_vec(alloc)?;
+        let found = read_all(&mut shelf, &name(alloc, file)?, limit, &mut into);
         assert_eq!(rt;
-            read_all(&mut shelf, &name(alloc, file)?, limit, &mut into),
-            answer
+            (found, into.as_slice(), shelf.lacked()),
+            (answer, bytes, 0)
         );
-        assert_eq!(rt; into.as_slice(), bytes);
-        assert_eq!(rt; shelf.lacked(), 0);
     }
     Ok(())
 }
@@ -125,25 +121,17 @@ fn real_files(rt: HostRuntime) -> Result<(), Fail> {
     // A file has no files below it: that isn't an absent file, but a failure.
     let below = shelf.open_input("lls_base_real_files/below");
     fs::remove_file(&rt, file.text())?;
-    assert_eq!(rt; read, Ok(()));
-    assert_eq!(rt; into.as_slice(), bytes.as_slice());
-    assert_eq!(rt; below, Err(OpenFault::Failed));
-    assert_eq!(rt; shelf.faults(), 1);
-    assert_eq!(rt; shelf.open_input(file.text()), Err(OpenFault::Absent));
-    assert_eq!(rt; shelf.faults(), 1);
-    assert_eq!(rt; shelf.create_output("no_folder/file"), Err(Failed));
-    assert_eq!(rt; shelf.faults(), 2);
+    assert_eq!(rt; (read, into.as_slice()), (Ok(()), bytes.as_slice()));
+    assert_eq!(rt; (below, shelf.faults()), (Err(OpenFault::Failed), 1));
+    let absent = shelf.open_input(file.text());
+    assert_eq!(rt; (absent, shelf.faults()), (Err(OpenFault::Absent), 1));
+    let created = shelf.create_output("no_folder/file");
+    assert_eq!(rt; (created, shelf.faults()), (Err(Failed), 2));
     // A folder is opened and can't be read; this device takes nothing.
-    assert_eq!(rt;
-        read_all(&mut shelf, &name(alloc, "/")?, 1, &mut into),
-        Err(ReadError::ReadFailed)
-    );
-    assert_eq!(rt; shelf.faults(), 3);
-    assert_eq!(rt;
-        write_file(&mut shelf, &name(alloc, "/dev/full")?, b"5 0 1"),
-        Err(FileFault::WriteFailed)
-    );
-    assert_eq!(rt; shelf.faults(), 4);
+    let read = read_all(&mut shelf, &name(alloc, "/")?, 1, &mut into);
+    assert_eq!(rt; (read, shelf.faults()), (Err(ReadError::ReadFailed), 3));
+    let written = write_file(&mut shelf, &name(alloc, "/dev/full")?, b"5 0 1");
+    assert_eq!(rt; (written, shelf.faults()), (Err(FileFault::WriteFailed), 4));
     Ok(())
 }
 
@@ -172,8 +160,8 @@ impl Write for Stubborn {
 fn streams(rt: HostRuntime) -> Result<(), Fail> {
     let mut sink = StdSink::new(Stubborn { calls: 0 });
     for (faults, answer) in [(1, Err(Failed)), (2, Err(Failed)), (2, Ok(()))] {
-        assert_eq!(rt; write_all(&mut sink, b"block"), answer);
-        assert_eq!(rt; sink.faults(), faults);
+        let found = write_all(&mut sink, b"block");
+        assert_eq!(rt; (found, sink.faults()), (answer, faults));
     }
     assert_eq!(rt; write_all(&mut StdSink::new(rt.stdout()), b"out\n"), Ok(()));
     assert_eq!(rt; StdSink::new(rt.stderr()).write(b""), Ok(0));
