@@ -46,6 +46,23 @@ fn found(
 }
 
 // How many clauses were learnt, where the answer is as expected.
+fn assert_found(
+    rt: &impl Abort,
+    alloc: Global,
+    formula: &Formula,
+    budget: u32,
+    want: &str,
+) -> Result<u64, Fail> {
+    let mut log = Log::new(alloc);
+    let found = found(rt, alloc, formula, budget, &mut log)?;
+    assert_eq!(rt;
+        (formula.len(), budget, found),
+        (formula.len(), budget, want)
+    );
+    Ok(log.additions())
+}
+
+// The same of a formula's text.
 fn compare(
     rt: &impl Abort,
     alloc: Global,
@@ -55,13 +72,7 @@ fn compare(
 ) -> Result<u64, Fail> {
     assert!(rt; text.len() <= MOST_DIMACS_BYTES);
     let formula = read_dimacs(alloc, text)?;
-    let mut log = Log::new(alloc);
-    assert_eq!(rt;
-        found(rt, alloc, &formula, budget, &mut log)?,
-        want,
-        "at {text:?}"
-    );
-    Ok(log.additions())
+    assert_found(rt, alloc, &formula, budget, want)
 }
 
 // A linear congruential generator, with the numbers of ANSI C's sample `rand`.
@@ -136,12 +147,7 @@ fn random_formulas_are_decided_within_budgets(rt: HostRuntime) -> Result<(), Fai
     ];
     for (vars, clauses, seed, budget, want) in rows {
         let formula = random_formula(rt.alloc(), vars, clauses, seed)?;
-        let mut log = Log::new(rt.alloc());
-        assert_eq!(rt;
-            found(&rt, rt.alloc(), &formula, budget, &mut log)?,
-            want,
-            "at {seed}"
-        );
+        assert_found(&rt, rt.alloc(), &formula, budget, want)?;
     }
     Ok(())
 }
