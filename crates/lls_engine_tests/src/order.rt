@@ -3,6 +3,7 @@ ghost use Rattle.std.specs.Prelude.{◌≤◌, IfOk};
 
 use lls_lit::Var;
 use lls_order::{Order, luby};
+use std::process::Abort;
 use std::test::Fail;
 
 #[derive(Clone, Copy, Debug)]
@@ -63,6 +64,10 @@ fn bump(order: &mut Order, n: u32, times: u32) -> Result<(), Fail> {
     Ok(())
 }
 
+fn assert_popped(rt: &impl Abort, order: &mut Order, expected: Option<u32>) {
+    assert_eq!(rt; order.pop_greatest().map(Var::number), expected);
+}
+
 #[test]
 fn variables_come_out_as_worked(rt: HostRuntime) -> Result<(), Fail> {
     let mut order = Order::new(rt.alloc(), 4)?;
@@ -74,9 +79,7 @@ fn variables_come_out_as_worked(rt: HostRuntime) -> Result<(), Fail> {
                 let var = variable(&order, n)?;
                 order.put_back(var);
             }
-            Call::Pop(expected) => {
-                assert_eq!(rt; order.pop_greatest().map(Var::number), expected);
-            }
+            Call::Pop(expected) => assert_popped(&rt, &mut order, expected),
         }
     }
     Ok(())
@@ -91,9 +94,9 @@ fn a_hundred_variables_come_out_by_activity(rt: HostRuntime) -> Result<(), Fail>
         bump(&mut order, n, 37 * n % 101)?;
     }
     for r in (1..101_u32).rev() {
-        assert_eq!(rt; order.pop_greatest().map(Var::number), Some(71 * r % 101));
+        assert_popped(&rt, &mut order, Some(71 * r % 101));
     }
-    assert!(rt; order.pop_greatest().is_none());
+    assert_popped(&rt, &mut order, None);
     Ok(())
 }
 
@@ -140,9 +143,9 @@ fn scaling_makes_equal(rt: HostRuntime) -> Result<(), Fail> {
         }
         bump(&mut order, 3, row.bumps)?;
         for n in row.popped {
-            assert_eq!(rt; order.pop_greatest().map(Var::number), Some(n));
+            assert_popped(&rt, &mut order, Some(n));
         }
-        assert!(rt; order.pop_greatest().is_none());
+        assert_popped(&rt, &mut order, None);
     }
     Ok(())
 }

@@ -280,6 +280,22 @@ fn stepped<S: Store>(
     }
 }
 
+// Whether the clause of that number is live, and has this id and these literals.
+fn assert_clause<S: Store>(
+    rt: &impl Abort,
+    alloc: Global,
+    store: &S,
+    c: u32,
+    clause: &Live,
+) -> Result<(), Fail>
+    requires { c < (S.state store.now).count }
+{
+    let lits = literals(alloc, clause.2)?;
+    let found = (store.live(c), store.id(c), store.lits(c));
+    assert_eq!(rt; found, (true, clause.1, lits.as_slice()));
+    Ok(())
+}
+
 // Whether the store has exactly these live clauses.
 fn assert_live<S: Store>(
     rt: &impl Abort,
@@ -288,12 +304,9 @@ fn assert_live<S: Store>(
     live: &[Live],
 ) -> Result<(), Fail> {
     for c in 0..store.count() {
-        let expected = live.iter().find(|clause| clause.0 == c);
-        assert_eq!(rt; store.live(c), expected.is_some());
-        if let Some(clause) = expected {
-            assert_eq!(rt; store.id(c), clause.1);
-            let lits = literals(alloc, clause.2)?;
-            assert_eq!(rt; store.lits(c), lits.as_slice());
+        match live.iter().find(|clause| clause.0 == c) {
+            Some(clause) => assert_clause(rt, alloc, store, c, clause)?,
+            None => assert!(rt; !store.live(c)),
         }
     }
     Ok(())

@@ -174,15 +174,29 @@ fn assert_values(rt: &impl Abort, trail: &Trail, entries: &[Shown]) -> Result<()
             } else {
                 None
             };
-            assert_eq!(rt; trail.value(lit), expected);
-            assert_eq!(rt; trail.value(lit.negated()), expected.map(|value| !value));
             let place = entries
                 .iter()
                 .position(|entry| entry.0 == n || entry.0 == -n);
-            assert_eq!(rt; trail.place(lit.var()), place);
+            let found = (
+                trail.value(lit),
+                trail.value(lit.negated()),
+                trail.place(lit.var()),
+            );
+            assert_eq!(rt; found, (expected, expected.map(|value| !value), place));
         }
     }
     Ok(())
+}
+
+fn assert_row(rt: &impl Abort, alloc: Global, trail: &Trail, row: &Row) -> Result<(), Fail>
+    requires { trail.now.vars ≡ VARS }
+{
+    let entries = shown(alloc, trail)?;
+    assert_eq!(rt;
+        (trail.current(), entries.as_slice()),
+        (row.current, row.entries)
+    );
+    assert_values(rt, trail, row.entries)
 }
 
 #[test]
@@ -190,10 +204,7 @@ fn a_trail_changes_as_worked(rt: HostRuntime) -> Result<(), Fail> {
     let mut trail = Trail::new(rt.alloc(), VARS)?;
     for row in &ROWS {
         changed(&mut trail, row.change)?;
-        assert_eq!(rt; trail.current(), row.current);
-        let entries = shown(rt.alloc(), &trail)?;
-        assert_eq!(rt; entries.as_slice(), row.entries);
-        assert_values(&rt, &trail, row.entries)?;
+        assert_row(&rt, rt.alloc(), &trail, row)?;
     }
     Ok(())
 }
