@@ -7,8 +7,6 @@ mod clause;
 mod hints;
 mod minimise;
 mod resolve;
-#[cfg(test)]
-mod tests;
 mod visited;
 
 pub use analyser::{Analyser, Learnt};

@@ -6,8 +6,6 @@
 
 mod arena;
 mod edges;
-#[cfg(test)]
-mod tests;
 
 pub use arena::Arena;
 

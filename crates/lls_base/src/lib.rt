@@ -25,6 +25,3 @@ pub use shelf::{OpenFault, Shelf};
 pub use sink::{Failed, Sink};
 pub use std_sink::StdSink;
 pub use writing::{FileFault, write_all, write_file};
-
-#[cfg(test)]
-mod tests;

@@ -3,8 +3,6 @@
 
 mod counter;
 mod place;
-#[cfg(test)]
-mod tests;
 
 pub use counter::{CounterVars, push_counter};
 pub use place::MOST_CLAUSES_EACH;

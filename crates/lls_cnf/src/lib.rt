@@ -19,8 +19,3 @@ pub use dimacs_error::DimacsError;
 pub use formula::Formula;
 pub use print::print_dimacs;
 pub use read::{MOST_DIMACS_BYTES, read_dimacs};
-
-#[cfg(test)]
-mod dimacs_tests;
-#[cfg(test)]
-mod tests;

@@ -2,7 +2,5 @@
 #![tactic(auto)]
 
 mod deciding;
-#[cfg(test)]
-mod tests;
 
 pub use deciding::deciding_budget;

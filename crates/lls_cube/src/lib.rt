@@ -4,8 +4,6 @@
 mod covering;
 mod cube;
 mod table;
-#[cfg(test)]
-mod tests;
 
 pub use covering::cover;
 pub use cube::{Cube, rows};

@@ -13,8 +13,6 @@ mod period;
 mod place;
 mod population;
 mod symmetry;
-#[cfg(test)]
-mod tests;
 mod transition;
 
 pub use decoding::decode;

@@ -6,6 +6,3 @@ mod making;
 mod numbers;
 
 pub use making::{MOST_SIZE, Made, make};
-
-#[cfg(test)]
-mod tests;

@@ -10,6 +10,3 @@ pub use history::History;
 pub use place::index_within;
 pub use sizes::{GridPlace, Sizes};
 pub use text::print_history;
-
-#[cfg(test)]
-mod tests;

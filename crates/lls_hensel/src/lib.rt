@@ -10,6 +10,3 @@ mod read;
 pub use class::{Class, class_of};
 pub use print::{PrintRuleError, print_rule};
 pub use read::{RuleError, read_rule};
-
-#[cfg(test)]
-mod tests;

@@ -20,9 +20,3 @@ pub use error::CheckError;
 pub use log::check;
 pub use refusal::Refusal;
 
-#[cfg(test)]
-mod log_tests;
-#[cfg(test)]
-mod tests;
-#[cfg(test)]
-mod walk_tests;

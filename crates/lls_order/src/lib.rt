@@ -4,8 +4,6 @@
 mod heap;
 mod luby_numbers;
 mod order;
-#[cfg(test)]
-mod tests;
 
 pub use luby_numbers::luby;
 pub use order::{MOST_ACTIVITY, Order, SCALE, SCALED_ABOVE};

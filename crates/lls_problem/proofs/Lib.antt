@@ -12,5 +12,4 @@ pub mod Outside
 pub mod Symmetric
 pub mod Returned
 pub mod Plane
-pub mod WorkedPlane
 pub mod Limits

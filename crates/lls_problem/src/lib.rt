@@ -9,12 +9,8 @@ mod form;
 mod judgement;
 mod judging;
 mod losses;
-#[cfg(test)]
-mod plane_tests;
 mod population;
 mod problem;
-#[cfg(test)]
-mod tests;
 mod transitions;
 mod unlike;
 

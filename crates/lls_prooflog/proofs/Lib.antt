@@ -11,7 +11,6 @@ pub mod PrintedNumbers
 pub mod PrintedLists
 pub mod PrintedSteps
 pub mod FreshClauses
-pub mod WorkedLogs
 pub mod StepLines
 pub mod Pieces
 pub mod Logged

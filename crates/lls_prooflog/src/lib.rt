@@ -39,10 +39,3 @@ pub use read::{LineReader, read_line};
 pub use step::Step;
 pub use step_fault::{Culprit, StepFault};
 pub use step_ref::StepRef;
-
-#[cfg(test)]
-mod line_tests;
-#[cfg(test)]
-mod spent_tests;
-#[cfg(test)]
-mod tests;

@@ -8,8 +8,6 @@ mod print;
 mod read;
 mod reader;
 mod rle_error;
-#[cfg(test)]
-mod tests;
 mod tokens;
 
 pub use print::print_rle;

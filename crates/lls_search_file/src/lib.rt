@@ -18,6 +18,3 @@ pub use plain::{HistoryError, read_history};
 pub use posed::{Names, Posed};
 pub use print::print_posed;
 pub use read::read_posed;
-
-#[cfg(test)]
-mod tests;

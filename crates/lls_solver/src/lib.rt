@@ -9,8 +9,6 @@ mod loading;
 mod outcome;
 mod searcher;
 mod solving;
-#[cfg(test)]
-mod tests;
 mod values;
 
 pub use outcome::Outcome;

@@ -6,7 +6,6 @@ pub mod Found
 pub mod Cut
 pub mod Reasons
 pub mod Points
-pub mod WorkedTrail
 pub mod Buffer
 pub mod Numbered
 pub mod Removing

@@ -6,20 +6,12 @@
 #![tactic(auto)]
 
 mod flat;
-#[cfg(test)]
-mod removal_tests;
 mod rows;
 mod scan_store;
 mod standing;
 mod store;
-#[cfg(test)]
-mod store_tests;
 mod trail;
-#[cfg(test)]
-mod trail_tests;
 mod truths;
-#[cfg(test)]
-mod worked_tests;
 
 pub use scan_store::ScanStore;
 pub use store::{MOST_CLAUSES, MOST_ID, Store};

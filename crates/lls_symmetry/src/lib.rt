@@ -5,8 +5,6 @@ mod motion;
 mod moved;
 mod pair;
 mod symmetry;
-#[cfg(test)]
-mod tests;
 
 pub use moved::{Course, MOST_PERIOD, MOST_SHIFT, Moved, Spot, is_on_grid, moved_pairs};
 pub use pair::{Pair, pairs};

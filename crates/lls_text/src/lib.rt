@@ -8,6 +8,3 @@ mod words;
 pub use digits::digits_number;
 pub use lines::{Lines, begins_with, is_blank_line};
 pub use words::{Word, Words, is_blank};
-
-#[cfg(test)]
-mod tests;

@@ -6,8 +6,6 @@ mod once;
 mod place;
 mod push;
 mod table;
-#[cfg(test)]
-mod tests;
 
 pub use once::push_cubes_once;
 pub use place::Place;

@@ -17,6 +17,3 @@ pub use error::WordsError;
 pub use job::Job;
 pub use values::{DEFAULT_BUDGET, MOST_BUDGET};
 pub use words::read_job;
-
-#[cfg(test)]
-mod tests;

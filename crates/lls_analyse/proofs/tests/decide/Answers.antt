@@ -1,5 +1,0 @@
-use Rattle.lls_store.proofs.SoundChanges.{IsSound-decided}
-use Rattle.lls_analyse.proofs.tests.decide.Goals as goal
-
-pub returns-clause-sound : goal.returns-clause-sound
-returns-clause-sound g c = rw c.decide.ensures (IsSound-decided (g.S.Store.state c.propagate.new.self).live c.propagate.new.trail c.in_ok-lit.lit c.propagate.ensures.sound)

@@ -1,0 +1,25 @@
+-- The parts of a formula are few.
+use Rattle.std.proofs.Common.{◌≡◌, ◌∙◌, ℕ, ◌+◌, length, ap, arith, length-append}
+use Rattle.lls_lit.specs.Formula.{Cnf}
+use Rattle.lls_encode.specs.Formula.{front_part}
+use Rattle.lls_encode.proofs.Made.{length-front_part, length-after_part}
+use Rattle.lls_formula_tests.proofs.encode.parts.around.Goals as goal
+
+pub push_before-requires-clause-room : goal.push_before-requires-clause-room
+push_before-requires-clause-room c =
+    let none : length c.new-formula.result.clauses ≡ 0 = ap (λ (f : Cnf). length f.clauses) c.new-formula.ensures in
+    omega (arith, none, length-front_part c.args.problem.now c.posed.ensures.kept c.demands-demands.ensures.kept)
+
+pub push_after-requires-clause-room : goal.push_after-requires-clause-room
+push_after-requires-clause-room c =
+    let p = c.args.problem.now in
+    let none : length c.new-formula.result.clauses ≡ 0 = ap (λ (f : Cnf). length f.clauses) c.new-formula.ensures in
+    let count : length c.push_before.new.formula.clauses ≡ length c.new-formula.result.clauses + length (front_part p) =
+    ap (λ (f : Cnf). length f.clauses) c.in_ok-push_before.ensures.ok ∙ length-append c.new-formula.result.clauses (front_part p) in
+    omega (
+      arith,
+      none,
+      count,
+      length-front_part p c.posed.ensures.kept c.demands-demands.ensures.kept,
+      length-after_part p c.posed.ensures.kept c.demands-demands.ensures.kept c.push_before.new.formula.vars,
+    )

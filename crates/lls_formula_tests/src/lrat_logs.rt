@@ -1,0 +1,175 @@
+// Logs against the formula 1, 2, 1 -2, -1 -2: what they amount to, and their texts.
+use crate::lrat::{Row, formula, literals};
+use lls_lrat::{CheckError, Checked, check, check_bytes};
+use lls_prooflog::{Hints, Ids, Lits, Log, Step, print_log};
+use std::alloc::Global;
+use std::process::Abort;
+use std::test::Fail;
+
+fn push(rt: &impl Abort, alloc: Global, log: &mut Log, row: Row) -> Result<(), Fail> {
+    match row {
+        Row::Add(id, lits, hints) => push_add(rt, alloc, log, id, lits, hints),
+        Row::Del(ids) => push_del(rt, alloc, log, ids),
+    }
+}
+
+fn push_add(
+    rt: &impl Abort,
+    alloc: Global,
+    log: &mut Log,
+    id: u64,
+    lits: &[i32],
+    hints: &[i64],
+) -> Result<(), Fail> {
+    let clause = literals(alloc, lits)?;
+    log.reserve(1, clause.len(), hints.len())?;
+    let step = Step::Add {
+        id,
+        lits: Lits::new(literals(alloc, lits)?),
+        hints: Hints::new(Vec::from_slice(alloc, hints)?),
+    };
+    assert!(rt; step.is_in_range());
+    log.push_add(id, &clause, hints);
+    Ok(())
+}
+
+fn push_del(rt: &impl Abort, alloc: Global, log: &mut Log, ids: &[u64]) -> Result<(), Fail> {
+    log.reserve(1, 0, ids.len())?;
+    let step = Step::Del {
+        ids: Ids::new(Vec::from_slice(alloc, ids)?),
+    };
+    assert!(rt; step.is_in_range());
+    log.push_del(ids);
+    Ok(())
+}
+
+fn log_of(rt: &impl Abort, alloc: Global, rows: &[Row]) -> Result<Log, Fail> {
+    let mut log = Log::new(alloc);
+    for row in rows {
+        push(rt, alloc, &mut log, *row)?;
+    }
+    Ok(log)
+}
+
+// What a check came to, as text.
+fn outcome(alloc: Global, found: Result<Checked, CheckError>) -> Result<String, Fail> {
+    Ok(match found {
+        Ok(_) => String::from_str(alloc, "accepted")?,
+        Err(fault) => format!(in alloc; "{fault}")?,
+    })
+}
+
+fn compare(
+    rt: &impl Abort,
+    alloc: Global,
+    rows: &[Row],
+    additions: u64,
+    want: &str,
+    text: &str,
+) -> Result<(), Fail> {
+    let formula = formula(rt, alloc)?;
+    let log = log_of(rt, alloc, rows)?;
+    assert_eq!(rt; (log.len(), log.additions()), (rows.len(), additions));
+    let printed = print_log(alloc, &log)?;
+    assert_eq!(rt; printed.as_slice(), text.as_bytes());
+    let of_log = outcome(alloc, check(alloc, &formula, &log))?;
+    let of_text = outcome(alloc, check_bytes(alloc, &formula, &printed))?;
+    assert_eq!(rt;
+        (text, of_log.as_str(), of_text.as_str()),
+        (text, want, want)
+    );
+    Ok(())
+}
+
+#[test]
+fn logs_amount_to_what_their_texts_do(rt: HostRuntime) -> Result<(), Fail> {
+    let rows: [(&[Row], u64, &str, &str); 5] = [
+        (&[], 0, "NoEmpty", ""),
+        (
+            &[Row::Add(5, &[], &[1, 2, 4])],
+            1,
+            "accepted",
+            "5 0 1 2 4 0\n",
+        ),
+        (
+            &[Row::Add(5, &[1, -2], &[1]), Row::Add(6, &[], &[1, 3])],
+            2,
+            "NotUnit 2 3",
+            "5 1 -2 0 1 0\n6 0 1 3 0\n",
+        ),
+        (
+            &[Row::Add(7, &[-2], &[1, 4]), Row::Add(4, &[], &[2, 7])],
+            2,
+            "IdLive 2 4",
+            "7 -2 0 1 4 0\n4 0 2 7 0\n",
+        ),
+        (
+            &[
+                Row::Add(7, &[-2], &[1, 4]),
+                Row::Add(8, &[], &[2, 7]),
+                Row::Add(8, &[], &[9]),
+            ],
+            3,
+            "accepted",
+            "7 -2 0 1 4 0\n8 0 2 7 0\n8 0 9 0\n",
+        ),
+    ];
+    for (steps, additions, want, text) in rows {
+        compare(&rt, rt.alloc(), steps, additions, want, text)?;
+    }
+    Ok(())
+}
+
+#[test]
+fn logs_with_deletions_amount_to_what_their_texts_do(rt: HostRuntime) -> Result<(), Fail> {
+    let rows: [(&[Row], u64, &str, &str); 5] = [
+        (
+            &[
+                Row::Add(7, &[-2], &[1, 4]),
+                Row::Del(&[1, 3]),
+                Row::Add(8, &[], &[2, 7]),
+            ],
+            2,
+            "accepted",
+            "7 -2 0 1 4 0\n0 d 1 3 0\n8 0 2 7 0\n",
+        ),
+        (
+            &[Row::Del(&[4]), Row::Add(6, &[], &[1, 2, 4])],
+            1,
+            "NoClause 2 4",
+            "0 d 4 0\n6 0 1 2 4 0\n",
+        ),
+        (
+            &[
+                Row::Del(&[]),
+                Row::Del(&[9_223_372_036_854_775_807]),
+                Row::Add(5, &[], &[1, 2, 4]),
+            ],
+            1,
+            "accepted",
+            "0 d 0\n0 d 9223372036854775807 0\n5 0 1 2 4 0\n",
+        ),
+        (
+            &[Row::Del(&[2]), Row::Add(2, &[-2], &[1, 4])],
+            1,
+            "NoEmpty",
+            "0 d 2 0\n2 -2 0 1 4 0\n",
+        ),
+        (
+            &[
+                Row::Add(4_294_967_295, &[-2], &[1, 4]),
+                Row::Add(4_294_967_296, &[-2], &[4_294_967_295]),
+                Row::Del(&[4_294_967_295]),
+                Row::Add(9, &[], &[2, 4_294_967_296]),
+            ],
+            3,
+            "accepted",
+            "4294967295 -2 0 1 4 0\n4294967296 -2 0 4294967295 0\n0 d 4294967295 0\n\
+              9 0 2 4294967296 0\n",
+        ),
+    ];
+    for (steps, additions, want, text) in rows {
+        compare(&rt, rt.alloc(), steps, additions, want, text)?;
+    }
+    Ok(())
+}

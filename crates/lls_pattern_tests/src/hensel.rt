@@ -1,0 +1,173 @@
+// Worked rows: texts with their canonical forms and faults, classes with their sizes, published rules.
+use lls_hensel::{Class, PrintRuleError, RuleError, class_of, print_rule, read_rule};
+use lls_rule::Rule;
+
+#[test]
+fn texts_are_read_and_printed(rt: HostRuntime) {
+    for (text, canonical) in [
+        ("b2-a/s12", "B2-a/S12"),
+        ("23/3", "B3/S23"),
+        ("B3S23", "B3/S23"),
+        ("/", "B/S"),
+        (
+            "B2ci3ai4c8/S02ae3eijkq4iz5ar6i7e",
+            "B2ci3ai4c8/S02ae3eijkq4iz5ar6i7e",
+        ),
+        ("b1ce2-acenk/S", "B12i/S"),
+        ("B2ace/S2-ace", "B2ace/S2ikn"),
+        ("B3/S23", "B3/S23"),
+        ("B36/S23", "B36/S23"),
+        ("B3678/S34678", "B3678/S34678"),
+        ("B2/S", "B2/S"),
+        ("B3/S2-i34q", "B3/S2-i34q"),
+        ("B35678/S5678", "B35678/S5678"),
+        ("B1357/S1357", "B1357/S1357"),
+        ("B3/S12345", "B3/S12345"),
+        ("B368/S245", "B368/S245"),
+        ("B3/S012345678", "B3/S012345678"),
+        ("B36/S125", "B36/S125"),
+    ] {
+        let rule = read_rule(text.as_bytes()).expect(&rt, text);
+        let printed = print_rule(rt.alloc(), &rule).expect(&rt, text);
+        assert!(rt; printed.as_slice() == canonical.as_bytes(), "{text}");
+    }
+}
+
+#[test]
+fn faults_have_their_columns(rt: HostRuntime) {
+    for (text, fault) in [
+        ("", RuleError::Empty),
+        ("B1k/S", RuleError::BadLetter(3)),
+        ("B33/S", RuleError::RepeatedDigit(3)),
+        ("B2aa/S", RuleError::RepeatedLetter(4)),
+        ("B2-/S", RuleError::NoLetters(3)),
+        ("B9/S", RuleError::Stray(2)),
+        ("B3", RuleError::Stray(3)),
+        ("B3/", RuleError::Stray(4)),
+        ("B/x", RuleError::Stray(3)),
+        ("B2-s/S", RuleError::NoLetters(3)),
+        ("2-s/", RuleError::BadLetter(3)),
+        ("B2c-a/S", RuleError::Stray(4)),
+        ("B0c/S", RuleError::BadLetter(3)),
+        ("a/3", RuleError::BadLetter(1)),
+        ("3/b", RuleError::BadLetter(3)),
+        ("B2A/S", RuleError::Stray(3)),
+        ("B3/S23/", RuleError::Stray(7)),
+        ("23", RuleError::Stray(3)),
+    ] {
+        assert!(rt; read_rule(text.as_bytes()) == Err(fault), "{text}");
+    }
+}
+
+#[test]
+fn successors_worked_by_hand(rt: HostRuntime) {
+    for (text, nine, live) in [
+        ("B3/S2-i34q", 0b000_111_000, false),
+        ("B3/S2-i34q", 0b000_110_001, true),
+        ("B3/S2-i34q", 0b001_110_110, true),
+        ("B3/S2-i34q", 0b101_010_101, false),
+        ("B3/S2-i34q", 0b100_100_001, true),
+        ("B2-a/S12", 0b000_000_011, false),
+        ("B2-a/S12", 0b100_000_001, true),
+        ("B2-a/S12", 0b000_010_100, true),
+        ("B5c/S", 0b010_101_110, true),
+        ("B5c/S", 0b101_101_100, false),
+        ("B7e/S", 0b111_101_101, true),
+        ("B7e/S", 0b111_101_110, false),
+    ] {
+        let rule = read_rule(text.as_bytes()).expect(&rt, text);
+        assert!(rt; nine < Rule::NEIGHBOURHOODS);
+        assert!(rt; rule.next(nine) == live, "{text} {nine}");
+    }
+}
+
+#[test]
+fn sizes_of_classes(rt: HostRuntime) {
+    for (few, many, letter, size) in [
+        (0, 8, None, 1),
+        (1, 7, Some(b'c'), 4),
+        (1, 7, Some(b'e'), 4),
+        (2, 6, Some(b'a'), 8),
+        (2, 6, Some(b'c'), 4),
+        (2, 6, Some(b'e'), 4),
+        (2, 6, Some(b'i'), 2),
+        (2, 6, Some(b'k'), 8),
+        (2, 6, Some(b'n'), 2),
+        (3, 5, Some(b'a'), 4),
+        (3, 5, Some(b'c'), 4),
+        (3, 5, Some(b'e'), 4),
+        (3, 5, Some(b'i'), 4),
+        (3, 5, Some(b'j'), 8),
+        (3, 5, Some(b'k'), 4),
+        (3, 5, Some(b'n'), 8),
+        (3, 5, Some(b'q'), 8),
+        (3, 5, Some(b'r'), 8),
+        (3, 5, Some(b'y'), 4),
+        (4, 4, Some(b'a'), 8),
+        (4, 4, Some(b'c'), 1),
+        (4, 4, Some(b'e'), 1),
+        (4, 4, Some(b'i'), 4),
+        (4, 4, Some(b'j'), 8),
+        (4, 4, Some(b'k'), 8),
+        (4, 4, Some(b'n'), 8),
+        (4, 4, Some(b'q'), 4),
+        (4, 4, Some(b'r'), 8),
+        (4, 4, Some(b't'), 4),
+        (4, 4, Some(b'w'), 4),
+        (4, 4, Some(b'y'), 8),
+        (4, 4, Some(b'z'), 4),
+    ] {
+        for count in [few, many] {
+            let found = (0..=255)
+                .filter(|eight| class_of(*eight) == (Class { count, letter }))
+                .count();
+            assert_eq!(rt; found, size, "{count} {letter:?}");
+        }
+    }
+}
+
+// The number of the neighbourhood of these eight and a centre: four stand before it, and four behind.
+fn nine_of(eight: u8, centre: bool) -> u16 {
+    let (before, behind) = (u16::from(eight / 16), u16::from(eight % 16));
+    before * 32 + u16::from(centre) * 16 + behind
+}
+
+#[test]
+fn each_class_is_printed_and_read(rt: HostRuntime) {
+    for eight in 0..=255 {
+        let Class { count, letter } = class_of(eight);
+        let letters = match letter {
+            Some(letter) => format!(in rt.alloc(); "{}", char::from(letter)),
+            None => format!(in rt.alloc(); ""),
+        };
+        let letters = letters.expect(&rt, "memory");
+        for survival in [false, true] {
+            let text = if survival {
+                format!(in rt.alloc(); "B/S{count}{letters}")
+            } else {
+                format!(in rt.alloc(); "B{count}{letters}/S")
+            };
+            let text = text.expect(&rt, "memory");
+            let rule = read_rule(text.as_bytes()).expect(&rt, &text);
+            let printed = print_rule(rt.alloc(), &rule).expect(&rt, &text);
+            assert!(rt; printed.as_slice() == text.as_bytes(), "{text}");
+            let (same, other) = (nine_of(eight, survival), nine_of(eight, !survival));
+            assert!(rt; same < Rule::NEIGHBOURHOODS && other < Rule::NEIGHBOURHOODS);
+            assert!(rt; rule.next(same) && !rule.next(other), "{text} {eight}");
+        }
+    }
+}
+
+#[test]
+fn a_rule_that_is_not_isotropic(rt: HostRuntime) {
+    for (nine, least) in [(2, 8), (8, 8), (16 + 4, 16 + 4), (16 + 1, 16 + 4)] {
+        let mut rule = Rule::from_counts(0b1000, 0b1100);
+        assert!(rt; nine < Rule::NEIGHBOURHOODS);
+        let live = rule.next(nine);
+        rule.set(nine, !live);
+        assert!(rt;
+            print_rule(rt.alloc(), &rule) == Err(PrintRuleError::NotIsotropic(least)),
+            "{nine}"
+        );
+    }
+}

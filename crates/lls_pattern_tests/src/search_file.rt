@@ -1,0 +1,238 @@
+// Search files: read, refused, printed.
+ghost use Rattle.std.specs.Prelude.{◌≡◌, IfOk};
+
+use lls_grid::{History, print_history};
+use lls_search_file::{
+    Cell, HistoryError, Kind, PosedError, print_posed, read_history, read_posed,
+};
+use std::alloc::{AllocError, Global};
+use std::test::Fail;
+
+fn cell(kind: Kind) -> Cell {
+    Cell { mark: false, kind }
+}
+
+// A text of that many generations, rows and cells, all sought.
+fn sought(alloc: Global, generations: u32, height: u32, width: u32) -> Result<Vec<u8>, AllocError> {
+    let mut text = Vec::new(alloc);
+    for _ in 0..generations {
+        for _ in 0..height {
+            for _ in 0..width {
+                text.extend_from_slice(b"* ")?;
+            }
+            text.push(b'\n')?;
+        }
+        text.push(b'\n')?;
+    }
+    Ok(text)
+}
+
+#[test]
+fn texts_refused(rt: HostRuntime) -> Result<(), Fail> {
+    let alloc = rt.alloc();
+    let rows: [(&[u8], PosedError); 24] = [
+        (b"", PosedError::Empty),
+        (b" \n# 1\n\t\r\n", PosedError::Empty),
+        (b"1 0\n1\n", PosedError::Ragged(2, 2, 1)),
+        (b"1 0\n\n# wide\n1 1 0\n", PosedError::Ragged(4, 2, 3)),
+        (b"1\n\n1\n1\n", PosedError::Sizes(1, 1, 2)),
+        (b"1\n1\n\n0\n\n", PosedError::Sizes(1, 2, 1)),
+        (b"1\n1\n\n0", PosedError::Sizes(1, 2, 1)),
+        (b"1 2\n", PosedError::BadCell(1, 3)),
+        (b"1 \xc3\xa9", PosedError::NotAscii(1, 3)),
+        (b"2 \xc3\xa9", PosedError::NotAscii(1, 3)),
+        (b"\x80", PosedError::NotAscii(1, 1)),
+        (b"1 , , 0", PosedError::BadCell(1, 5)),
+        (b"1,,0", PosedError::BadCell(1, 3)),
+        (b" ,1", PosedError::BadCell(1, 2)),
+        (b"1 0,,", PosedError::BadCell(1, 5)),
+        (b"# a\n\n1 0\r\n01 0\r\n", PosedError::BadCell(4, 1)),
+        (b"0''", PosedError::BadCell(1, 1)),
+        (b"'", PosedError::BadCell(1, 1)),
+        (b"-0", PosedError::BadCell(1, 1)),
+        (b"a-b", PosedError::BadCell(1, 1)),
+        (b"--a", PosedError::BadCell(1, 1)),
+        (b"1\r\r\n", PosedError::BadCell(1, 1)),
+        (b"1 #", PosedError::BadCell(1, 3)),
+        (
+            b"0 a23456789012345678901234567890123",
+            PosedError::BadCell(1, 3),
+        ),
+    ];
+    for (text, fault) in rows {
+        assert_eq!(rt; read_posed(alloc, text).err(), Some(fault));
+    }
+    Ok(())
+}
+
+#[test]
+fn sizes_at_their_limits(rt: HostRuntime) -> Result<(), Fail> {
+    let alloc = rt.alloc();
+    let rows: [(u32, u32, u32, Option<PosedError>); 8] = [
+        (1, 1, 64, None),
+        (1, 64, 1, None),
+        (64, 1, 1, None),
+        (2, 64, 64, None),
+        (1, 1, 65, Some(PosedError::TooWide(65))),
+        (1, 65, 1, Some(PosedError::TooHigh(65))),
+        (65, 1, 1, Some(PosedError::TooMany(65))),
+        (3, 64, 64, Some(PosedError::TooManyCells(8256))),
+    ];
+    for (generations, height, width, fault) in rows {
+        let text = sought(alloc, generations, height, width)?;
+        match read_posed(alloc, &text) {
+            Ok(posed) => {
+                assert_eq!(rt; None, fault);
+                assert_eq!(rt;
+                    (posed.generations, posed.height, posed.width),
+                    (generations, height, width)
+                );
+            }
+            Err(found) => assert_eq!(rt; Some(found), fault),
+        }
+    }
+    Ok(())
+}
+
+#[test]
+fn cells_and_names(rt: HostRuntime) -> Result<(), Fail> {
+    let alloc = rt.alloc();
+    let text: &[u8] =
+        b"\n \t\r\n# \xff b\n b1 ,\t-a ,*',\r\n#\n-b1' 0 1\t\n\n\n \n# c\n a, a', Z9\r\n1 1 1";
+    let posed = read_posed(alloc, text)?;
+    assert_eq!(rt; (posed.generations, posed.height, posed.width), (2, 2, 3));
+    let cells = [
+        cell(Kind::Named(0)),
+        cell(Kind::Negated(1)),
+        Cell {
+            mark: true,
+            kind: Kind::Free,
+        },
+        Cell {
+            mark: true,
+            kind: Kind::Negated(0),
+        },
+        cell(Kind::Dead),
+        cell(Kind::Live),
+        cell(Kind::Named(1)),
+        Cell {
+            mark: true,
+            kind: Kind::Named(1),
+        },
+        cell(Kind::Named(2)),
+        cell(Kind::Live),
+        cell(Kind::Live),
+        cell(Kind::Live),
+    ];
+    assert_eq!(rt; posed.cells.items(), cells.as_slice());
+    let names = posed.names.items();
+    assert_eq!(rt; names.len(), 3);
+    assert_eq!(rt; names[0].text(), "b1");
+    assert_eq!(rt; names[1].text(), "a");
+    assert_eq!(rt; names[2].text(), "Z9");
+    Ok(())
+}
+
+#[test]
+fn names_of_32_letters(rt: HostRuntime) -> Result<(), Fail> {
+    let alloc = rt.alloc();
+    let posed = read_posed(alloc, b"a2345678901234567890123456789012")?;
+    assert_eq!(rt; posed.names.items().len(), 1);
+    assert_eq!(rt;
+        posed.names.items()[0].text(),
+        "a2345678901234567890123456789012"
+    );
+    Ok(())
+}
+
+#[test]
+fn a_printed_file_is_read_back(rt: HostRuntime) -> Result<(), Fail> {
+    let alloc = rt.alloc();
+    let text = b"b' -a *'\n0 1 b\n\na -b1' 1'\n0' * -b\n".as_slice();
+    let spaced = b"\n#x\n b'\t,-a, *',\r\n0 1 b\n \n\na -b1' 1'\n0',*,-b\n\n".as_slice();
+    for bytes in [text, spaced] {
+        let posed = read_posed(alloc, bytes)?;
+        let printed = print_posed(alloc, &posed)?;
+        assert_eq!(rt; printed.as_slice(), text);
+    }
+    Ok(())
+}
+
+// A history, printed and read.
+fn reread(alloc: Global, history: &History) -> Result<History, HistoryError>
+    ensures { IfOk result (λ read. read ≡ history.now) }
+{
+    // What the type of a history keeps is told by its sizes.
+    let _sizes = history.sizes();
+    match print_history(alloc, history) {
+        Ok(text) => read_history(alloc, &text),
+        Err(_) => Err(HistoryError::Memory),
+    }
+}
+
+#[test]
+fn a_printed_history_is_read_back(rt: HostRuntime) -> Result<(), Fail> {
+    let alloc = rt.alloc();
+    let text = b"0 0 0\n1 1 1\n0 0 0\n\n0 1 0\n0 1 0\n0 1 0\n".as_slice();
+    let spaced = b"# blinker\n0,0,0\n 1 1 1\r\n0 0 0 ,\n\n\n0 1 0\n0 1 0\n0 1 0".as_slice();
+    for bytes in [text, spaced] {
+        let history = reread(alloc, &read_history(alloc, bytes)?)?;
+        assert_eq!(rt;
+            (history.generations(), history.height(), history.width()),
+            (2, 3, 3)
+        );
+        let printed = print_history(alloc, &history)?;
+        assert_eq!(rt; printed.as_slice(), text);
+    }
+    Ok(())
+}
+
+#[test]
+fn texts_that_are_no_histories(rt: HostRuntime) -> Result<(), Fail> {
+    let alloc = rt.alloc();
+    let rows: [(&[u8], HistoryError); 7] = [
+        (b"", HistoryError::Text(PosedError::Empty)),
+        (b"* 2", HistoryError::Text(PosedError::BadCell(1, 3))),
+        (b"*", HistoryError::NotPlain(0, 0, 0)),
+        (b"a", HistoryError::NotPlain(0, 0, 0)),
+        (b"0 1\n1 0\n\n0 1\n1 1'", HistoryError::NotPlain(1, 1, 1)),
+        (
+            b"0 0 -a\n* 0 0\n\n0 0 0\n0 0 0\n",
+            HistoryError::NotPlain(0, 0, 2),
+        ),
+        (
+            b"0 1 0\n\n0 1 0\n\n1 * 1\n",
+            HistoryError::NotPlain(2, 0, 1),
+        ),
+    ];
+    for (text, fault) in rows {
+        assert_eq!(rt; read_history(alloc, text).err(), Some(fault));
+    }
+    Ok(())
+}
+
+#[test]
+fn faults_by_their_texts(rt: HostRuntime) -> Result<(), Fail> {
+    let alloc = rt.alloc();
+    let rows: [(PosedError, &str, bool); 10] = [
+        (PosedError::Empty, "Empty", false),
+        (PosedError::BadCell(1, 3), "BadCell 1 3", false),
+        (PosedError::Ragged(2, 2, 1), "Ragged 2 2 1", false),
+        (PosedError::Sizes(1, 1, 2), "Sizes 1 1 2", false),
+        (PosedError::TooWide(65), "TooWide 65", true),
+        (PosedError::TooHigh(65), "TooHigh 65", true),
+        (PosedError::TooMany(65), "TooMany 65", true),
+        (PosedError::TooManyCells(8256), "TooManyCells 8256", true),
+        (PosedError::NotAscii(1, 3), "NotAscii 1 3", false),
+        (PosedError::Memory, "Memory", false),
+    ];
+    for (fault, text, limit) in rows {
+        assert_eq!(rt; format!(in alloc; "{fault}")?.as_str(), text);
+        let inner = HistoryError::Text(fault);
+        assert_eq!(rt; format!(in alloc; "{inner}")?.as_str(), text);
+        assert_eq!(rt; fault.is_limit(), limit);
+    }
+    let place = HistoryError::NotPlain(1, 2, 3);
+    assert_eq!(rt; format!(in alloc; "{place}")?.as_str(), "NotPlain 1 2 3");
+    Ok(())
+}

@@ -1,0 +1,418 @@
+// Command lines and the jobs or faults that they are read as.
+use lls_problem::{Bound, Demands, Edge, Form, Period};
+use lls_rule::Rule;
+use lls_symmetry::Symmetry;
+use lls_words::{Job, WordsError, read_job};
+use std::alloc::{AllocError, Global};
+use std::test::Fail;
+
+/// The words of a command line, separated by single blanks.
+fn words_of(alloc: Global, text: &str) -> Result<Vec<String>, AllocError> {
+    let mut words = Vec::new(alloc);
+    for word in text.split(' ') {
+        words.push(String::from_str(alloc, word)?)?;
+    }
+    Ok(words)
+}
+
+/// The job of a command line.
+fn job_of(alloc: Global, line: &str) -> Result<Job, Fail> {
+    let words = words_of(alloc, line)?;
+    Ok(read_job(alloc, &words)?)
+}
+
+/// The text of the fault of a command line.
+fn fault_of(alloc: Global, line: &str) -> Result<String, Fail> {
+    let words = words_of(alloc, line)?;
+    match read_job(alloc, &words) {
+        Ok(_) => Err(Fail::from("a fault")),
+        Err(error) => Ok(error.to_string(alloc)?),
+    }
+}
+
+/// Command lines, and the fault of each.
+const FAULTS: &str = "\
+guess f p > UnknownCommand
+--help > UnknownCommand
+check f > Operands 2 1
+judge f p f > Operands 2 3
+rule > Operands 1 0
+cnf f p > Operands 1 2
+lrat f > Operands 2 1
+search f > Operands 2 1
+cnf f --edge shut > BadValue 3
+cnf f --edge > MissingValue 3
+check f  p > BadWord 3
+check -f p > BadWord 2
+check f -- p > BadWord 3
+check f p --best > UnknownOption 4
+rule --edge=open 23/3 > UnknownOption 2
+check f p --edge open --edge open > RepeatedOption 6
+check f p --edge open --edge > RepeatedOption 6
+check f p --edge > MissingValue 4
+check f --edge= p > MissingValue 3
+check f --edge --rule p > MissingValue 3
+check --edge shut f p > BadValue 2
+check f p --rule=B9/S --edge shut > Stray 4 2
+check f p --edge shut --rule B9/S > BadValue 4
+judge f p --symmetry C3 > BadValue 4
+judge f p --symmetry c2 > BadValue 4
+judge f p --period 0 > BadValue 4
+judge f p --period 64 > BadValue 4
+judge f p --period 4,1 > BadValue 4
+judge f p --period 4,1,1,1 > BadValue 4
+judge f p --period 4,65,0 > BadValue 4
+judge f p --period 4,0,-65 > BadValue 4
+judge f p --period 4,+1,0 > BadValue 4
+judge f p --period 000000000000000000004 > BadValue 4
+judge f p --period -4 > MissingValue 4
+judge f p --live 0 > BadValue 4
+judge f p --live 0: > BadValue 4
+judge f p --live 0:1 > BadValue 4
+judge f p --live 1-2 > BadValue 4
+judge f p --live :1-2 > BadValue 4
+judge f p --live 64:1-2 > BadValue 4
+judge f p --live 0:8193- > BadValue 4
+judge f p --live 0:-8193 > BadValue 4
+judge f p --live 0:1-2-3 > BadValue 4
+judge f p --live 0:1:-2 > BadValue 4
+judge f p --live 0:--1 > BadValue 4
+judge f p --live 0:1-2, > BadValue 4
+judge f p --live ,0:1-2 > BadValue 4
+judge f p --live 0:1-2,,1:1-2 > BadValue 4
+judge f p --live 0:000000000000000000001- > BadValue 4
+judge f p --live -0:1-2 > MissingValue 4
+judge f p --live 0:- --live 0:- > RepeatedOption 6
+judge f p --differ 0 > BadValue 4
+judge f p --differ 0,64 > BadValue 4
+judge f p --differ 0,1,2 > BadValue 4
+check f p --period 4,1 > BadValue 4
+cnf f --differ 64,0 > BadValue 3
+rule B1k/S > BadLetter 2 3
+rule B33/S > RepeatedDigit 2 3
+rule B2aa/S > RepeatedLetter 2 4
+rule B2-/S > NoLetters 2 3
+search f f > SameName 3
+search --budget 7 f --edge open f > SameName 7
+sat f f > SameName 3
+sat f f --budget x > BadValue 4
+sat --budget 7 f f --budget > RepeatedOption 6
+sat f g --budget 10000001 > BadValue 4
+sat f g --budget 000000000000000000007 > BadValue 4
+check f p --formula 3 > BadValue 4
+search f p --formula 0 > BadValue 4
+search f p --formula 01 > BadValue 4
+cnf --formula=12 f > BadValue 2
+cnf f --formula 1 --formula 1 > RepeatedOption 5
+cnf f --formula > MissingValue 3
+search f g --keep some > BadValue 4
+search f g --as RLE > BadValue 4
+make 18446744073709551616 8 f p > BadValue 2
+make 99999999999999999999 8 f p > BadValue 2
+make 000000000000000000001 8 f p > BadValue 2
+make 1e3 8 f p > BadValue 2
+make +1 8 f p > BadValue 2
+make -1 8 f p > BadWord 2
+make 1 0 f p > BadValue 3
+make 1 65 f p > BadValue 3
+make 1 +8 f p > BadValue 3
+make 1 000000000000000000008 f p > BadValue 3
+make x 65 f p > BadValue 2
+make 1 65 f f > BadValue 3
+make x 8 f f > BadValue 2
+make 1 64 f f > SameName 5
+make 8 8 8 8 > SameName 5
+make 1 8 f > Operands 4 3
+make x 0 f f f > Operands 4 5
+make > Operands 4 0
+make --as=rle 1 8 f p > UnknownOption 2";
+
+#[test]
+fn faults_are_named_by_their_place(rt: HostRuntime) -> Result<(), Fail> {
+    let alloc = rt.alloc();
+    for row in FAULTS.split('\n') {
+        let Some((line, want)) = row.split_once(" > ") else {
+            return Err(Fail::from("a row"));
+        };
+        assert_eq!(rt; fault_of(alloc, line)?.as_str(), want, "at {line:?}");
+    }
+    assert!(rt; matches!(read_job(alloc, &[]), Err(WordsError::NoCommand)));
+    Ok(())
+}
+
+/// Options, each with a value that it may have.
+const OPTIONS: &str = "\
+formula=1 rule=B3/S23 edge=open symmetry=C2 period=2 live=0:1- differ=0,1 as=rle budget=7 keep=all best=1";
+
+/// Whether a command line takes an option that stands behind it, which is the only fault that it may have.
+fn takes(alloc: Global, line: &str, option: &str) -> Result<bool, Fail> {
+    let line = format!(in alloc; "{line} --{option}")?;
+    let words = words_of(alloc, &line)?;
+    match read_job(alloc, &words) {
+        Ok(_) => Ok(true),
+        Err(WordsError::UnknownOption(place)) => {
+            if place == words.len() as u64 {
+                Ok(false)
+            } else {
+                Err(Fail::from("another place"))
+            }
+        }
+        Err(_) => Err(Fail::from("another fault")),
+    }
+}
+
+/// What the options are called that a command line takes, each with a blank behind it.
+fn options_of(alloc: Global, line: &str) -> Result<String, Fail> {
+    let mut names = String::new(alloc);
+    for option in OPTIONS.split(' ') {
+        let Some((name, _)) = option.split_once('=') else {
+            return Err(Fail::from("an option"));
+        };
+        if takes(alloc, line, option)? {
+            names.push_str(&format!(in alloc; "{name} ")?)?;
+        }
+    }
+    Ok(names)
+}
+
+#[test]
+fn each_command_takes_its_options_alone(rt: HostRuntime) -> Result<(), Fail> {
+    let alloc = rt.alloc();
+    let rows = [
+        (
+            "check f p",
+            "formula rule edge symmetry period live differ ",
+        ),
+        (
+            "search f p",
+            "formula rule edge symmetry period live differ as budget keep ",
+        ),
+        ("judge f p", "rule edge symmetry period live differ as "),
+        ("cnf f", "formula rule edge symmetry period live differ "),
+        ("sat f p", "budget keep "),
+        ("lrat f p", ""),
+        ("rule B3/S23", ""),
+        ("make 1 8 f p", ""),
+    ];
+    for (line, want) in rows {
+        assert_eq!(rt; options_of(alloc, line)?.as_str(), want, "at {line:?}");
+    }
+    Ok(())
+}
+
+#[test]
+fn options_and_operands_stand_in_any_order(rt: HostRuntime) -> Result<(), Fail> {
+    let alloc = rt.alloc();
+    let rows = [
+        ("check f p", Edge::Framed),
+        ("check --edge open f p", Edge::Bare),
+        ("check f --edge=open p", Edge::Bare),
+        ("check f p --edge closed", Edge::Framed),
+    ];
+    for (line, want) in rows {
+        let Job::Check {
+            search,
+            proof,
+            demands,
+            ..
+        } = job_of(alloc, line)?
+        else {
+            return Err(Fail::from("a check"));
+        };
+        assert_eq!(rt; search.text(), "f", "at {line:?}");
+        assert_eq!(rt; proof.text(), "p", "at {line:?}");
+        assert_eq!(rt; demands.edge, want, "at {line:?}");
+    }
+    Ok(())
+}
+
+/// What a job to make a problem says, with blanks between.
+fn made_by(alloc: Global, job: Job) -> Result<String, Fail> {
+    let Job::Make {
+        seed,
+        size,
+        search,
+        proof,
+    } = job
+    else {
+        return Err(Fail::from("a problem to make"));
+    };
+    let search = search.text();
+    let proof = proof.text();
+    Ok(format!(in alloc; "{seed} {size} {search} {proof}")?)
+}
+
+#[test]
+fn numbers_and_names_of_what_is_made(rt: HostRuntime) -> Result<(), Fail> {
+    let alloc = rt.alloc();
+    let rows = [
+        ("make 0 1 f p", "0 1 f p"),
+        (
+            "make 18446744073709551615 64 f p",
+            "18446744073709551615 64 f p",
+        ),
+        (
+            "make 18446744073709551609 64 f p",
+            "18446744073709551609 64 f p",
+        ),
+        (
+            "make 00000000000000000001 00000000000000000010 f p",
+            "1 10 f p",
+        ),
+        ("make 7 8 8 7", "7 8 8 7"),
+        ("make 7 7 8 7", "7 7 8 7"),
+    ];
+    for (line, want) in rows {
+        assert_eq!(rt;
+            made_by(alloc, job_of(alloc, line)?)?.as_str(),
+            want,
+            "at {line:?}"
+        );
+    }
+    Ok(())
+}
+
+/// What a job says beside its names: its budget, whether all is kept, and whether patterns are RLE.
+fn choices_of(job: Job) -> (Option<u32>, bool, bool) {
+    match job {
+        Job::Search {
+            budget,
+            keep_all,
+            rle,
+            ..
+        } => (Some(budget), keep_all, rle),
+        Job::Sat {
+            budget,
+            keep_all,
+            ..
+        } => (Some(budget), keep_all, false),
+        Job::Judge { rle, .. } => (None, false, rle),
+        _ => (None, false, false),
+    }
+}
+
+#[test]
+fn choices_of_a_search(rt: HostRuntime) -> Result<(), Fail> {
+    let alloc = rt.alloc();
+    let rows = [
+        ("search f p", (Some(100_000), false, false)),
+        (
+            "search --as=rle f --budget 00000000000010000000 p --keep all",
+            (Some(10_000_000), true, true),
+        ),
+        ("sat f p", (Some(100_000), false, false)),
+        ("sat --keep=half f p --budget 0", (Some(0), false, false)),
+        ("judge f f --as rle", (None, false, true)),
+        ("judge f f --as rows", (None, false, false)),
+        ("check f f", (None, false, false)),
+        ("lrat f f", (None, false, false)),
+    ];
+    for (line, want) in rows {
+        assert!(rt; choices_of(job_of(alloc, line)?) == want, "at {line:?}");
+    }
+    Ok(())
+}
+
+/// The form of a job's formula, where it has one.
+fn form_of(job: Job) -> Option<Form> {
+    match job {
+        Job::Check { form, .. } => Some(form),
+        Job::Search { form, .. } => Some(form),
+        Job::Cnf { form, .. } => Some(form),
+        _ => None,
+    }
+}
+
+#[test]
+fn forms_of_formulas(rt: HostRuntime) -> Result<(), Fail> {
+    let alloc = rt.alloc();
+    let rows = [
+        ("check f p", Some(Form::Cover)),
+        ("check f p --formula 1", Some(Form::Rows)),
+        ("check --formula=2 f p", Some(Form::Cover)),
+        ("search f p", Some(Form::Cover)),
+        (
+            "search --as rle f --formula=1 p --keep all",
+            Some(Form::Rows),
+        ),
+        ("cnf f", Some(Form::Cover)),
+        ("cnf --formula 1 f", Some(Form::Rows)),
+        ("judge f p", None),
+        ("make 1 8 f p", None),
+    ];
+    for (line, want) in rows {
+        assert!(rt; form_of(job_of(alloc, line)?) == want, "at {line:?}");
+    }
+    Ok(())
+}
+
+/// The rule and the demands of a job that has some.
+fn problem_of(job: Job) -> Result<(Rule, Demands), Fail> {
+    match job {
+        Job::Check { rule, demands, .. } => Ok((rule, demands)),
+        Job::Search { rule, demands, .. } => Ok((rule, demands)),
+        Job::Judge { rule, demands, .. } => Ok((rule, demands)),
+        Job::Cnf { rule, demands, .. } => Ok((rule, demands)),
+        _ => Err(Fail::from("a job with demands")),
+    }
+}
+
+#[test]
+fn demands_of_a_problem(rt: HostRuntime) -> Result<(), Fail> {
+    let alloc = rt.alloc();
+    let rows = [
+        "judge f --symmetry D2/ --period 07,-64,064 p --live 0:1-,063:-08192 --differ=63,0",
+        "check --live=000:0001-,63:0-8192 --differ 63,0 f --period=7,-64,64 --symmetry D2/ p",
+        "cnf --symmetry D2/ --differ 063,00 --live 0:1-,63:-8192 --period 7,-64,64 f",
+    ];
+    let period = Period {
+        length: 7,
+        dx: -64,
+        dy: 64,
+    };
+    let bounds = [
+        Bound {
+            generation: 0,
+            low: 1,
+            high: None,
+        },
+        Bound {
+            generation: 63,
+            low: 0,
+            high: Some(8192),
+        },
+    ];
+    for line in rows {
+        let (_, demands) = problem_of(job_of(alloc, line)?)?;
+        assert_eq!(rt; demands.symmetry, Symmetry::D2Up, "at {line:?}");
+        assert_eq!(rt; demands.period, Some(period), "at {line:?}");
+        assert!(rt; demands.bounds.items() == bounds.as_slice(), "at {line:?}");
+        assert_eq!(rt; demands.differ, Some((63, 0)), "at {line:?}");
+    }
+    Ok(())
+}
+
+/// Whether a rule answers as `B3/S23` around a dead centre and a live one, each with one neighbour fewer and one more too.
+fn counts_as_life(rule: &Rule) -> bool {
+    let dead = !rule.next(0b000_000_011) && rule.next(0b001_001_001) && !rule.next(0b101_000_101);
+    let live = !rule.next(0b000_010_001)
+        && rule.next(0b100_010_001)
+        && rule.next(0b101_010_001)
+        && !rule.next(0b101_010_101);
+    dead && live
+}
+
+#[test]
+fn a_problem_without_options_is_of_life(rt: HostRuntime) -> Result<(), Fail> {
+    let alloc = rt.alloc();
+    for line in ["check f p", "search f p", "judge f p", "cnf f"] {
+        let (rule, demands) = problem_of(job_of(alloc, line)?)?;
+        assert!(rt; counts_as_life(&rule), "at {line:?}");
+        assert_eq!(rt; demands.edge, Edge::Framed, "at {line:?}");
+        assert_eq!(rt; demands.symmetry, Symmetry::C1, "at {line:?}");
+        assert_eq!(rt; demands.period, None, "at {line:?}");
+        assert!(rt; demands.bounds.items().is_empty(), "at {line:?}");
+        assert_eq!(rt; demands.differ, None, "at {line:?}");
+    }
+    Ok(())
+}
