@@ -13,6 +13,7 @@ use lls_lit::Lit;
 use lls_prooflog::{Log, print_log};
 use lls_store::{MOST_CLAUSES, ScanStore, Store, Trail};
 use std::alloc::Global;
+use std::process::Abort;
 use std::test::Fail;
 
 const VARS: u32 = 7;
@@ -142,6 +143,29 @@ fn learn<S: Store>(
     Ok(analyser.learn(store, trail, conflict, u64::from(count) + 1, log))
 }
 
+// The clauses, with 1 and 4 decided.
+fn fill_and_decide<S: Store>(store: &mut S, trail: &mut Trail) -> Result<(), Fail>
+    requires vars { trail.old.vars ≡ VARS }
+    requires tracked { S.tracks store.old trail.old }
+    requires sound { IsSound (S.state store.old).live trail.old }
+    requires at_rest { IsAtRest (S.state store.old) }
+    ensures vars { trail.new.vars ≡ VARS }
+    ensures tracked { S.tracks store.new trail.new }
+    ensures sound { IsSound (S.state store.new).live trail.new }
+    ensures at_rest { IsAtRest (S.state store.new) }
+{
+    fill(store, trail)?;
+    decide(store, trail, 1)?;
+    decide(store, trail, 4)
+}
+
+fn assert_learnt(rt: &impl Abort, alloc: Global, learnt: Learnt, log: &Log) -> Result<(), Fail> {
+    assert_eq!(rt; learnt, Learnt { clause: 6, back: 1 });
+    let steps = print_log(alloc, log)?;
+    assert_eq!(rt; steps.as_slice(), b"7 -5 -2 0 1 3 5 6 0\n".as_slice());
+    Ok(())
+}
+
 // Back from the last clause -6 gives way, which brings -2; then -5 alone is of the current level. The others imply -7 by the
 // first clause, and -3 by the third, so -5 -2 is left. Its hints are those of 7, 3 and 6, and then the last clause.
 #[test]
@@ -150,12 +174,7 @@ fn a_conflict_is_learnt_as_worked(rt: HostRuntime) -> Result<(), Fail> {
     let mut trail = Trail::new(rt.alloc(), VARS)?;
     let mut analyser = Analyser::new(rt.alloc(), VARS)?;
     let mut log = Log::new(rt.alloc());
-    fill(&mut store, &trail)?;
-    decide(&mut store, &mut trail, 1)?;
-    decide(&mut store, &mut trail, 4)?;
+    fill_and_decide(&mut store, &mut trail)?;
     let learnt = learn(&mut store, &mut trail, &mut analyser, &mut log)?;
-    assert_eq!(rt; learnt, Learnt { clause: 6, back: 1 });
-    let steps = print_log(rt.alloc(), &log)?;
-    assert_eq!(rt; steps.as_slice(), b"7 -5 -2 0 1 3 5 6 0\n".as_slice());
-    Ok(())
+    assert_learnt(&rt, rt.alloc(), learnt, &log)
 }

@@ -6,7 +6,7 @@ ghost use Rattle.lls_store.specs.Sound.{IsSound};
 ghost use Rattle.lls_store.specs.Store.{IsLearnt};
 ghost use Rattle.lls_store.specs.Worked.{IsAtRest};
 
-use crate::store_trail::{Shown, VARS, shown};
+use crate::store_trail::{VARS, shown};
 use lls_lit::Lit;
 use lls_store::{MOST_CLAUSES, ScanStore, Store, Trail};
 use std::alloc::Global;
@@ -27,7 +27,8 @@ struct Row {
     step: Step,
     // The number of the new clause, or of the false one.
     answer: Option<u32>,
-    entries: &'static [Shown],
+    // The trail, as `shown` says it.
+    entries: &'static str,
 }
 
 const ROWS: [Row; 17] = [
@@ -35,126 +36,90 @@ const ROWS: [Row; 17] = [
     Row {
         step: Step::Add(&[5, 5]),
         answer: Some(0),
-        entries: &[],
+        entries: "",
     },
     Row {
         step: Step::Add(&[-1, 2]),
         answer: Some(1),
-        entries: &[],
+        entries: "",
     },
     Row {
         step: Step::Add(&[-2, -4, 3]),
         answer: Some(2),
-        entries: &[],
+        entries: "",
     },
     Row {
         step: Step::Add(&[-3, -2, -5]),
         answer: Some(3),
-        entries: &[],
+        entries: "",
     },
     Row {
         step: Step::Propagate,
         answer: None,
-        entries: &[(5, Some(0), Some(0))],
+        entries: " 5/0/0",
     },
     Row {
         step: Step::Decide(4),
         answer: None,
-        entries: &[(5, Some(0), Some(0)), (4, Some(1), None)],
+        entries: " 5/0/0 4/1/-",
     },
     Row {
         step: Step::Propagate,
         answer: None,
-        entries: &[(5, Some(0), Some(0)), (4, Some(1), None)],
+        entries: " 5/0/0 4/1/-",
     },
     Row {
         step: Step::Decide(1),
         answer: None,
-        entries: &[
-            (5, Some(0), Some(0)),
-            (4, Some(1), None),
-            (1, Some(2), None),
-        ],
+        entries: " 5/0/0 4/1/- 1/2/-",
     },
     // 2 follows by the second clause, 3 by the third, and the fourth is false.
     Row {
         step: Step::Propagate,
         answer: Some(3),
-        entries: &[
-            (5, Some(0), Some(0)),
-            (4, Some(1), None),
-            (1, Some(2), None),
-            (2, Some(2), Some(1)),
-            (3, Some(2), Some(2)),
-        ],
+        entries: " 5/0/0 4/1/- 1/2/- 2/2/1 3/2/2",
     },
     Row {
         step: Step::Learn(-2, -4, -5),
         answer: Some(4),
-        entries: &[
-            (5, Some(0), Some(0)),
-            (4, Some(1), None),
-            (1, Some(2), None),
-            (2, Some(2), Some(1)),
-            (3, Some(2), Some(2)),
-        ],
+        entries: " 5/0/0 4/1/- 1/2/- 2/2/1 3/2/2",
     },
     Row {
         step: Step::BackTo(1),
         answer: None,
-        entries: &[(5, Some(0), Some(0)), (4, Some(1), None)],
+        entries: " 5/0/0 4/1/-",
     },
     // The learnt clause forces -2, and then the second clause -1.
     Row {
         step: Step::Propagate,
         answer: None,
-        entries: &[
-            (5, Some(0), Some(0)),
-            (4, Some(1), None),
-            (-2, Some(1), Some(4)),
-            (-1, Some(1), Some(1)),
-        ],
+        entries: " 5/0/0 4/1/- -2/1/4 -1/1/1",
     },
     Row {
         step: Step::BackTo(0),
         answer: None,
-        entries: &[(5, Some(0), Some(0))],
+        entries: " 5/0/0",
     },
     Row {
         step: Step::Add(&[-5, 4]),
         answer: Some(5),
-        entries: &[(5, Some(0), Some(0))],
+        entries: " 5/0/0",
     },
     Row {
         step: Step::Propagate,
         answer: None,
-        entries: &[
-            (5, Some(0), Some(0)),
-            (4, Some(0), Some(5)),
-            (-2, Some(0), Some(4)),
-            (-1, Some(0), Some(1)),
-        ],
+        entries: " 5/0/0 4/0/5 -2/0/4 -1/0/1",
     },
     Row {
         step: Step::Add(&[]),
         answer: Some(6),
-        entries: &[
-            (5, Some(0), Some(0)),
-            (4, Some(0), Some(5)),
-            (-2, Some(0), Some(4)),
-            (-1, Some(0), Some(1)),
-        ],
+        entries: " 5/0/0 4/0/5 -2/0/4 -1/0/1",
     },
     // The empty clause is false.
     Row {
         step: Step::Propagate,
         answer: Some(6),
-        entries: &[
-            (5, Some(0), Some(0)),
-            (4, Some(0), Some(5)),
-            (-2, Some(0), Some(4)),
-            (-1, Some(0), Some(1)),
-        ],
+        entries: " 5/0/0 4/0/5 -2/0/4 -1/0/1",
     },
 ];
 
@@ -372,7 +337,7 @@ fn assert_row(
     requires { trail.now.vars ≡ VARS }
 {
     let entries = shown(alloc, trail)?;
-    assert_eq!(rt; (answer, entries.as_slice()), (row.answer, row.entries));
+    assert_eq!(rt; (answer, entries.as_str()), (row.answer, row.entries));
     Ok(())
 }
 

@@ -3,7 +3,7 @@ ghost use Rattle.std.specs.Prelude.{◌≡◌};
 
 use lls_lit::{Lit, Var};
 use lls_store::Trail;
-use std::alloc::Global;
+use std::alloc::{AllocError, Global};
 use std::process::Abort;
 use std::test::Fail;
 
@@ -18,89 +18,64 @@ enum Change {
     Cut(u32),
 }
 
-// A literal, its level and its reason.
-pub(crate) type Shown = (i32, Option<u32>, Option<u32>);
-
 struct Row {
     change: Change,
     current: u32,
-    entries: &'static [Shown],
+    // The trail, as `shown` says it.
+    entries: &'static str,
 }
 
 const ROWS: [Row; 10] = [
     Row {
         change: Change::Force(-5, 7),
         current: 0,
-        entries: &[(-5, Some(0), Some(7))],
+        entries: " -5/0/7",
     },
     Row {
         change: Change::Decide(4),
         current: 1,
-        entries: &[(-5, Some(0), Some(7)), (4, Some(1), None)],
+        entries: " -5/0/7 4/1/-",
     },
     Row {
         change: Change::Decide(-1),
         current: 2,
-        entries: &[
-            (-5, Some(0), Some(7)),
-            (4, Some(1), None),
-            (-1, Some(2), None),
-        ],
+        entries: " -5/0/7 4/1/- -1/2/-",
     },
     Row {
         change: Change::Force(2, 0),
         current: 2,
-        entries: &[
-            (-5, Some(0), Some(7)),
-            (4, Some(1), None),
-            (-1, Some(2), None),
-            (2, Some(2), Some(0)),
-        ],
+        entries: " -5/0/7 4/1/- -1/2/- 2/2/0",
     },
     Row {
         change: Change::SetReason(2, 9),
         current: 2,
-        entries: &[
-            (-5, Some(0), Some(7)),
-            (4, Some(1), None),
-            (-1, Some(2), None),
-            (2, Some(2), Some(9)),
-        ],
+        entries: " -5/0/7 4/1/- -1/2/- 2/2/9",
     },
     // The current level is the level that is cut to.
     Row {
         change: Change::Cut(2),
         current: 2,
-        entries: &[
-            (-5, Some(0), Some(7)),
-            (4, Some(1), None),
-            (-1, Some(2), None),
-            (2, Some(2), Some(9)),
-        ],
+        entries: " -5/0/7 4/1/- -1/2/- 2/2/9",
     },
     Row {
         change: Change::Cut(1),
         current: 1,
-        entries: &[(-5, Some(0), Some(7)), (4, Some(1), None)],
+        entries: " -5/0/7 4/1/-",
     },
     Row {
         change: Change::Force(-2, 3),
         current: 1,
-        entries: &[
-            (-5, Some(0), Some(7)),
-            (4, Some(1), None),
-            (-2, Some(1), Some(3)),
-        ],
+        entries: " -5/0/7 4/1/- -2/1/3",
     },
     Row {
         change: Change::Cut(0),
         current: 0,
-        entries: &[(-5, Some(0), Some(7))],
+        entries: " -5/0/7",
     },
     Row {
         change: Change::Decide(2),
         current: 1,
-        entries: &[(-5, Some(0), Some(7)), (2, Some(1), None)],
+        entries: " -5/0/7 2/1/-",
     },
 ];
 
@@ -141,42 +116,54 @@ fn changed(trail: &mut Trail, change: Change) -> Result<(), Fail>
     Ok(())
 }
 
-// The entries, as the trail tells them.
-pub(crate) fn shown(alloc: Global, trail: &Trail) -> Result<Vec<Shown>, Fail>
+fn push_number(text: &mut String, number: Option<u32>) -> Result<(), AllocError> {
+    match number {
+        Some(number) => write!(text, "/{number}"),
+        None => text.push_str("/-"),
+    }
+}
+
+// The entries in their order, each as a blank, the literal, its level and its reason, with strokes between them.
+pub(crate) fn shown(alloc: Global, trail: &Trail) -> Result<String, Fail>
     requires { trail.now.vars ≡ VARS }
 {
-    let mut entries = Vec::new(alloc);
+    let mut text = String::new(alloc);
     for k in 0..trail.len() {
         let lit = trail.lit(k);
         if !lit.is_of(VARS) {
             return Err(Fail::from("a literal of the trail's variables"));
         }
-        entries.push((
-            lit.number(),
-            trail.level(lit.var()),
-            trail.reason(lit.var()),
-        ))?;
+        write!(text, " {}", lit.number())?;
+        push_number(&mut text, trail.level(lit.var()))?;
+        push_number(&mut text, trail.reason(lit.var()))?;
     }
-    Ok(entries)
+    Ok(text)
 }
 
-// Whether exactly the literals among these are true, in their places, and exactly their negations false.
-fn assert_values(rt: &impl Abort, trail: &Trail, entries: &[Shown]) -> Result<(), Fail>
+// The numbers of the literals in their order.
+fn literals_of(alloc: Global, trail: &Trail) -> Result<Vec<i32>, Fail> {
+    let mut numbers = Vec::new(alloc);
+    for k in 0..trail.len() {
+        numbers.push(trail.lit(k).number())?;
+    }
+    Ok(numbers)
+}
+
+// Whether exactly these literals are true, in their places, and exactly their negations false.
+fn assert_values(rt: &impl Abort, trail: &Trail, lits: &[i32]) -> Result<(), Fail>
     requires { trail.now.vars ≡ VARS }
 {
     for n in 1..VARS as i32 + 1 {
         let lit = Lit::from_number(n).ok_or("a literal")?;
         if lit.is_of(VARS) {
-            let is_true = entries.iter().any(|entry| entry.0 == n);
-            let is_false = entries.iter().any(|entry| entry.0 == -n);
+            let is_true = lits.contains(&n);
+            let is_false = lits.contains(&-n);
             let expected = if is_true || is_false {
                 Some(is_true)
             } else {
                 None
             };
-            let place = entries
-                .iter()
-                .position(|entry| entry.0 == n || entry.0 == -n);
+            let place = lits.iter().position(|other| *other == n || *other == -n);
             let found = (
                 trail.value(lit),
                 trail.value(lit.negated()),
@@ -193,10 +180,12 @@ fn assert_row(rt: &impl Abort, alloc: Global, trail: &Trail, row: &Row) -> Resul
 {
     let entries = shown(alloc, trail)?;
     assert_eq!(rt;
-        (trail.current(), entries.as_slice()),
+        (trail.current(), entries.as_str()),
         (row.current, row.entries)
     );
-    assert_values(rt, trail, row.entries)
+    // So these are the row's.
+    let lits = literals_of(alloc, trail)?;
+    assert_values(rt, trail, &lits)
 }
 
 #[test]

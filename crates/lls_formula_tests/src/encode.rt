@@ -29,6 +29,19 @@ fn clauses(alloc: Global, formula: &Formula) -> Result<String, AllocError> {
     Ok(text)
 }
 
+// Whether the formula has so many variables and these clauses.
+fn assert_clauses(
+    rt: &impl Abort,
+    alloc: Global,
+    formula: &Formula,
+    vars: u32,
+    text: &str,
+) -> Result<(), Fail> {
+    let found = clauses(alloc, formula)?;
+    assert_eq!(rt; (formula.vars(), found.as_str()), (vars, text));
+    Ok(())
+}
+
 // The formula of a search file under a rule and demands.
 fn encoded(
     alloc: Global,
@@ -114,9 +127,7 @@ fn formulas_of_search_files(rt: HostRuntime) -> Result<(), Fail> {
     ];
     for (file, rule, edge, vars, text) in rows {
         let formula = encoded(alloc, file, rule, Demands::new(alloc, edge), Form::Rows)?;
-        let found = clauses(alloc, &formula)?;
-        assert_eq!(rt; formula.vars(), vars);
-        assert_eq!(rt; found.as_str(), text);
+        assert_clauses(&rt, alloc, &formula, vars, text)?;
     }
     Ok(())
 }
@@ -152,9 +163,7 @@ fn formulas_by_cover(rt: HostRuntime) -> Result<(), Fail> {
         let mut demands = Demands::new(alloc, Edge::Framed);
         demands.differ = differ;
         let formula = encoded(alloc, file, rule, demands, Form::Cover)?;
-        let found = clauses(alloc, &formula)?;
-        assert_eq!(rt; formula.vars(), vars);
-        assert_eq!(rt; found.as_str(), text);
+        assert_clauses(&rt, alloc, &formula, vars, text)?;
     }
     Ok(())
 }
@@ -337,9 +346,7 @@ fn formulas_of_demands(rt: HostRuntime) -> Result<(), Fail> {
     for (file, rule, edge, symmetry, period, differ, vars, text) in rows {
         let demands = demanded(&rt, alloc, edge, symmetry, period, differ);
         let formula = encoded(alloc, file, rule, demands, Form::Rows)?;
-        let found = clauses(alloc, &formula)?;
-        assert_eq!(rt; formula.vars(), vars);
-        assert_eq!(rt; found.as_str(), text);
+        assert_clauses(&rt, alloc, &formula, vars, text)?;
     }
     Ok(())
 }
@@ -427,9 +434,7 @@ fn formulas_of_bounds(rt: HostRuntime) -> Result<(), Fail> {
         let mut demands = bounded(alloc, Edge::Bare, first, second)?;
         demands.differ = differ;
         let formula = encoded(alloc, file, one_born, demands, Form::Rows)?;
-        let found = clauses(alloc, &formula)?;
-        assert_eq!(rt; formula.vars(), vars);
-        assert_eq!(rt; found.as_str(), text);
+        assert_clauses(&rt, alloc, &formula, vars, text)?;
     }
     Ok(())
 }

@@ -1,6 +1,8 @@
 // Worked rows: texts with their canonical forms and faults, classes with their sizes, published rules.
 use lls_hensel::{Class, PrintRuleError, RuleError, class_of, print_rule, read_rule};
 use lls_rule::Rule;
+use std::alloc::Global;
+use std::process::Abort;
 
 #[test]
 fn texts_are_read_and_printed(rt: HostRuntime) {
@@ -132,6 +134,16 @@ fn nine_of(eight: u8, centre: bool) -> u16 {
     before * 32 + u16::from(centre) * 16 + behind
 }
 
+// Whether the text is that of a rule, under which a place lives with these eight exactly where its centre is so.
+fn assert_class(rt: &impl Abort, alloc: Global, eight: u8, centre: bool, text: &str) {
+    let rule = read_rule(text.as_bytes()).expect(rt, text);
+    let printed = print_rule(alloc, &rule).expect(rt, text);
+    assert!(rt; printed.as_slice() == text.as_bytes(), "{text}");
+    let (same, other) = (nine_of(eight, centre), nine_of(eight, !centre));
+    assert!(rt; same < Rule::NEIGHBOURHOODS && other < Rule::NEIGHBOURHOODS);
+    assert!(rt; rule.next(same) && !rule.next(other), "{text} {eight}");
+}
+
 #[test]
 fn each_class_is_printed_and_read(rt: HostRuntime) {
     for eight in 0..=255 {
@@ -148,12 +160,7 @@ fn each_class_is_printed_and_read(rt: HostRuntime) {
                 format!(in rt.alloc(); "B{count}{letters}/S")
             };
             let text = text.expect(&rt, "memory");
-            let rule = read_rule(text.as_bytes()).expect(&rt, &text);
-            let printed = print_rule(rt.alloc(), &rule).expect(&rt, &text);
-            assert!(rt; printed.as_slice() == text.as_bytes(), "{text}");
-            let (same, other) = (nine_of(eight, survival), nine_of(eight, !survival));
-            assert!(rt; same < Rule::NEIGHBOURHOODS && other < Rule::NEIGHBOURHOODS);
-            assert!(rt; rule.next(same) && !rule.next(other), "{text} {eight}");
+            assert_class(&rt, rt.alloc(), eight, survival, &text);
         }
     }
 }

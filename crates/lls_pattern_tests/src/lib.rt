@@ -4,30 +4,21 @@
 
 #[cfg(test)]
 mod grid;
-
 #[cfg(test)]
 mod hensel;
-
 #[cfg(test)]
 mod making;
-
 #[cfg(test)]
 mod problem;
-
 #[cfg(test)]
 mod problem_plane;
-
 #[cfg(test)]
 mod rle;
-
 #[cfg(test)]
 mod rule;
-
 #[cfg(test)]
 mod search_file;
-
 #[cfg(test)]
 mod symmetry;
-
 #[cfg(test)]
 mod words;

@@ -127,9 +127,8 @@ fn cells_and_names(rt: HostRuntime) -> Result<(), Fail> {
     assert_eq!(rt; posed.cells.items(), cells.as_slice());
     let names = posed.names.items();
     assert_eq!(rt; names.len(), 3);
-    assert_eq!(rt; names[0].text(), "b1");
-    assert_eq!(rt; names[1].text(), "a");
-    assert_eq!(rt; names[2].text(), "Z9");
+    let texts = (names[0].text(), names[1].text(), names[2].text());
+    assert_eq!(rt; texts, ("b1", "a", "Z9"));
     Ok(())
 }
 
@@ -227,10 +226,10 @@ fn faults_by_their_texts(rt: HostRuntime) -> Result<(), Fail> {
         (PosedError::Memory, "Memory", false),
     ];
     for (fault, text, limit) in rows {
-        assert_eq!(rt; format!(in alloc; "{fault}")?.as_str(), text);
         let inner = HistoryError::Text(fault);
-        assert_eq!(rt; format!(in alloc; "{inner}")?.as_str(), text);
-        assert_eq!(rt; fault.is_limit(), limit);
+        let (outer, inner) = (format!(in alloc; "{fault}")?, format!(in alloc; "{inner}")?);
+        let found = (outer.as_str(), inner.as_str(), fault.is_limit());
+        assert_eq!(rt; found, (text, text, limit));
     }
     let place = HistoryError::NotPlain(1, 2, 3);
     assert_eq!(rt; format!(in alloc; "{place}")?.as_str(), "NotPlain 1 2 3");

@@ -2,6 +2,7 @@
 use lls_symmetry::{
     Moved, Pair, Spot, Symmetry, fits, generators, image, moved_pairs, pairs, read_symmetry,
 };
+use std::process::Abort;
 use std::test::Fail;
 
 #[test]
@@ -143,22 +144,22 @@ fn moved(t: u32, y: i32, x: i32, to_t: u32, to_y: i32, to_x: i32) -> Moved {
     }
 }
 
+fn assert_moves(rt: &impl Abort, found: &[Moved], expected: &[Moved]) {
+    assert_eq!(rt; found, expected);
+}
+
 #[test]
 fn pairs_of_moves(rt: HostRuntime) -> Result<(), Fail> {
     let alloc = rt.alloc();
-    let still = moved_pairs(alloc, 2, 1, 1, 1, 0, 0)?;
-    assert_eq!(rt; still.as_slice(), [moved(0, 0, 0, 1, 0, 0)].as_slice());
-
-    let right = moved_pairs(alloc, 2, 1, 2, 1, 1, 0)?;
-    let rows = [
+    let still = [moved(0, 0, 0, 1, 0, 0)];
+    assert_moves(&rt, &moved_pairs(alloc, 2, 1, 1, 1, 0, 0)?, &still);
+    let right = [
         moved(0, 0, 0, 1, 0, 1),
         moved(0, 0, 1, 1, 0, 2),
         moved(0, 0, -1, 1, 0, 0),
     ];
-    assert_eq!(rt; right.as_slice(), rows.as_slice());
-
-    let up = moved_pairs(alloc, 3, 2, 1, 1, 0, -1)?;
-    let rows = [
+    assert_moves(&rt, &moved_pairs(alloc, 2, 1, 2, 1, 1, 0)?, &right);
+    let up = [
         moved(0, 0, 0, 1, -1, 0),
         moved(0, 1, 0, 1, 0, 0),
         moved(0, 2, 0, 1, 1, 0),
@@ -166,12 +167,9 @@ fn pairs_of_moves(rt: HostRuntime) -> Result<(), Fail> {
         moved(1, 1, 0, 2, 0, 0),
         moved(1, 2, 0, 2, 1, 0),
     ];
-    assert_eq!(rt; up.as_slice(), rows.as_slice());
-
-    let far = moved_pairs(alloc, 3, 1, 1, 2, 64, -64)?;
-    let rows = [moved(0, 0, 0, 2, -64, 64), moved(0, 64, -64, 2, 0, 0)];
-    assert_eq!(rt; far.as_slice(), rows.as_slice());
-
-    assert_eq!(rt; moved_pairs(alloc, 2, 1, 1, 2, 0, 0)?.len(), 0);
+    assert_moves(&rt, &moved_pairs(alloc, 3, 2, 1, 1, 0, -1)?, &up);
+    let far = [moved(0, 0, 0, 2, -64, 64), moved(0, 64, -64, 2, 0, 0)];
+    assert_moves(&rt, &moved_pairs(alloc, 3, 1, 1, 2, 64, -64)?, &far);
+    assert_moves(&rt, &moved_pairs(alloc, 2, 1, 1, 2, 0, 0)?, &[]);
     Ok(())
 }

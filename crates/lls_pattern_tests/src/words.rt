@@ -219,9 +219,8 @@ fn options_and_operands_stand_in_any_order(rt: HostRuntime) -> Result<(), Fail> 
         else {
             return Err(Fail::from("a check"));
         };
-        assert_eq!(rt; search.text(), "f", "at {line:?}");
-        assert_eq!(rt; proof.text(), "p", "at {line:?}");
-        assert_eq!(rt; demands.edge, want, "at {line:?}");
+        let found = (line, search.text(), proof.text(), demands.edge);
+        assert_eq!(rt; found, (line, "f", "p", want));
     }
     Ok(())
 }
@@ -384,10 +383,9 @@ fn demands_of_a_problem(rt: HostRuntime) -> Result<(), Fail> {
     ];
     for line in rows {
         let (_, demands) = problem_of(job_of(alloc, line)?)?;
-        assert_eq!(rt; demands.symmetry, Symmetry::D2Up, "at {line:?}");
-        assert_eq!(rt; demands.period, Some(period), "at {line:?}");
+        let found = (line, demands.symmetry, demands.period, demands.differ);
+        assert_eq!(rt; found, (line, Symmetry::D2Up, Some(period), Some((63, 0))));
         assert!(rt; demands.bounds.items() == bounds.as_slice(), "at {line:?}");
-        assert_eq!(rt; demands.differ, Some((63, 0)), "at {line:?}");
     }
     Ok(())
 }
@@ -407,12 +405,10 @@ fn a_problem_without_options_is_of_life(rt: HostRuntime) -> Result<(), Fail> {
     let alloc = rt.alloc();
     for line in ["check f p", "search f p", "judge f p", "cnf f"] {
         let (rule, demands) = problem_of(job_of(alloc, line)?)?;
-        assert!(rt; counts_as_life(&rule), "at {line:?}");
-        assert_eq!(rt; demands.edge, Edge::Framed, "at {line:?}");
-        assert_eq!(rt; demands.symmetry, Symmetry::C1, "at {line:?}");
-        assert_eq!(rt; demands.period, None, "at {line:?}");
+        let found = (counts_as_life(&rule), demands.edge, demands.symmetry);
+        assert_eq!(rt; (line, found), (line, (true, Edge::Framed, Symmetry::C1)));
+        assert_eq!(rt; (line, demands.period, demands.differ), (line, None, None));
         assert!(rt; demands.bounds.items().is_empty(), "at {line:?}");
-        assert_eq!(rt; demands.differ, None, "at {line:?}");
     }
     Ok(())
 }

@@ -2,7 +2,7 @@
 ghost use Rattle.std.specs.Prelude.{IsTrue};
 ghost use Rattle.lls_problem.specs.Solution.{IsFramed};
 
-use super::{bound, bounded, clauses, has_ends};
+use super::{assert_clauses, bound, bounded, has_ends};
 use lls_cnf::Formula;
 use lls_encode::{inputs, push_after, push_before};
 use lls_problem::{Demands, Edge, Problem, make_problem};
@@ -10,6 +10,7 @@ use lls_rule::Rule;
 use lls_search_file::read_posed;
 use lls_transition::Place;
 use std::alloc::Global;
+use std::process::Abort;
 use std::test::Fail;
 
 // The clauses before the transitions and those behind them, over so many variables.
@@ -24,16 +25,22 @@ fn around(alloc: Global, problem: &Problem, vars: u32) -> Result<Formula, Fail> 
     Ok(formula)
 }
 
-#[test]
-fn parts_stand_behind_other_variables(rt: HostRuntime) -> Result<(), Fail> {
-    let alloc = rt.alloc();
+// A problem with names, a bound, and two generations that differ.
+fn worked(rt: &impl Abort, alloc: Global) -> Result<Problem, Fail> {
     let one_born = Rule::from_counts(0b0_0000_0010, 0);
     let one = bound(1, 1, Some(1));
     let none = bound(0, 0, None);
     assert!(rt; has_ends(one) && has_ends(none));
     let mut demands = bounded(alloc, Edge::Framed, one, none)?;
     demands.differ = Some((0, 1));
-    let problem = make_problem(read_posed(alloc, b"a -a\n\n* *")?, one_born, demands)?;
+    let posed = read_posed(alloc, b"a -a\n\n* *")?;
+    Ok(make_problem(posed, one_born, demands)?)
+}
+
+#[test]
+fn parts_stand_behind_other_variables(rt: HostRuntime) -> Result<(), Fail> {
+    let alloc = rt.alloc();
+    let problem = worked(&rt, alloc)?;
     // A counter of the cells 3 and 4 has two variables for each, and each pair of cells one for that they differ.
     let rows = [
         (
@@ -49,9 +56,7 @@ fn parts_stand_behind_other_variables(rt: HostRuntime) -> Result<(), Fail> {
     ];
     for (vars, all, text) in rows {
         let formula = around(alloc, &problem, vars)?;
-        let found = clauses(alloc, &formula)?;
-        assert_eq!(rt; formula.vars(), all);
-        assert_eq!(rt; found.as_str(), text);
+        assert_clauses(&rt, alloc, &formula, all, text)?;
     }
     Ok(())
 }
