@@ -1,5 +1,5 @@
 -- What a failure of the outside leaves of the files that a run writes.
-use Rattle.std.proofs.Common.{◌≡◌, length, Option, None, Some, Result, Ok, Err, ap, sym, subst, ◌∙◌, inl, inr, arith, ◌⊎◌}
+use Rattle.std.proofs.Common.{◌≡◌, length, Option, None, Some, Result, Ok, Err, ap, sym, subst, ◌∙◌, inl, inr, arith}
 use Rattle.std.specs.FinMap as map
 use Rattle.std.specs.Option.{option_map}
 use Rattle.std.proofs.lemmas.List.{take_all}

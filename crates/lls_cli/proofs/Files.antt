@@ -15,7 +15,7 @@ use Rattle.lls_cli.specs.declared.status.Status.{Status}
 use Rattle.lls_cli.specs.declared.status.Status.TheVariants as statuses
 use Rattle.lls_cli.specs.Question.{Question, Effort, asked_with, checks, refutes, judges, searches, decides, encodes, prints, makes, effort_of, default_effort, problem_in, formula_in, pattern_in, Asks}
 use Rattle.lls_cli.specs.Evidence.{NamedFile, HasProof, HasSpentLog}
-use Rattle.lls_cli.specs.Answer.{GivenAnswer, Answers, Holds, found, undecided}
+use Rattle.lls_cli.specs.Answer.{GivenAnswer, Answers, Holds}
 use Rattle.lls_cli.specs.Moment.{ShelfMoment, Moment, files_at}
 use Rattle.lls_cli.specs.Ends.{WroteFile, LeavesPart, End, refused, lacked, input_failed, ahead_failed, answered, file_failed, output_failed, IsEndBehind, Ends, ahead_of, IsEnd}
 use Rattle.lls_cli.specs.Claims.{OfQuestion, IsAnswered, log_at, search_file_at, outputs_of, outputs_of_words, ChangesOnly, OfFile, Leaves}

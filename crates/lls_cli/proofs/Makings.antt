@@ -1,5 +1,5 @@
 -- What the search of a made problem comes to is a right answer.
-use Rattle.std.proofs.Common.{◌≡◌, ◌≤◌, ℕ, List, length, sym, ap, subst, ◌∙◌}
+use Rattle.std.proofs.Common.{◌≡◌, ℕ, List, length, sym, ap, subst, ◌∙◌}
 use Rattle.std.specs.Prelude.{codes}
 use Rattle.lls_lit.specs.Formula.{Cnf}
 use Rattle.lls_problem.specs.Solution.{IsSolution}

@@ -1,5 +1,5 @@
 -- A made problem: the search file that it is written to, and what is said of the search for its solution.
-use Rattle.std.specs.Prelude.{ℕ, ◌*◌, ◌+◌, ◌++◌, Bool, true, false, List, codes, count_by, decimal, length, take}
+use Rattle.std.specs.Prelude.{ℕ, ◌*◌, ◌++◌, Bool, true, false, List, codes, count_by, decimal, length, take}
 use Rattle.lls_lit.specs.Formula.{Cnf}
 use Rattle.lls_grid.specs.Changes.{population}
 use Rattle.lls_search_file.specs.declared.cell.Kind.{Kind}

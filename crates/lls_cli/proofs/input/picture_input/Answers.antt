@@ -1,4 +1,4 @@
-use Rattle.std.proofs.Common.{◌≡◌, ◌≤◌, ◌*◌, arith}
+use Rattle.std.proofs.Common.{◌≤◌, ◌*◌, arith}
 use Rattle.lls_grid.specs.declared.history.TheConstants.History.{MOST_CELLS}
 use Rattle.lls_rle.proofs.GridSizes.{has_grid}
 use Rattle.lls_cli.proofs.input.picture_input.Goals as goal
