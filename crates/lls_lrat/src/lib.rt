@@ -19,4 +19,3 @@ pub use checker::{Checker, Progress};
 pub use error::CheckError;
 pub use log::check;
 pub use refusal::Refusal;
-
