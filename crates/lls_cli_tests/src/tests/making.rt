@@ -107,7 +107,7 @@ fn failures_of_a_making(rt: HostRuntime) -> Result<(), Fail> {
 }
 
 const UNDECIDED: &str =
-    "size 14\nknown 165\nlive 102 57\nvariables 392\nclauses 77225\nanswer undecided\n";
+    "size 15\nknown 193\nlive 112 61\nvariables 450\nclauses 90338\nanswer undecided\n";
 
 /// Answers the making of a problem with a search that learns one clause, which doesn't suffice.
 fn undecided(alloc: Global, failing: Failing) -> Result<Ended, Fail> {
@@ -115,8 +115,8 @@ fn undecided(alloc: Global, failing: Failing) -> Result<Ended, Fail> {
     let mut out = MemSink::new(alloc, vec![in alloc; failing.out]?, 3);
     let mut err = MemSink::new(alloc, vec![in alloc; failing.err]?, 1000);
     let question = Question::Make {
-        seed: 2,
-        size: 14,
+        seed: 4,
+        size: 15,
         search: Name::new(String::from_str(alloc, "s")?),
         effort: Effort {
             budget: 1,
@@ -142,7 +142,7 @@ fn failures_behind_a_making(rt: HostRuntime) -> Result<(), Fail> {
     assert_eq!(rt; whole.out.bytes(), UNDECIDED.as_bytes());
     let file = whole.shelf.file("s").unwrap_or(b"");
     let log = whole.shelf.file("q").unwrap_or(b"");
-    assert!(rt; file.len() == 2 * 14 * 28 + 1 && !log.is_empty());
+    assert!(rt; file.len() == 2 * 15 * 30 + 1 && !log.is_empty());
     let rows: [(Failing, &str, Option<usize>, &str); 3] = [
         (
             Failing {
