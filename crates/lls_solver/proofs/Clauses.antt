@@ -1,5 +1,5 @@
 -- A store's clauses and those of a proof, one by one.
-use Rattle.std.proofs.Common.{◌≡◌, ℕ, zero, suc, ◌+◌, ◌<◌, ◌≤◌, List, [], ◌∷◌, ◌++◌, length, map, get_or, take, Some, refl, sym, ap, subst, ◌∙◌, arith}
+use Rattle.std.proofs.Common.{◌≡◌, ℕ, zero, suc, ◌+◌, ◌<◌, ◌≤◌, List, [], ◌∷◌, ◌++◌, length, length-append, map, get_or, take, Some, refl, sym, ap, subst, ◌∙◌, arith}
 use Rattle.std.specs.Prelude.{ℤ, IsSome, slice_get}
 use Rattle.std.specs.List.{enumerate_from}
 use Rattle.std.specs.FinSet as set
@@ -47,6 +47,14 @@ ascending_push : (least : ℕ) (ids : List ℕ) (bound : ℕ) → AreAscending l
 ascending_push least [] bound h = (h, omega arith)
 ascending_push least (id ∷ ids) bound h = (h.0, ascending_push (id + 1) ids bound h.1)
 
+ascending_many : (least : ℕ) (ids : List ℕ) (bound : ℕ) → AreAscending least ids bound → least + length ids ≤ bound
+ascending_many least [] bound h = omega (arith, h)
+ascending_many least (id ∷ ids) bound h = omega (arith, h.0, ascending_many (id + 1) ids bound h.1)
+
+-- no more numbers were given than ids
+pub count_most : (store : StoreState) (vars : ℕ) (pairs : Live) (last : ℕ) → HoldsClauses store vars pairs last → store.count ≤ last
+count_most store vars pairs last h = omega (arith, h.count, length-map pairs (λ (pair : ℕ × Clause). pair.0), ascending_many 1 (ids_of pairs) (last + 1) h.ids)
+
 -- behind the last id that was given, the next one is new
 pub next_id : (store : StoreState) (vars : ℕ) (pairs : Live) (last : ℕ) → HoldsClauses store vars pairs last → last + 1 ≤ MOST_ID → IsNewId store.live (last + 1)
 next_id store vars pairs last h most = record {
@@ -63,13 +71,14 @@ next_id store vars pairs last h most = record {
 pub holds_push : (store : StoreState) (vars : ℕ) (pairs : Live) (last : ℕ) (lits : List ℤ) → HoldsClauses store vars pairs last → HoldsClauses (with_clause store (last + 1) lits) vars (pairs ++ (last + 1, lits) ∷ []) (last + 1)
 holds_push store vars pairs last lits h = record {
   store_vars = h.store_vars;
+  no_tail = h.no_tail;
   spelled = spells_push store.live pairs store.count (last + 1) lits h.spelled;
-  count = omega (arith, h.count);
+  count = omega (arith, h.count, length-append pairs ((last + 1, lits) ∷ []));
   ids = rw (map-append (λ (pair : ℕ × Clause). pair.0) pairs ((last + 1, lits) ∷ [])) (ascending_push 1 (ids_of pairs) (last + 1) h.ids);
 }
 
 pub holds_none : (vars : ℕ) → HoldsClauses (empty_store vars) vars [] 0
-holds_none vars = record { store_vars = refl; spelled = tt; count = omega arith; ids = omega arith }
+holds_none vars = record { store_vars = refl; no_tail = refl; spelled = tt; count = omega arith; ids = omega arith }
 
 -- the first clauses under their ids
 pub take-numbered : (clauses : List Clause) (n k : ℕ) (clause : Clause) → slice_get clauses k ≡ Some clause → take (k + 1) (enumerate_from n clauses) ≡ take k (enumerate_from n clauses) ++ (n + k, clause) ∷ []
@@ -91,7 +100,7 @@ sound_empty live vars (x ∷ before) after e reason splits is = absurd cc
 pub holds_sealed : (store : StoreState) (vars : ℕ) (pairs : Live) (last : ℕ) (lits : List ℤ) → HoldsClauses store vars pairs last → HoldsClauses (sealed (record store { tail = lits }) (last + 1)) vars (pairs ++ (last + 1, lits) ∷ []) (last + 1)
 holds_sealed store vars pairs last lits h =
     let more = holds_push store vars pairs last lits h in
-    record { store_vars = more.store_vars; spelled = more.spelled; count = more.count; ids = more.ids }
+    record { store_vars = more.store_vars; no_tail = refl; spelled = more.spelled; count = more.count; ids = more.ids }
 
 -- the id behind the formula's clauses and the additions is new
 pub fresh_id : (formula : Cnf) (steps : List Step) (store : StoreState) (m k : ℕ) → HoldsClauses store formula.vars (live_after formula steps) (length formula.clauses + additions steps) → m ≡ length formula.clauses → k ≡ additions steps → m + k + 1 ≤ MOST_ID → IsNewId store.live (m + k + 1)

@@ -4,7 +4,7 @@ use Rattle.std.specs.Prelude.{ℤ, All, Contains, IsSome, max, nat_le, option_ma
 use Rattle.std.specs.Option.{unwrap_or}
 use Rattle.std.specs.Ordering.{ord_max, nat_cmp}
 use Rattle.std.proofs.lemmas.Bool.Decides.{nat_tests, eqb_tells}
-use Rattle.std.proofs.lemmas.List.Sums.{take_while-cons}
+use Rattle.std.proofs.lemmas.List.Sums.{count_by-le-length, take_while-cons}
 use Rattle.std.proofs.lemmas.List.Elements.{All-contains_itself, Contains-push_cases, Contains-append_left, Contains-append_right}
 use Rattle.std.proofs.lemmas.Bool.{cases_lt}
 use Rattle.lls_lit.specs.Literal.{variable_of, negation}
@@ -112,6 +112,10 @@ highest_next t lits l highest next h is = record { bound = bound; reached = reac
         let old = h.reached (omega (arith, same, some)) in
         subst (IsOfLevel t (lits ++ l ∷ [])) same (record { literal = old.literal; contained = Contains-append_left lits (l ∷ []) old.literal old.contained; of_level = old.of_level })
   ]
+
+-- no more levels begin than there are variables
+pub current_most : (t : TrailState) → IsTrail t → t.current ≤ t.vars
+current_most t h = omega (arith, h.current, h.most, count_by-le-length is_decision t.entries)
 
 pub worth_most : (t : TrailState) (v : ℕ) → IsTrail t → unwrap_or (level_of t.entries v) 0 ≤ t.current
 worth_most t v h = at (level_of t.entries v) refl where

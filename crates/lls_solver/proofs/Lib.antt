@@ -8,3 +8,5 @@ pub mod Logs
 pub mod LearntClauses
 pub mod Below
 mod Start
+mod Forgotten
+mod Marks

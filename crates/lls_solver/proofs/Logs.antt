@@ -27,7 +27,7 @@ fold-push f s (y ∷ ys) x = fold-push f (f s y) ys x
 pub live_after-push : (formula : Cnf) (steps : List Step) (step : Step) → live_after formula (steps ++ step ∷ []) ≡ after (live_after formula steps) step
 live_after-push formula steps step = ap (λ (state : LogState). state.live) (fold-push log_after (log_start formula) steps step)
 
-each_push : (P : LogState → Step → Type 0) (state : LogState) (steps : List Step) (step : Step) → EachStep P state steps → P (fold log_after state steps) step → EachStep P state (steps ++ step ∷ [])
+pub each_push : (P : LogState → Step → Type 0) (state : LogState) (steps : List Step) (step : Step) → EachStep P state steps → P (fold log_after state steps) step → EachStep P state (steps ++ step ∷ [])
 each_push P state [] step each last = (last, tt)
 each_push P state (s ∷ steps) step each last = (each.0, each_push P (log_after state s) steps step each.1 last)
 
@@ -41,7 +41,7 @@ one_more step = sum_by-cons (λ s. cond (is_addition s) 1 0) step [] ∙ omega a
 pub additions-push : (steps : List Step) (id : ℕ) (lits hints : List ℤ) → additions (steps ++ Add id lits hints ∷ []) ≡ additions steps + 1
 additions-push steps id lits hints = sum_by-append (λ s. cond (is_addition s) 1 0) steps (Add id lits hints ∷ []) ∙ ap (λ n. additions steps + n) (one_more (Add id lits hints))
 
-additions-cons : (step : Step) (steps : List Step) → additions (step ∷ steps) ≡ cond (is_addition step) 1 0 + additions steps
+pub additions-cons : (step : Step) (steps : List Step) → additions (step ∷ steps) ≡ cond (is_addition step) 1 0 + additions steps
 additions-cons step steps = sum_by-cons (λ s. cond (is_addition s) 1 0) step steps
 
 pub numbered_push : (n : ℕ) (steps : List Step) (id : ℕ) (lits hints : List ℤ) → AreNumberedFrom n steps → n + additions steps ≡ id → AreNumberedFrom n (steps ++ Add id lits hints ∷ [])
@@ -148,24 +148,40 @@ kept_front : (n : ℕ) (front : Live) (ids : List ℕ) (added : Live) → AreUpT
 kept_front n [] ids added up_to behind all = refl
 kept_front n (pair ∷ pairs) ids added up_to behind all = rw (unnamed n ids added pair behind all up_to.0, kept_front n pairs ids added up_to.1 behind all) refl
 
--- deletions of additions alone leave in front what was live at first
+-- deletions of additions alone leave in front what was live at first, and the additions that are live behind it
 live_front : (n : ℕ) (front : Live) → AreUpTo n front → (state : LogState) (steps : List Step) (next : ℕ) → n < next → AreNumberedFrom next steps → EachStep IsLateDeletion state steps
-    → ((id : ℕ) → is_some (find_clause state.added id) ≡ true → n < id) → (before : Live) → state.live ≡ front ++ before → (more : Live) × ((fold log_after state steps).live ≡ front ++ more)
-live_front n front up_to state [] next lt numbers late behind before is = (before, is)
-live_front n front up_to state (Add id lits hints ∷ steps) next lt numbers late behind before is =
+    → ((id : ℕ) → is_some (find_clause state.added id) ≡ true → n < id) → state.live ≡ front ++ state.added → (fold log_after state steps).live ≡ front ++ (fold log_after state steps).added
+live_front n front up_to state [] next lt numbers late behind is = is
+live_front n front up_to state (Add id lits hints ∷ steps) next lt numbers late behind is =
     live_front n front up_to (log_after state (Add id lits hints)) steps (next + 1) (omega (arith, lt)) numbers.1 late.1
     (λ other found. elim (found_push state.added id lits other found) [ inl earlier ↦ behind other earlier | inr same ↦ omega (arith, same, numbers.0, lt) ])
-    (before ++ (id, lits) ∷ []) (ap (λ (live : Live). live ++ (id, lits) ∷ []) is ∙ append_assoc front before ((id, lits) ∷ []))
-live_front n front up_to state (Del ids ∷ steps) next lt numbers late behind before is =
+    (ap (λ (live : Live). live ++ (id, lits) ∷ []) is ∙ append_assoc front state.added ((id, lits) ∷ []))
+live_front n front up_to state (Del ids ∷ steps) next lt numbers late behind is =
     live_front n front up_to (log_after state (Del ids)) steps next lt numbers late.1 (λ other found. behind other (found_left (is_unnamed ids) state.added other found))
-    (filter (is_unnamed ids) before) (ap (filter (is_unnamed ids)) is ∙ filter-append (is_unnamed ids) front before ∙ ap (λ (live : Live). live ++ filter (is_unnamed ids) before) (kept_front n front ids state.added up_to behind late.0.added_alone))
+    (ap (filter (is_unnamed ids)) is ∙ filter-append (is_unnamed ids) front state.added ∙ ap (λ (live : Live). live ++ filter (is_unnamed ids) state.added) (kept_front n front ids state.added up_to behind late.0.added_alone))
+
+-- so what is live behind a good log is the formula's clauses and then the additions that are
+pub live_parts : (formula : Cnf) (steps : List Step) → IsGoodLog formula steps → live_after formula steps ≡ numbered formula.clauses ++ (fold log_after (log_start formula) steps).added
+live_parts formula steps log =
+    let n = length formula.clauses in
+    live_front n (numbered formula.clauses) (numbered_up_to n 1 formula.clauses (omega arith)) (log_start formula) steps (n + 1) (omega arith) log.numbered_on log.deletions (λ id found. absurd cc) (sym (append-nil (numbered formula.clauses)))
+
+-- behind ids up to a number a greater one is found
+found_behind : (n : ℕ) (front added : Live) (id : ℕ) → AreUpTo n front → n < id → is_some (find_clause (front ++ added) id) ≡ true → is_some (find_clause added id) ≡ true
+found_behind n [] added id up_to lt found = found
+found_behind n (pair ∷ pairs) added id up_to lt found =
+    found_behind n pairs added id up_to.1 lt (subst (λ b. is_some (cond b (Some pair.1) (find_clause (pairs ++ added) id)) ≡ true) (differs pair.0 id (λ same. omega (arith, same, up_to.0, lt))) found)
+
+-- a live clause with an id above those of the formula's was added
+pub found_added : (formula : Cnf) (steps : List Step) (id : ℕ) → IsGoodLog formula steps → length formula.clauses < id → is_some (find_clause (live_after formula steps) id) ≡ true → is_some (find_clause (fold log_after (log_start formula) steps).added id) ≡ true
+found_added formula steps id log lt found =
+    let n = length formula.clauses in
+    found_behind n (numbered formula.clauses) (fold log_after (log_start formula) steps).added id (numbered_up_to n 1 formula.clauses (omega arith)) lt (subst (λ (ps : Live). is_some (find_clause ps id) ≡ true) (live_parts formula steps log) found)
 
 -- a store of the clauses that are live after a good log has those of the formula
 pub holds_formula : (formula : Cnf) (steps : List Step) (store : StoreState) (last : ℕ) → HoldsClauses store formula.vars (live_after formula steps) last → IsGoodLog formula steps → HoldsFormula formula store
 holds_formula formula steps store last h log =
-    let n = length formula.clauses in
-    let front = live_front n (numbered formula.clauses) (numbered_up_to n 1 formula.clauses (omega arith)) (log_start formula) steps (n + 1) (omega arith) log.numbered_on log.deletions (λ id found. absurd cc) [] (sym (append-nil (numbered formula.clauses))) in
-    record { store_vars = h.store_vars; more = front.0; spelled = subst (Spells store.live) front.1 h.spelled }
+    record { store_vars = h.store_vars; more = (fold log_after (log_start formula) steps).added; spelled = subst (Spells store.live) (live_parts formula steps log) h.spelled }
 
 -- where some further clause can be learnt, propagation alone doesn't refute
 unrefuted_further : (vars : ℕ) (live : Live) → SomeCanBeLearnt vars live → IsUnrefuted live

@@ -23,11 +23,12 @@ abbrev pub AreAscending : ℕ → List ℕ → ℕ → Type 0
 AreAscending least [] bound = least ≤ bound
 AreAscending least (id ∷ ids) bound = (least ≤ id) × AreAscending (id + 1) ids bound
 
--- a store of these clauses, under ids that ascend from 1 to the last that was given; of the numbers no more were given
+-- a store of these clauses alone, under ids that ascend from 1 to the last that was given
 pub record HoldsClauses (store : StoreState) (vars : ℕ) (pairs : Live) (last : ℕ) : Type 0 where
   pub store_vars : store.vars ≡ vars
+  pub no_tail : store.tail ≡ []
   pub spelled : Spells store.live pairs
-  pub count : store.count ≤ last
+  pub count : store.count ≡ length pairs
   pub ids : AreAscending 1 (ids_of pairs) (last + 1)
 
 -- the ids of the additions run upwards from a number, whatever is deleted between

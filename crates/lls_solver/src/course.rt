@@ -1,5 +1,5 @@
 // What is decided next, and what is undone.
-ghost use Rattle.std.specs.Prelude.{◌≡◌, ◌<◌, ◌≤◌, length, true, false, IfOk, IfSome, IfNone, IsSome, IsTrue, nat_lt};
+ghost use Rattle.std.specs.Prelude.{◌≡◌, ◌<◌, ◌≤◌, [], length, true, false, IfOk, IfSome, IfNone, IsSome, IsTrue, nat_lt};
 ghost use Rattle.std.specs.Option.{option_map_or};
 ghost use Rattle.lls_lit.specs.Literal.{variable_of};
 ghost use Rattle.lls_lit.specs.Formula.{is_within};
@@ -8,7 +8,7 @@ ghost use Rattle.lls_store.specs.Closed.{IsClosed};
 ghost use Rattle.lls_store.specs.Sound.{IsSound};
 ghost use Rattle.lls_store.specs.Store.{IsConflict};
 ghost use Rattle.lls_store.specs.Changes.{cut_to, empty_trail};
-ghost use Rattle.lls_order.specs.Changes.{put_in};
+ghost use Rattle.lls_store.specs.Removal.{compacted, renamed};
 ghost use Rattle.lls_order.specs.Order.{is_in};
 ghost use Rattle.lls_solver.specs.Course.{IsDecision, IsNext, IsOnCourse, AreWaiting, AllSet};
 
@@ -89,15 +89,44 @@ impl Course {
         Some(self.trail.current())
     }
 
-    /// Raises the activities of these literals' variables, and what is raised from now on more.
+    /// Has the variables of these literals be decided before all others, the last of them first, but for those of level 0.
     pub(crate) fn bump(&mut self, lits: &[Lit])
         requires { is_within self.old.vars lits.now ≡ true }
         ensures { self.new ≡ self.old }
     {
         for lit in lits {
-            self.order.bump(lit.var());
+            if self.trail.level(lit.var()).unwrap_or(0) > 0 {
+                self.order.bump(lit.var());
+            }
         }
-        self.order.grow();
+    }
+
+    /// Goes back to where the next variable would be decided otherwise than it was: the levels stay whose decisions would be the
+    /// same once more (van der Tak, Ramos, Heule, *Reusing the Assignment Trail in CDCL Solvers*, 2011).
+    pub(crate) fn restart<S: Store>(&mut self, store: &mut S)
+        requires tracked { S.tracks store.old self.old }
+        requires on_course { IsOnCourse (S.state store.old) self.old }
+        ensures state { S.state store.new ≡ S.state store.old }
+        ensures tracked { S.tracks store.new self.new }
+        ensures on_course { IsOnCourse (S.state store.new) self.new }
+    {
+        let level = levels_to_keep(&mut self.order, &self.trail);
+        self.go_back(store, level);
+    }
+
+    /// Numbers the clauses that are live anew.
+    pub(crate) fn compact<S: Store>(&mut self, store: &mut S)
+        requires tail { (S.state store.old).tail ≡ [] }
+        requires tracked { S.tracks store.old self.old }
+        requires sound { IsSound (S.state store.old).live self.old }
+        ensures state { S.state store.new ≡ compacted (S.state store.old) }
+        ensures renamed { self.new ≡ renamed (S.state store.old).live self.old }
+        ensures tracked { S.tracks store.new self.new }
+        ensures sound { IsSound (S.state store.new).live self.new }
+    {
+        store.compact(&mut self.trail);
+        // What holds of every trail is known from here on.
+        self.trail.current();
     }
 
     /// Goes back to a level.
@@ -156,6 +185,7 @@ fn next_without_value(order: &mut Order, trail: &Trail) -> Option<Var>
     ensures vars { order.new.vars ≡ order.old.vars }
     ensures some { IfSome result (IsNext order.old.vars trail.now.entries order.new) }
     ensures none { IfNone result (AllSet order.old.vars trail.now.entries) }
+    ensures none_waiting { IfNone result (AreWaiting trail.now.entries order.new) }
 {
     while let Some(var) = order.pop_greatest() {
         match trail.value(Lit::new(var, true)) {
@@ -164,4 +194,40 @@ fn next_without_value(order: &mut Order, trail: &Trail) -> Option<Var>
         }
     }
     None
+}
+
+// How many levels a restart leaves.
+fn levels_to_keep(order: &mut Order, trail: &Trail) -> u32
+    requires vars { trail.now.vars ≡ order.old.vars }
+    requires waiting { AreWaiting trail.now.entries order.old }
+    ensures vars { order.new.vars ≡ order.old.vars }
+    ensures waiting { AreWaiting trail.now.entries order.new }
+    ensures most { result ≤ trail.now.current }
+{
+    match next_without_value(order, trail) {
+        Some(next) => {
+            order.put_back(next);
+            levels_before(order, trail, next)
+        }
+        None => trail.current(),
+    }
+}
+
+// How many levels begin with a decision that comes before a variable, from the first on.
+fn levels_before(order: &Order, trail: &Trail, var: Var) -> u32
+    requires vars { trail.now.vars ≡ order.now.vars }
+    requires within { var ≤ order.now.vars }
+    ensures { result ≤ trail.now.current }
+{
+    let mut levels = 0;
+    for k in 0..trail.len() {
+        let decided = trail.lit(k).var();
+        if trail.known_reason(decided).is_none() {
+            if !order.comes_before(decided, var) {
+                return levels;
+            }
+            levels += 1;
+        }
+    }
+    levels
 }

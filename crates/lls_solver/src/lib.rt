@@ -3,10 +3,15 @@
 
 mod conflict;
 mod course;
+mod deletion;
 mod descent;
+mod glue;
 mod learning;
 mod loading;
+mod mean;
 mod outcome;
+mod policy;
+mod restarts;
 mod searcher;
 mod solving;
 mod values;

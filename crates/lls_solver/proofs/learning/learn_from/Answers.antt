@@ -14,7 +14,7 @@ use Rattle.lls_store.proofs.Sets.{is_within-from_AreWithin}
 use Rattle.lls_solver.specs.Searching.{additions, HoldsClauses, IsGoodLog, KeepsAll}
 use Rattle.lls_solver.proofs.Kept.{sound_kept, sound_moved, closed_below_kept, closed_below_moved}
 use Rattle.lls_solver.proofs.Below.{closed_below_learnt}
-use Rattle.lls_solver.proofs.Clauses.{fresh_id, sealed_live}
+use Rattle.lls_solver.proofs.Clauses.{count_most, fresh_id, sealed_live}
 use Rattle.lls_solver.proofs.Logs.{additions-push, good_push, holds_learnt, kept_push}
 use Rattle.lls_solver.proofs.LearntClauses.{back_most, adds_learnt}
 use Rattle.lls_solver.proofs.learning.learn_from.Goals as goal
@@ -35,7 +35,7 @@ learn-learnt-requires-clause-id g c =
 pub learn-learnt-requires-clause-most : goal.learn-learnt-requires-clause-most
 learn-learnt-requires-clause-most g c =
     let same = ap (λ (s : StoreState). s.count) c.in_ok-reserve_conflict.ensures.state in
-    omega (arith, same, c.requires.searching.holds.count, c.len.ensures.len, c.len.ensures.most, c.requires.few)
+    omega (arith, same, count_most (g.S.Store.state c.args.store.now) c.args.formula.now.vars (live_after c.args.formula.now c.args.log.now.steps) (length c.args.formula.now.clauses + additions c.args.log.now.steps) c.requires.searching.holds, c.len.ensures.len, c.len.ensures.most, c.requires.few)
 
 pub returns-clause-additions : goal.returns-clause-additions
 returns-clause-additions g c =

@@ -4,7 +4,7 @@ use Rattle.lls_store.specs.Trail.{TrailState}
 use Rattle.lls_store.specs.Store.{StoreState, IsNewId}
 use Rattle.lls_analyse.specs.Spelled.{Spells}
 use Rattle.lls_solver.proofs.Kept.{sound_kept, sound_moved, closed_below_kept, closed_below_moved}
-use Rattle.lls_solver.proofs.Clauses.{fresh_id}
+use Rattle.lls_solver.proofs.Clauses.{count_most, fresh_id}
 use Rattle.lls_solver.proofs.LearntClauses.{adds_learnt, further_learnt}
 use Rattle.lls_solver.proofs.learning.learn_further.Goals as goal
 
@@ -23,7 +23,7 @@ pub learn-requires-clause-most : goal.learn-requires-clause-most
 learn-requires-clause-most g c =
     let h = c.requires.searching in
     let same = ap (λ (s : StoreState). s.count) c.in_ok-reserve_conflict.ensures.state in
-    omega (arith, same, h.holds.count, c.len.ensures.len, c.len.ensures.most, c.requires.few)
+    omega (arith, same, count_most (g.S.Store.state c.args.store.now) c.args.formula.now.vars (live_after c.args.formula.now c.args.log.now.steps) (length c.args.formula.now.clauses + additions c.args.log.now.steps) h.holds, c.len.ensures.len, c.len.ensures.most, c.requires.few)
 
 pub returns-clause-further : goal.returns-clause-further
 returns-clause-further g c =

@@ -1,0 +1,7 @@
+-- For private contracts alone: what is seen of a policy.
+use Rattle.std.specs.Prelude.{ℕ}
+
+-- for so many levels of a trail, with level 0, and for so many numbers of clauses
+pub record PolicyState : Type 0 where
+  pub levels : ℕ
+  pub clauses : ℕ

@@ -1,0 +1,116 @@
+// What a search goes by where its contracts leave it free: when it restarts, when it forgets clauses, and which.
+ghost use Rattle.std.specs.Prelude.{◌≡◌, ◌≤◌, ◌<◌, ◌+◌, All, IfOk, OnErr, OnOk, true, length};
+ghost use Rattle.lls_lit.specs.Formula.{is_within};
+
+use crate::glue::LevelStamps;
+use crate::restarts::Restarts;
+use lls_base::Memory;
+use lls_lit::{Lit, Var};
+use lls_store::Trail;
+use std::alloc::Global;
+use std::marker::Model;
+
+/// So many learnt clauses are live at the least where the first half of them is forgotten.
+const FIRST_ROUND: u64 = 64;
+
+/// So many more at each round after that.
+const MORE_EACH_ROUND: u64 = 512;
+
+/// Seen as the number of variables, and the number of clauses of which it knows whether conflicts came by them.
+#[derive(Debug, Drop)]
+pub(crate) struct Policy {
+    levels: LevelStamps,
+    restarts: Restarts,
+    /// By number, whether a conflict came by the clause since the last round.
+    used: Vec<bool>,
+    rounds: u32,
+}
+
+impl Model for Policy {
+    ghost use Rattle.std.specs.Prelude.{◌≡◌, ◌-◌, ◌≤◌, length};
+    ghost use Rattle.lls_solver.specs.Policy.{PolicyState};
+
+    ghost Value = { PolicyState };
+
+    ghost view = { λ p. record { levels = length p.levels.stamps.items; clauses = length p.used.items } };
+}
+
+impl Policy {
+    /// For so many variables and clauses, none of which was used.
+    pub(crate) fn new(alloc: Global, vars: u32, clauses: usize) -> Result<Policy, Memory>
+        requires { vars ≤ Var.MOST }
+        ensures { IfOk result (λ policy. policy ≡ record { levels = vars + 1; clauses = clauses }) }
+    {
+        let levels = LevelStamps::new(alloc, vars)?;
+        let used = vec![in alloc; false; clauses]?;
+        Ok(Policy {
+            levels,
+            restarts: Restarts::new(),
+            used,
+            rounds: 0,
+        })
+    }
+
+    /// Knows of the clause of the next number, which is used.
+    pub(crate) fn add_clause(&mut self) -> Result<(), Memory>
+        ensures ok { OnOk result (self.new ≡ record self.old { clauses = self.old.clauses + 1 }) }
+        ensures err { OnErr result (self.new ≡ self.old) }
+    {
+        self.used.push(true)
+    }
+
+    /// A clause of these literals was learnt from a conflict that was resolved with the clauses of these numbers.
+    pub(crate) fn learn(&mut self, trail: &Trail, lits: &[Lit], resolved: &[u32])
+        requires levels { self.old.levels ≡ trail.now.vars + 1 }
+        requires within { is_within trail.now.vars lits.now ≡ true }
+        requires resolved { All (λ c. c < self.old.clauses) resolved.now }
+        ensures { self.new ≡ self.old }
+    {
+        mark_used(&mut self.used, resolved);
+        self.restarts.learn(self.levels.glue(trail, lits));
+    }
+
+    /// Whether the search should restart.
+    pub(crate) fn wants_restart(&self) -> bool {
+        self.restarts.is_due()
+    }
+
+    /// The search restarts.
+    pub(crate) fn restart(&mut self)
+        ensures { self.new ≡ self.old }
+    {
+        self.restarts.begin();
+    }
+
+    /// Whether the search should forget the half of so many learnt clauses.
+    pub(crate) fn wants_round(&self, learnt: u64) -> bool {
+        learnt >= FIRST_ROUND + MORE_EACH_ROUND * u64::from(self.rounds)
+    }
+
+    /// Whether a conflict came by the clause of each number since the last round.
+    pub(crate) fn used(&self) -> &[bool]
+        ensures { length result.now ≡ self.now.clauses }
+    {
+        self.used.as_slice()
+    }
+
+    /// A round ended, which left so many clauses.
+    pub(crate) fn end_round(&mut self, clauses: usize)
+        requires { clauses ≤ self.old.clauses }
+        ensures { self.new ≡ record self.old { clauses = clauses } }
+    {
+        self.used.truncate(clauses);
+        self.used.as_mut_slice().fill(false);
+        self.rounds = self.rounds.saturating_add(1);
+    }
+}
+
+// The clauses of these numbers are used.
+fn mark_used(used: &mut [bool], numbers: &[u32])
+    requires { All (λ c. c < length used.old) numbers.now }
+    ensures { length used.new ≡ length used.old }
+{
+    for c in numbers {
+        used[*c as usize] = true;
+    }
+}
