@@ -1,3 +1,4 @@
 pub mod Ranks
 pub mod Links
+pub mod Sorting
 pub mod LubyNumbers

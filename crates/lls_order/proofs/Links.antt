@@ -39,9 +39,9 @@ record IsLastBut (f : ℕ → ℕ) (vars v l : ℕ) : Type 0 where
   most : (x : ℕ) → x ≤ vars → x ≢ v → f x ≤ f l
 
 -- one number follows another in the ring
-record Follows (f : ℕ → ℕ) (vars v w : ℕ) : Type 0 where
-  fits : w ≤ vars
-  is : IsPrevious f vars w v
+pub record Follows (f : ℕ → ℕ) (vars v w : ℕ) : Type 0 where
+  pub fits : w ≤ vars
+  pub is : IsPrevious f vars w v
 
 module _ (f g : ℕ → ℕ) (vars v : ℕ) (distinct : AreDistinct f vars) (some : 0 < v) (v_in : v ≤ vars) (same : (x : ℕ) → x ≢ v → g x ≡ f x) (greatest : (x : ℕ) → x ≢ v → g x < g v) where
   is_last : IsPrevious g vars 0 v

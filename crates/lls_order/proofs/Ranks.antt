@@ -60,3 +60,7 @@ module _ (activities : List ℕ) (v activity : ℕ) (some : 0 < v) (within : v �
   rank_of-greatest greatest w other =
       let its : get_or (set activities (v - 1) activity) (v - 1) 0 ≡ activity = get_or-set_at activities (v - 1) (v - 1) activity 0 refl (omega arith) in
       omega (arith, rank_of-variable (set activities (v - 1) activity) v some, its, rank_of-greatest_among w other greatest)
+
+-- 0 has the least rank
+pub rank_of-none : (activities : List ℕ) (v : ℕ) → rank_of activities 0 ≤ rank_of activities v
+rank_of-none activities v = omega arith
