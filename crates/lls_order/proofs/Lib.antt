@@ -1,4 +1,5 @@
 pub mod Ranks
 pub mod Links
 pub mod Sorting
+pub mod Cursor
 pub mod LubyNumbers
