@@ -1,5 +1,6 @@
 -- Where the search for the first variable that is in begins.
-use Rattle.std.proofs.Common.{◌≡◌, ◌≢◌, ℕ, zero, suc, ◌+◌, ◌-◌, ◌<◌, ◌≤◌, Bool, true, false, List, length, get_or, set, refl, sym, ap, subst, ◌∙◌, inl, inr, arith}
+use Rattle.std.proofs.Common.{◌≡◌, ◌≢◌, ℕ, zero, suc, ◌+◌, ◌-◌, ◌<◌, ◌≤◌, Bool, true, false, List, length, get_or, set, Some, None, refl, sym, ap, subst, ◌∙◌, inl, inr, arith}
+use Rattle.std.specs.Prelude.{Option, SomeIff, IfSome}
 use Rattle.std.proofs.lemmas.Bool.{cases_lt, false≢true}
 use Rattle.std.proofs.lemmas.Bool.Decides.{eqb_tells}
 use Rattle.std.proofs.lemmas.List.{get_or_past, get_or-set_other, length-set}
@@ -146,3 +147,18 @@ module _ (vars : ℕ) (activities : List ℕ) (inside : List Bool) (top : ℕ) (
           h.none_before v v_in (omega (arith, rank_of-none activities v, ne))
     ]
   ]
+
+-- the same of equal lists
+pub IsCursor-at_lists : (vars : ℕ) (activities xs : List ℕ) (inside bs : List Bool) (cursor : ℕ) → length activities ≡ vars → xs ≡ activities → bs ≡ inside → IsCursor (rank_of xs) (length xs) bs cursor
+    → IsCursor (rank_of activities) vars inside cursor
+IsCursor-at_lists vars activities xs inside bs cursor each xs_is bs_is h =
+    subst (λ n. IsCursor (rank_of activities) n inside cursor) each (subst (λ ys. IsCursor (rank_of ys) (length ys) inside cursor) xs_is (subst (λ (cs : List Bool). IsCursor (rank_of xs) (length xs) cs cursor) bs_is h))
+
+-- an answer that is there exactly where it may be
+pub some_answer : (o : Option ℕ) (P : Type 0) (v : ℕ) (Q : ℕ → Type 0) → SomeIff o P v → ((w : ℕ) → w ≡ v → Q w) → IfSome o Q
+some_answer None P v Q h q = tt
+some_answer (Some x) P v Q h q = q x h.1
+
+pub is_there : (o : Option ℕ) (P : Type 0) (v : ℕ) → SomeIff o P v → P → o ≡ None → ⊥
+is_there None P v h p none = h p
+is_there (Some x) P v h p none = cc

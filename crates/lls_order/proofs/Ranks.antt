@@ -1,6 +1,8 @@
 -- Ranks of variables, and what they say.
-use Rattle.std.proofs.Common.{◌≡◌, ◌≢◌, ℕ, zero, suc, ◌+◌, ◌-◌, ◌*◌, ◌<◌, ◌≤◌, List, length, get_or, set, refl, sym, ap, ◌∙◌, ◌⊎◌, inl, inr, arith}
+use Rattle.std.proofs.Common.{◌≡◌, ◌≢◌, ℕ, zero, suc, true, ◌+◌, ◌-◌, ◌*◌, ◌<◌, ◌≤◌, List, length, get_or, set, refl, sym, ap, ◌∙◌, ◌⊎◌, inl, inr, arith}
+use Rattle.std.specs.Prelude.{◌↔◌, nat_lt}
 use Rattle.std.proofs.lemmas.Bool.{cases_lt}
+use Rattle.std.proofs.lemmas.Bool.Decides.{nat_tests}
 use Rattle.std.proofs.lemmas.List.{get_or-set_other}
 use Rattle.std.proofs.lemmas.Grind.{get_or-set_at}
 use Rattle.lls_lit.specs.declared.var.TheConstants.Var.{MOST}
@@ -64,3 +66,16 @@ module _ (activities : List ℕ) (v activity : ℕ) (some : 0 < v) (within : v �
 -- 0 has the least rank
 pub rank_of-none : (activities : List ℕ) (v : ℕ) → rank_of activities 0 ≤ rank_of activities v
 rank_of-none activities v = omega arith
+
+below_of : (a b : ℕ) → nat_lt a b ≡ true → a < b
+below_of a b is = grind (arith, nat_tests)
+
+is_below : (a b : ℕ) → a < b → nat_lt a b ≡ true
+is_below a b less = grind (arith, nat_tests)
+
+-- what the test of two ranks says
+pub compared : (activities : List ℕ) (v w : ℕ) → 0 < v → 0 < w → v ≤ MOST → w ≤ MOST
+    → (nat_lt (rank_of activities w) (rank_of activities v) ≡ true) ↔ ((get_or activities (w - 1) 0 < get_or activities (v - 1) 0) ⊎ ((get_or activities (w - 1) 0 ≡ get_or activities (v - 1) 0) × (v < w)))
+compared activities v w v_some w_some v_fits w_fits =
+    (λ is. from_rank activities v w v_some w_some v_fits w_fits (below_of (rank_of activities w) (rank_of activities v) is),
+     λ before. is_below (rank_of activities w) (rank_of activities v) (to_rank activities v w v_some w_some v_fits w_fits before))

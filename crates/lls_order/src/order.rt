@@ -51,13 +51,14 @@ impl Order {
         let inside = vec![in alloc; true; vars as usize]?;
         let previous = greater_numbers(alloc, vars)?;
         let next = lesser_numbers(alloc, vars)?;
+        let cursor = previous[0];
         Ok(Order {
             vars,
             activities,
             inside,
             previous,
             next,
-            cursor: u32::from(vars > 0),
+            cursor,
             top: 0,
         })
     }
