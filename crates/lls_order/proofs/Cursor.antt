@@ -1,12 +1,12 @@
 -- Where the search for the first variable that is in begins.
-use Rattle.std.proofs.Common.{◌≡◌, ◌≢◌, ℕ, zero, suc, ◌+◌, ◌-◌, ◌<◌, ◌≤◌, Bool, true, false, List, length, get_or, set, Some, None, refl, sym, ap, subst, ◌∙◌, inl, inr, arith}
+use Rattle.std.proofs.Common.{◌≡◌, ◌≢◌, ℕ, zero, suc, ◌-◌, ◌<◌, ◌≤◌, Bool, true, false, List, length, get_or, set, Some, None, refl, sym, ap, subst, ◌∙◌, inl, inr, arith}
 use Rattle.std.specs.Prelude.{Option, SomeIff, IfSome}
 use Rattle.std.proofs.lemmas.Bool.{cases_lt, false≢true}
 use Rattle.std.proofs.lemmas.Bool.Decides.{eqb_tells}
-use Rattle.std.proofs.lemmas.List.{get_or_past, get_or-set_other, length-set}
+use Rattle.std.proofs.lemmas.List.{get_or_past, get_or-set_other}
 use Rattle.std.proofs.lemmas.Grind.{get_or-set_at}
 use Rattle.lls_lit.specs.declared.var.TheConstants.Var.{MOST}
-use Rattle.lls_order.specs.Order.{ComesBefore, IsEmpty, IsGreatest, is_in}
+use Rattle.lls_order.specs.Order.{IsEmpty, IsGreatest, is_in}
 use Rattle.lls_order.specs.Queue.{IsCursor, IsPrevious, cursor_moved, order_in, rank_of, stands_in}
 use Rattle.lls_order.proofs.Links.{AreDistinct}
 use Rattle.lls_order.proofs.Ranks.{from_rank, rank_of-distinct, rank_of-none}
@@ -56,17 +56,12 @@ IsCursor-taken f vars inside cursor v some within h = record {
   ];
 }
 
--- a variable is put in: of it and the cursor the one of greater rank is the cursor
-pub IsCursor-put_before : (f : ℕ → ℕ) (vars : ℕ) (inside : List Bool) (cursor v : ℕ) → 0 < v → v ≤ vars → f cursor < f v → IsCursor f vars inside cursor → IsCursor f vars (set inside (v - 1) true) v
-IsCursor-put_before f vars inside cursor v some v_in more h = record {
-  fits = v_in;
-  none_before = λ x x_in less. stands_in-other inside v x true some (λ same. omega (arith, less, ap f same)) ∙ h.none_before x x_in (omega (arith, less, more));
-}
-
-pub IsCursor-put_behind : (f : ℕ → ℕ) (vars : ℕ) (inside : List Bool) (cursor v : ℕ) → 0 < v → f v ≤ f cursor → IsCursor f vars inside cursor → IsCursor f vars (set inside (v - 1) true) cursor
-IsCursor-put_behind f vars inside cursor v some le h = record {
-  fits = h.fits;
-  none_before = λ x x_in less. stands_in-other inside v x true some (λ same. omega (arith, less, le, ap f same)) ∙ h.none_before x x_in less;
+-- a variable is put in: the cursor isn't of less rank than it and the cursor before
+pub IsCursor-put : (f : ℕ → ℕ) (vars : ℕ) (inside : List Bool) (cursor v new : ℕ) → 0 < v → new ≤ vars → f v ≤ f new → f cursor ≤ f new → IsCursor f vars inside cursor
+    → IsCursor f vars (set inside (v - 1) true) new
+IsCursor-put f vars inside cursor v new some new_in its_le cursor_le h = record {
+  fits = new_in;
+  none_before = λ x x_in less. stands_in-other inside v x true some (λ same. omega (arith, less, its_le, ap f same)) ∙ h.none_before x x_in (omega (arith, less, cursor_le));
 }
 
 -- the last of the ring
@@ -148,7 +143,7 @@ module _ (vars : ℕ) (activities : List ℕ) (inside : List Bool) (top : ℕ) (
     ]
   ]
 
--- the same of equal lists
+-- the same with equal lists
 pub IsCursor-at_lists : (vars : ℕ) (activities xs : List ℕ) (inside bs : List Bool) (cursor : ℕ) → length activities ≡ vars → xs ≡ activities → bs ≡ inside → IsCursor (rank_of xs) (length xs) bs cursor
     → IsCursor (rank_of activities) vars inside cursor
 IsCursor-at_lists vars activities xs inside bs cursor each xs_is bs_is h =

@@ -1,10 +1,10 @@
 -- The links of a ring, as a variable becomes its last.
-use Rattle.std.proofs.Common.{◌≡◌, ◌≢◌, ℕ, ◌+◌, ◌<◌, ◌≤◌, List, length, get_or, set, refl, sym, ap, subst, ◌∙◌, inl, inr, arith}
+use Rattle.std.proofs.Common.{◌≡◌, ◌≢◌, ℕ, ◌<◌, ◌≤◌, List, get_or, set, sym, ap, subst, ◌∙◌, inl, inr, arith}
 use Rattle.std.proofs.lemmas.Bool.{cases_lt}
 use Rattle.std.proofs.lemmas.Bool.Decides.{eqb_tells}
 use Rattle.std.proofs.lemmas.List.{length-set, get_or-set_other}
 use Rattle.std.proofs.lemmas.Grind.{get_or-set_at}
-use Rattle.lls_order.specs.Queue.{AreLinks, IsPrevious, last_but, next_moved, previous_moved}
+use Rattle.lls_order.specs.Queue.{AreLinks, IsPrevious, next_moved, previous_moved}
 
 abbrev pub AreDistinct : (ℕ → ℕ) → ℕ → Type 0
 AreDistinct f vars = (x y : ℕ) → x ≤ vars → y ≤ vars → f x ≡ f y → x ≡ y

@@ -1,5 +1,5 @@
 -- What holds of the parts of an order, kept as it changes.
-use Rattle.std.proofs.Common.{◌≡◌, ◌≢◌, ℕ, zero, suc, ◌+◌, ◌-◌, ◌*◌, ◌/◌, ◌<◌, ◌≤◌, Bool, true, false, List, length, map, get_or, set, replicate, refl, sym, ap, subst, ◌∙◌, inl, inr, arith}
+use Rattle.std.proofs.Common.{◌≡◌, ℕ, zero, suc, ◌+◌, ◌-◌, ◌/◌, ◌<◌, ◌≤◌, Bool, true, false, List, length, map, get_or, set, replicate, refl, sym, ap, subst, ◌∙◌, inl, inr, arith}
 use Rattle.std.proofs.lemmas.List.{length-map, length-set, length-replicate, get_or-map, get_or_past, get_or-replicate, get_or-set_other, get_or-set_same}
 use Rattle.std.proofs.lemmas.Grind.{get_or-set_at}
 use Rattle.std.proofs.lemmas.Bool.{cases_lt}
@@ -9,7 +9,7 @@ use Rattle.lls_order.specs.declared.order.TheConstants.{MOST_ACTIVITY}
 use Rattle.lls_order.specs.Order.{OrderState, is_in}
 use Rattle.lls_order.specs.Changes.{put_in}
 use Rattle.lls_order.specs.Queue.{AreLinks, AreParts, IsCursor, IsPrevious, cursor_moved, rank_of}
-use Rattle.lls_order.proofs.Cursor.{IsCursor-last, IsCursor-moved, IsCursor-put_before, IsCursor-put_behind, IsCursor-taken}
+use Rattle.lls_order.proofs.Cursor.{IsCursor-last, IsCursor-moved}
 use Rattle.lls_order.proofs.Links.{AreDistinct}
 use Rattle.lls_order.proofs.Ranks.{rank_of-distinct, rank_of-greatest, rank_of-others, rank_of-variable}
 
@@ -107,17 +107,6 @@ AreParts-new vars activities inside previous next few is inside_each previous_ea
 module _ (vars : ℕ) (activities : List ℕ) (inside : List Bool) (previous next : List ℕ) (cursor top : ℕ) (h : AreParts vars activities inside previous next cursor top) where
   pub distinct_ranks : AreDistinct (rank_of activities) vars
   distinct_ranks x y x_in y_in same = rank_of-distinct activities x y (omega (arith, x_in, h.few)) (omega (arith, y_in, h.few)) same
-
-  pub AreParts-at : (other : ℕ) → IsCursor (rank_of activities) vars inside other → AreParts vars activities inside previous next other top
-  AreParts-at other is = record {
-    few = h.few;
-    activity_each = h.activity_each;
-    inside_each = h.inside_each;
-    links = h.links;
-    is_cursor = is;
-    activities_fit = h.activities_fit;
-    most = h.most;
-  }
 
   pub AreParts-with : (v : ℕ) (b : Bool) (other : ℕ) → IsCursor (rank_of activities) vars (set inside (v - 1) b) other → AreParts vars activities (set inside (v - 1) b) previous next other top
   AreParts-with v b other is = record {

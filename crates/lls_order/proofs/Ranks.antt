@@ -1,5 +1,5 @@
 -- Ranks of variables, and what they say.
-use Rattle.std.proofs.Common.{◌≡◌, ◌≢◌, ℕ, zero, suc, true, ◌+◌, ◌-◌, ◌*◌, ◌<◌, ◌≤◌, List, length, get_or, set, refl, sym, ap, ◌∙◌, ◌⊎◌, inl, inr, arith}
+use Rattle.std.proofs.Common.{◌≡◌, ◌≢◌, ℕ, zero, suc, true, ◌+◌, ◌-◌, ◌*◌, ◌<◌, ◌≤◌, List, length, get_or, set, refl, ap, ◌⊎◌, inl, inr, arith}
 use Rattle.std.specs.Prelude.{◌↔◌, nat_lt}
 use Rattle.std.proofs.lemmas.Bool.{cases_lt}
 use Rattle.std.proofs.lemmas.Bool.Decides.{nat_tests}
@@ -76,6 +76,7 @@ is_below a b less = grind (arith, nat_tests)
 -- what the test of two ranks says
 pub compared : (activities : List ℕ) (v w : ℕ) → 0 < v → 0 < w → v ≤ MOST → w ≤ MOST
     → (nat_lt (rank_of activities w) (rank_of activities v) ≡ true) ↔ ((get_or activities (w - 1) 0 < get_or activities (v - 1) 0) ⊎ ((get_or activities (w - 1) 0 ≡ get_or activities (v - 1) 0) × (v < w)))
-compared activities v w v_some w_some v_fits w_fits =
-    (λ is. from_rank activities v w v_some w_some v_fits w_fits (below_of (rank_of activities w) (rank_of activities v) is),
-     λ before. is_below (rank_of activities w) (rank_of activities v) (to_rank activities v w v_some w_some v_fits w_fits before))
+compared activities v w v_some w_some v_fits w_fits = (
+  λ is. from_rank activities v w v_some w_some v_fits w_fits (below_of (rank_of activities w) (rank_of activities v) is),
+  λ before. is_below (rank_of activities w) (rank_of activities v) (to_rank activities v w v_some w_some v_fits w_fits before),
+)

@@ -4,7 +4,7 @@ use Rattle.std.specs.List.{Contains, IsDistinct}
 use Rattle.std.specs.List.Sorted.{IsNonDecreasingBy, IsPermutation}
 use Rattle.std.specs.Prelude.{nat_eq, false}
 use Rattle.std.proofs.lemmas.Bool.{cases_lt}
-use Rattle.std.proofs.lemmas.Bool.Decides.{eqb_tells, nat_tests}
+use Rattle.std.proofs.lemmas.Bool.Decides.{nat_tests}
 use Rattle.std.proofs.lemmas.List.{get_or_default}
 use Rattle.std.proofs.lemmas.List.Elements.{Contains-get_or}
 use Rattle.std.proofs.lemmas.List.Sorted.{Contains-permutation, IsPermutation-sym, length_permutation}
@@ -145,12 +145,12 @@ module _ (f : ℕ → ℕ) (vars : ℕ) (distinct : AreDistinct f vars) (least :
       let P : ℕ → Type 0 = λ u. Follows f vars u (get_or next u 0) in
       let Q : ℕ → Type 0 = λ w. Follows f vars (get_or numbers at.place 0) w in
       subst P at.is (
-        elim (cases_lt (at.place + 1) (length numbers)) [
-          | inl within ↦ subst Q (sym (ring.behind at.place within)) (record { fits = fits_at (at.place + 1) within; is = previous_at at.place within })
-          | inr past ↦
-              let last : at.place + 1 ≡ length numbers = omega (arith, past, at.within) in
-              subst Q (sym (ring.around at.place last ∙ first_none)) (record { fits = omega arith; is = previous_around at.place last })
-        ]
+      elim (cases_lt (at.place + 1) (length numbers)) [
+        | inl within ↦ subst Q (sym (ring.behind at.place within)) (record { fits = fits_at (at.place + 1) within; is = previous_at at.place within })
+        | inr past ↦
+            let last : at.place + 1 ≡ length numbers = omega (arith, past, at.within) in
+            subst Q (sym (ring.around at.place last ∙ first_none)) (record { fits = omega arith; is = previous_around at.place last })
+      ]
       )
 
   led : (v : ℕ) → v ≤ vars → IsLed next vars v

@@ -5,7 +5,7 @@ use Rattle.std.specs.Prelude.{◌≡◌, ◌<◌, ◌≤◌, ℕ, zero, suc, ◌
 use Rattle.std.specs.List.{Contains}
 use Rattle.lls_lit.specs.declared.var.TheConstants.Var.{MOST}
 use Rattle.lls_order.specs.declared.order.TheConstants.{MOST_ACTIVITY}
-use Rattle.lls_order.specs.Order.{OrderState, is_in}
+use Rattle.lls_order.specs.Order.{OrderState}
 
 -- one number for activity and variable: the greater comes first; 0 has the least
 abbrev pub rank_of : List ℕ → ℕ → ℕ

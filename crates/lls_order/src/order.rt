@@ -3,7 +3,10 @@ ghost use Rattle.std.specs.Prelude.{◌≡◌, ◌<◌, ◌≤◌, ◌↔◌, �
 ghost use Rattle.lls_order.specs.Order.{activity_of, is_in, ComesBefore, IsEmpty, IsGreatest};
 ghost use Rattle.lls_order.specs.Changes.{bumped, halved, new_order, put_in, raised, taken_out};
 
-use crate::queue::{cursor_behind, first_inside, greater_numbers, halve_all, lesser_numbers, link_by_rank, raise, rank};
+use crate::queue::{
+    cursor_behind, first_inside, foremost, greater_numbers, halve_all, lesser_numbers,
+    link_by_rank, raise, rank,
+};
 use lls_base::Memory;
 use lls_lit::Var;
 use std::alloc::Global;
@@ -14,8 +17,9 @@ pub const MOST_ACTIVITY: u64 = 1 << 60;
 
 /// Variables with activities, of which those that are in come out by activity: the solver's order of decisions.
 ///
-/// What is bumped goes to the end of a queue, and what is nearest to its end comes out first (Ryvchin, Strichman, *Local
-/// Restarts*, 2008; Biere, Fröhlich, *Evaluating CDCL Variable Scoring Schemes*, 2015). Activities are the stamps of the bumps.
+/// What is bumped becomes the last of a queue, and of those that are in the one nearest to its end comes out first (Ryan,
+/// *Efficient Algorithms for Clause-Learning SAT Solvers*, 2004; with stamps Biere, Fröhlich, *Evaluating CDCL Variable Scoring
+/// Schemes*, 2015). The activities are the stamps.
 #[derive(Debug, Drop)]
 pub struct Order {
     vars: u32,
@@ -104,9 +108,7 @@ impl Order {
     {
         let number = var.number();
         self.inside[number as usize - 1] = true;
-        if rank(&self.activities, number) > rank(&self.activities, self.cursor) {
-            self.cursor = number;
-        }
+        self.cursor = foremost(&self.activities, number, self.cursor);
     }
 
     /// Adds a whole number of at least 1, which the order chooses, to a variable's activity: the greatest that was given, and

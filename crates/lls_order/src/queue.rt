@@ -1,6 +1,6 @@
 //! A queue of the variables by rank, as a ring of links in two tables: from each to the next of lesser rank, and to that of
 //! greater. 0, which is no variable, stands between the last and the first.
-ghost use Rattle.std.specs.Prelude.{◌≡◌, ℕ, ◌+◌, ◌-◌, ◌<◌, ◌≤◌, ◌/◌, length, map, slice_index, slice_set, true, IfOk};
+ghost use Rattle.std.specs.Prelude.{◌≡◌, ℕ, ◌+◌, ◌-◌, ◌<◌, ◌≤◌, ◌/◌, ◌⊎◌, length, map, slice_index, slice_set, true, IfOk};
 ghost use Rattle.std.specs.List.Sorted.{IsNonDecreasingBy, IsPermutation};
 ghost use Rattle.lls_order.specs.Queue.{AreInRing, AreLinks, HasEach, IsCursor, IsPrevious, cursor_moved, next_moved, previous_moved, rank_of, stands_in};
 
@@ -18,6 +18,19 @@ pub(crate) fn rank(activities: &[u64], number: u32) -> u128
     let index = number - 1;
     let activity = activities.get(index as usize).copied().unwrap_or(0);
     u128::from(activity) * u128::from(Var::MOST) + u128::from(Var::MOST.saturating_sub(index))
+}
+
+/// Of two numbers the one of greater rank.
+pub(crate) fn foremost(activities: &[u64], one: u32, other: u32) -> u32
+    ensures among { (result ≡ one) ⊎ (result ≡ other) }
+    ensures one { rank_of activities.now one ≤ rank_of activities.now result }
+    ensures other { rank_of activities.now other ≤ rank_of activities.now result }
+{
+    if rank(activities, one) < rank(activities, other) {
+        other
+    } else {
+        one
+    }
 }
 
 // The links to the lesser without activity: from each variable to that of the next number.

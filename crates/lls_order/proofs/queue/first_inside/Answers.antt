@@ -1,5 +1,5 @@
-use Rattle.std.proofs.Common.{◌≡◌, ℕ, ◌≤◌, ◌<◌, ◌∙◌, false, length, get_or, arith}
-use Rattle.lls_order.specs.Queue.{IsCursor, rank_of, stands_in}
+use Rattle.std.proofs.Common.{◌≡◌, ◌∙◌, false, length, get_or, arith}
+use Rattle.lls_order.specs.Queue.{rank_of, stands_in}
 use Rattle.lls_order.proofs.Cursor.{IsCursor-step, stands_in-at}
 use Rattle.lls_order.proofs.Ranks.{rank_of-distinct}
 use Rattle.lls_order.proofs.queue.first_inside.Goals as goal

@@ -1,5 +1,5 @@
-use Rattle.std.proofs.Common.{◌≡◌, ◌-◌, ◌+◌, ◌<◌, ◌≤◌, ℕ, List, length, sym, subst, ◌∙◌, arith}
-use Rattle.lls_order.specs.Queue.{AreLinks, HasEach, rank_of}
+use Rattle.std.proofs.Common.{◌≡◌, ◌-◌, ◌+◌, length, subst, ◌∙◌, arith}
+use Rattle.lls_order.specs.Queue.{HasEach, rank_of}
 use Rattle.lls_order.proofs.Links.{AreDistinct}
 use Rattle.lls_order.proofs.Sorting.{AreLinks-sorted, HasEach-next, HasEach-permutation}
 use Rattle.lls_order.proofs.Ranks.{rank_of-distinct, rank_of-none}

@@ -1,4 +1,4 @@
-use Rattle.std.proofs.Common.{◌-◌, ℕ, List, ◌≤◌, length, set, sym, subst, arith}
+use Rattle.std.proofs.Common.{◌-◌, ℕ, List, length, set, sym, subst, arith}
 use Rattle.lls_order.specs.Queue.{AreLinks, next_moved, previous_moved, rank_of}
 use Rattle.lls_order.proofs.Links.{AreLinks-moved}
 use Rattle.lls_order.proofs.Ranks.{rank_of-distinct, rank_of-greatest, rank_of-others}

@@ -1,7 +1,5 @@
-use Rattle.std.proofs.Common.{◌≡◌, ◌<◌, ◌≤◌, ℕ, true, subst, sym, ◌∙◌, ap, arith}
-use Rattle.std.proofs.lemmas.Bool.Decides.{nat_tests}
-use Rattle.lls_lit.specs.declared.var.TheConstants.Var.{MOST}
-use Rattle.lls_order.specs.Order.{OrderState, ComesBefore}
+use Rattle.std.proofs.Common.{◌≡◌, ◌≤◌, ◌∙◌, ap, arith}
+use Rattle.lls_order.specs.Order.{OrderState}
 use Rattle.lls_order.specs.Queue.{rank_of}
 use Rattle.lls_order.proofs.Ranks.{compared}
 use Rattle.lls_order.proofs.order.Order.comes_before.Goals as goal

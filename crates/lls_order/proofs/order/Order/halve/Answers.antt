@@ -1,6 +1,6 @@
-use Rattle.std.proofs.Common.{◌≡◌, ◌+◌, ◌-◌, ◌/◌, ◌<◌, ◌≤◌, ℕ, List, length, map, get_or, subst, sym, ◌∙◌, ap, arith}
+use Rattle.std.proofs.Common.{◌≡◌, ◌/◌, ℕ, length, map, get_or, subst, sym, ◌∙◌, ap, arith}
 use Rattle.std.proofs.lemmas.List.{with_items_is, get_or_read, length-map}
-use Rattle.lls_order.specs.Queue.{AreLinks, AreParts, HasEach, rank_of}
+use Rattle.lls_order.specs.Queue.{AreLinks, HasEach, rank_of}
 use Rattle.lls_order.proofs.Parts.{AreParts-halved, distinct_ranks}
 use Rattle.lls_order.proofs.Sorting.{HasEach-previous}
 use Rattle.lls_order.proofs.order.Order.halve.Goals as goal

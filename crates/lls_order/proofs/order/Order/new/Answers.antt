@@ -1,5 +1,5 @@
-use Rattle.std.proofs.Common.{◌≡◌, ℕ, ◌+◌, ◌<◌, Bool, length, get_or, replicate, sym, subst, ap, ◌∙◌, arith, rules}
-use Rattle.std.proofs.lemmas.List.{get_or_read, length-replicate}
+use Rattle.std.proofs.Common.{◌≡◌, ◌<◌, length, get_or, replicate, sym, subst, arith, rules}
+use Rattle.std.proofs.lemmas.List.{get_or_read}
 use Rattle.lls_order.specs.Queue.{AreParts}
 use Rattle.lls_order.proofs.Parts.{AreParts-new}
 use Rattle.lls_order.proofs.order.Order.new.Goals as goal

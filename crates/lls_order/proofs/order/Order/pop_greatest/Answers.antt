@@ -1,8 +1,8 @@
-use Rattle.std.proofs.Common.{◌≡◌, ◌+◌, ◌-◌, ◌<◌, ◌≤◌, ℕ, Bool, true, false, List, length, get_or, set, refl, subst, sym, ◌∙◌, ap, arith}
+use Rattle.std.proofs.Common.{◌≡◌, ◌<◌, ◌≤◌, Bool, true, false, List, refl, subst, sym, ◌∙◌, arith}
 use Rattle.std.proofs.lemmas.Bool.{false≢true}
 use Rattle.lls_lit.specs.Literal.{IsVariable}
 use Rattle.lls_lit.specs.declared.var.TheConstants.Var.{MOST}
-use Rattle.lls_order.specs.Order.{OrderState, IsEmpty, IsGreatest, is_in}
+use Rattle.lls_order.specs.Order.{IsEmpty, IsGreatest}
 use Rattle.lls_order.specs.Queue.{IsCursor, rank_of, stands_in}
 use Rattle.lls_order.proofs.Cursor.{IsCursor-at_lists, empty_at_none, greatest_at_cursor, is_there, some_answer}
 use Rattle.lls_order.proofs.Parts.{AreParts-with}

@@ -1,8 +1,8 @@
-use Rattle.std.proofs.Common.{◌≡◌, ◌+◌, ◌-◌, ◌<◌, ◌≤◌, ℕ, Bool, List, length, get_or, set, subst, sym, ◌∙◌, ap, arith}
+use Rattle.std.proofs.Common.{◌≡◌, ◌+◌, ◌-◌, ◌<◌, ◌≤◌, Bool, List, length, set, subst, ◌∙◌, ap, arith}
 use Rattle.std.proofs.lemmas.List.{with_items_is}
 use Rattle.lls_order.specs.declared.order.TheConstants.{MOST_ACTIVITY}
 use Rattle.lls_order.specs.Order.{OrderState}
-use Rattle.lls_order.specs.Queue.{AreLinks, AreParts, cursor_moved, rank_of}
+use Rattle.lls_order.specs.Queue.{AreLinks, cursor_moved, rank_of}
 use Rattle.lls_order.proofs.Parts.{AreParts-raised}
 use Rattle.lls_order.proofs.order.Order.raise.Goals as goal
 
