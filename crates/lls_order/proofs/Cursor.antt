@@ -46,22 +46,19 @@ IsCursor-step f vars inside cursor w distinct previous out h = record {
   ];
 }
 
--- a variable is taken out
-pub IsCursor-taken : (f : ℕ → ℕ) (vars : ℕ) (inside : List Bool) (cursor v : ℕ) → 0 < v → v ≤ length inside → IsCursor f vars inside cursor → IsCursor f vars (set inside (v - 1) false) cursor
-IsCursor-taken f vars inside cursor v some within h = record {
+-- the variable at the cursor is taken out or put in
+pub IsCursor-set : (f : ℕ → ℕ) (vars : ℕ) (inside : List Bool) (cursor : ℕ) (b : Bool) → 0 < cursor → IsCursor f vars inside cursor → IsCursor f vars (set inside (cursor - 1) b) cursor
+IsCursor-set f vars inside cursor b some h = record {
   fits = h.fits;
-  none_before = λ x x_in less. elim (eqb_tells x v) [
-    | inl t ↦ ap (stands_in (set inside (v - 1) false)) t.1 ∙ stands_in-put inside v false some within
-    | inr t ↦ stands_in-other inside v x false some t.1 ∙ h.none_before x x_in less
-  ];
+  none_before = λ x x_in less. stands_in-other inside cursor x b some (λ same. omega (arith, less, ap f same)) ∙ h.none_before x x_in less;
 }
 
--- a variable is put in: the cursor isn't of less rank than it and the cursor before
-pub IsCursor-put : (f : ℕ → ℕ) (vars : ℕ) (inside : List Bool) (cursor v new : ℕ) → 0 < v → new ≤ vars → f v ≤ f new → f cursor ≤ f new → IsCursor f vars inside cursor
-    → IsCursor f vars (set inside (v - 1) true) new
-IsCursor-put f vars inside cursor v new some new_in its_le cursor_le h = record {
+-- another is: the new cursor isn't of less rank than it and the cursor before
+pub IsCursor-set_other : (f : ℕ → ℕ) (vars : ℕ) (inside : List Bool) (cursor v : ℕ) (b : Bool) (new : ℕ) → 0 < v → new ≤ vars → f v ≤ f new → f cursor ≤ f new → IsCursor f vars inside cursor
+    → IsCursor f vars (set inside (v - 1) b) new
+IsCursor-set_other f vars inside cursor v b new some new_in its_le cursor_le h = record {
   fits = new_in;
-  none_before = λ x x_in less. stands_in-other inside v x true some (λ same. omega (arith, less, its_le, ap f same)) ∙ h.none_before x x_in (omega (arith, less, cursor_le));
+  none_before = λ x x_in less. stands_in-other inside v x b some (λ same. omega (arith, less, its_le, ap f same)) ∙ h.none_before x x_in (omega (arith, less, cursor_le));
 }
 
 -- the last of the ring

@@ -2,7 +2,7 @@ use Rattle.std.proofs.Common.{◌≡◌, ◌<◌, ◌≤◌, true, length, subst
 use Rattle.lls_order.specs.Order.{OrderState, is_in}
 use Rattle.lls_order.specs.Changes.{put_in}
 use Rattle.lls_order.specs.Queue.{order_in, rank_of}
-use Rattle.lls_order.proofs.Cursor.{IsCursor-put}
+use Rattle.lls_order.proofs.Cursor.{IsCursor-set_other}
 use Rattle.lls_order.proofs.Parts.{AreParts-with, is_in-put_in}
 use Rattle.lls_order.proofs.order.Order.put_back.Goals as goal
 
@@ -18,8 +18,8 @@ invariant_of-self c =
     let new_in : new ≤ m.vars = elim c.foremost-self-inside.ensures.among [ inl e ↦ omega (arith, e, v_in) | inr e ↦ omega (arith, e, c.self.invariant.is_cursor.fits) ] in
     let its : f v ≤ f new = subst (λ xs. rank_of xs v ≤ rank_of xs new) c.deref.ensures.value c.foremost-self-inside.ensures.one in
     let other : f m.cursor ≤ f new = subst (λ xs. rank_of xs m.cursor ≤ rank_of xs new) c.deref.ensures.value c.foremost-self-inside.ensures.other in
-    AreParts-with m.vars m.activities.items m.inside.items m.previous.items m.next.items m.cursor m.top c.self.invariant v true new
-    (IsCursor-put f m.vars m.inside.items m.cursor v new some new_in its other c.self.invariant.is_cursor)
+    AreParts-with m.vars m.activities.items m.inside.items m.previous.items m.next.items m.cursor m.top c.self.invariant v _ new
+    (IsCursor-set_other f m.vars m.inside.items m.cursor v _ new some new_in its other c.self.invariant.is_cursor)
 
 pub returns-clause-stands : goal.returns-clause-stands
 returns-clause-stands c =
