@@ -97,7 +97,6 @@ impl Course {
         for lit in lits {
             self.order.bump(lit.var());
         }
-        self.order.grow();
     }
 
     /// Goes back to a level.
