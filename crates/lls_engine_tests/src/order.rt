@@ -9,13 +9,12 @@ use std::test::Fail;
 #[derive(Clone, Copy, Debug)]
 enum Call {
     Bump(u32),
-    Grow,
     PutBack(u32),
     Pop(Option<u32>),
 }
 
-// Four variables: which comes out, by what was called before.
-const CALLS: [Call; 24] = [
+// Four variables: which comes out, by what was called before. The n-th bump gives the activity n.
+const CALLS: [Call; 44] = [
     // Without activity the least number comes out.
     Call::Pop(Some(1)),
     Call::Bump(3),
@@ -27,24 +26,49 @@ const CALLS: [Call; 24] = [
     Call::PutBack(1),
     // It is in already.
     Call::PutBack(1),
-    // 1 and 3 have the activity 1, and 4 has none.
+    // 1 has the activity 2, 3 has 1, and 4 has none.
     Call::Pop(Some(1)),
     Call::Pop(Some(3)),
     Call::Pop(Some(4)),
     Call::Pop(None),
+    // 2 and 4 have none.
     Call::PutBack(4),
     Call::PutBack(2),
+    Call::Pop(Some(2)),
+    Call::Pop(Some(4)),
+    Call::PutBack(2),
+    Call::PutBack(4),
     Call::Bump(4),
-    // The amount is 2 from here on.
-    Call::Grow,
+    Call::Pop(Some(4)),
+    // What came out last comes out again.
+    Call::PutBack(4),
+    Call::Pop(Some(4)),
+    Call::PutBack(4),
+    Call::Bump(2),
+    // It is the last that was bumped already.
     Call::Bump(2),
     Call::Pop(Some(2)),
     Call::Pop(Some(4)),
     Call::Pop(None),
-    Call::PutBack(2),
+    // By activity 2 (5), 4 (3), 1 (2), 3 (1).
+    Call::PutBack(3),
+    Call::PutBack(4),
     Call::PutBack(1),
+    Call::PutBack(2),
     Call::Pop(Some(2)),
+    // The one that came out last rises while it is out.
+    Call::Bump(2),
+    Call::Pop(Some(4)),
+    // One between others rises.
+    Call::Bump(1),
+    Call::PutBack(4),
     Call::Pop(Some(1)),
+    Call::PutBack(2),
+    Call::Pop(Some(2)),
+    Call::Pop(Some(4)),
+    Call::Pop(Some(3)),
+    Call::Pop(None),
+    Call::Pop(None),
 ];
 
 fn variable(order: &Order, n: u32) -> Result<Var, Fail>
@@ -56,11 +80,9 @@ fn variable(order: &Order, n: u32) -> Result<Var, Fail>
     }
 }
 
-fn bump(order: &mut Order, n: u32, times: u32) -> Result<(), Fail> {
-    for _ in 0..times {
-        let var = variable(order, n)?;
-        order.bump(var);
-    }
+fn bump(order: &mut Order, n: u32) -> Result<(), Fail> {
+    let var = variable(order, n)?;
+    order.bump(var);
     Ok(())
 }
 
@@ -73,8 +95,7 @@ fn variables_come_out_as_worked(rt: HostRuntime) -> Result<(), Fail> {
     let mut order = Order::new(rt.alloc(), 4)?;
     for call in &CALLS {
         match *call {
-            Call::Bump(n) => bump(&mut order, n, 1)?,
-            Call::Grow => order.grow(),
+            Call::Bump(n) => bump(&mut order, n)?,
             Call::PutBack(n) => {
                 let var = variable(&order, n)?;
                 order.put_back(var);
@@ -85,67 +106,124 @@ fn variables_come_out_as_worked(rt: HostRuntime) -> Result<(), Fail> {
     Ok(())
 }
 
-// Variable v of 100 is bumped 37 v times modulo 101. So the one that is bumped r times is 71 r modulo 101, since 37 times 71
-// is 1 modulo 101.
+// 101 is a prime: where r goes from 1 to 100, a step times r, modulo 101, is each variable of 100 once.
+const STEPS: [u32; 6] = [3, 37, 100, 1, 55, 71];
+
+fn nth(step: u32, r: u32) -> u32 {
+    step.wrapping_mul(r) % 101
+}
+
+fn bump_each(order: &mut Order, step: u32) -> Result<(), Fail> {
+    for r in 1..101 {
+        bump(order, nth(step, r))?;
+    }
+    Ok(())
+}
+
 #[test]
-fn a_hundred_variables_come_out_by_activity(rt: HostRuntime) -> Result<(), Fail> {
+fn of_a_hundred_the_last_bumped_comes_out_first(rt: HostRuntime) -> Result<(), Fail> {
     let mut order = Order::new(rt.alloc(), 100)?;
-    for n in 1..101 {
-        bump(&mut order, n, 37 * n % 101)?;
+    for _ in 0..20 {
+        for step in STEPS {
+            bump_each(&mut order, step)?;
+        }
     }
     for r in (1..101_u32).rev() {
-        assert_popped(&rt, &mut order, Some(71 * r % 101));
+        assert_popped(&rt, &mut order, Some(nth(71, r)));
     }
     assert_popped(&rt, &mut order, None);
     Ok(())
 }
 
-struct Scaling {
-    grows: u32,
-    bumps: u32,
-    popped: [u32; 3],
+// The variables up to 50 are out while all are bumped.
+#[test]
+fn those_that_are_out_rise_too(rt: HostRuntime) -> Result<(), Fail> {
+    let mut order = Order::new(rt.alloc(), 100)?;
+    for n in 1..51 {
+        assert_popped(&rt, &mut order, Some(n));
+    }
+    bump_each(&mut order, 37)?;
+    for r in (1..101_u32).rev().filter(|r| nth(37, *r) > 50) {
+        assert_popped(&rt, &mut order, Some(nth(37, r)));
+    }
+    assert_popped(&rt, &mut order, None);
+    for n in 1..51 {
+        let var = variable(&order, n)?;
+        order.put_back(var);
+    }
+    for r in (1..101_u32).rev().filter(|r| nth(37, *r) <= 50) {
+        assert_popped(&rt, &mut order, Some(nth(37, r)));
+    }
+    assert_popped(&rt, &mut order, None);
+    Ok(())
 }
 
-// The activity of 1 is 2, and that of 2 is 3. Then the amount grows, and 3 is bumped. After 700 times the amount is between
-// 2^52 and 2^53, so that 100 bumps stay below 2^60 and 300 pass it. After 1000 times it has passed 2^54 once.
-const SCALINGS: [Scaling; 4] = [
-    Scaling {
-        grows: 700,
-        bumps: 0,
-        popped: [2, 1, 3],
+struct Pair {
+    first: u32,
+    second: u32,
+    before: bool,
+}
+
+// Variable 3 has been bumped, and then variable 2.
+const PAIRS: [Pair; 9] = [
+    Pair {
+        first: 2,
+        second: 3,
+        before: true,
     },
-    Scaling {
-        grows: 700,
-        bumps: 100,
-        popped: [3, 2, 1],
+    Pair {
+        first: 3,
+        second: 2,
+        before: false,
     },
-    // 1 and 2 have the same activity then.
-    Scaling {
-        grows: 700,
-        bumps: 300,
-        popped: [3, 1, 2],
+    Pair {
+        first: 3,
+        second: 1,
+        before: true,
     },
-    Scaling {
-        grows: 1000,
-        bumps: 0,
-        popped: [1, 2, 3],
+    Pair {
+        first: 1,
+        second: 3,
+        before: false,
+    },
+    // Without activity the smaller number comes before.
+    Pair {
+        first: 1,
+        second: 4,
+        before: true,
+    },
+    Pair {
+        first: 4,
+        second: 1,
+        before: false,
+    },
+    Pair {
+        first: 3,
+        second: 4,
+        before: true,
+    },
+    // None comes before itself.
+    Pair {
+        first: 2,
+        second: 2,
+        before: false,
+    },
+    Pair {
+        first: 4,
+        second: 4,
+        before: false,
     },
 ];
 
 #[test]
-fn scaling_makes_equal(rt: HostRuntime) -> Result<(), Fail> {
-    for row in &SCALINGS {
-        let mut order = Order::new(rt.alloc(), 3)?;
-        bump(&mut order, 1, 2)?;
-        bump(&mut order, 2, 3)?;
-        for _ in 0..row.grows {
-            order.grow();
-        }
-        bump(&mut order, 3, row.bumps)?;
-        for n in row.popped {
-            assert_popped(&rt, &mut order, Some(n));
-        }
-        assert_popped(&rt, &mut order, None);
+fn variables_come_before_as_worked(rt: HostRuntime) -> Result<(), Fail> {
+    let mut order = Order::new(rt.alloc(), 4)?;
+    bump(&mut order, 3)?;
+    bump(&mut order, 2)?;
+    for pair in &PAIRS {
+        let first = variable(&order, pair.first)?;
+        let second = variable(&order, pair.second)?;
+        assert_eq!(rt; order.comes_before(first, second), pair.before);
     }
     Ok(())
 }

@@ -1,9 +1,6 @@
-pub mod Tables
-pub mod Inside
-pub mod Sifts
-pub mod Rising
-pub mod Sinking
-pub mod Building
-pub mod LubyNumbers
+pub mod Ranks
+pub mod Links
+pub mod Sorting
+pub mod Cursor
 pub mod Parts
-pub mod Greatest
+pub mod LubyNumbers

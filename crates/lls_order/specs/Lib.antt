@@ -1,4 +1,4 @@
 pub mod Luby
 pub mod Order
 pub mod Changes
-pub mod Heap
+pub mod Queue

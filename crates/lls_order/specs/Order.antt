@@ -1,12 +1,12 @@
 -- An order of variables: which come out first.
 use Rattle.std.specs.Prelude.{◌≡◌, ◌≢◌, ◌<◌, ◌-◌, ◌⊎◌, ℕ, zero, suc, Bool, true, false, List, slice_index, slice_index_or}
 
--- the number of variables; by variable from 1 its activity, and whether it is in; and what a bump adds
+-- the number of variables; by variable from 1 its activity, and whether it is in; and the greatest activity that was given
 pub record OrderState : Type 0 where
   pub vars : ℕ
   pub activities : List ℕ
   pub inside : List Bool
-  pub amount : ℕ
+  pub top : ℕ
 
 abbrev pub activity_of : OrderState → ℕ → ℕ
 activity_of order v = slice_index order.activities (v - 1)

@@ -1,9 +1,12 @@
 //! An order of decisions.
-ghost use Rattle.std.specs.Prelude.{◌≡◌, ◌<◌, ◌≤◌, ◌↔◌, ◌+◌, ◌/◌, ◌^◌, true, map, IfNone, IfOk, IfSome};
-ghost use Rattle.lls_order.specs.Order.{activity_of, is_in, IsEmpty, IsGreatest};
-ghost use Rattle.lls_order.specs.Changes.{bumped, grown, new_order, put_in, raised, scaled_down, taken_out};
+ghost use Rattle.std.specs.Prelude.{◌≡◌, ◌<◌, ◌≤◌, ◌↔◌, ◌^◌, true, IfNone, IfOk, IfSome};
+ghost use Rattle.lls_order.specs.Order.{activity_of, is_in, ComesBefore, IsEmpty, IsGreatest};
+ghost use Rattle.lls_order.specs.Changes.{bumped, halved, new_order, put_in, raised, taken_out};
 
-use crate::heap::{insert_from, make_heap, numbers_below, remove_first, sift_up};
+use crate::queue::{
+    cursor_behind, first_inside, foremost, greater_numbers, halve_all, lesser_numbers,
+    link_by_rank, raise, rank,
+};
 use lls_base::Memory;
 use lls_lit::Var;
 use std::alloc::Global;
@@ -12,38 +15,34 @@ use std::marker::Model;
 /// The greatest activity of a variable, 2^60.
 pub const MOST_ACTIVITY: u64 = 1 << 60;
 
-/// Where the amount is above 2^54, it doesn't grow before all is scaled down.
-pub const SCALED_ABOVE: u64 = 1 << 54;
-
-/// All is divided by 2^16 then: about once in 230 conflicts.
-pub const SCALE: u32 = 16;
-
 /// Variables with activities, of which those that are in come out by activity: the solver's order of decisions.
 ///
-/// A variable's activity rises by an amount of the order's own. Where the amount grows after each conflict, late conflicts
-/// weigh more (Moskewicz and others, *Chaff*, 2001; in this form Eén, Sörensson, *An Extensible SAT-solver*, 2003).
+/// What is bumped becomes the last of a queue, and of those that are in the one nearest to its end comes out first (Ryan,
+/// *Efficient Algorithms for Clause-Learning SAT Solvers*, 2004; with stamps Biere, Fröhlich, *Evaluating CDCL Variable Scoring
+/// Schemes*, 2015). The activities are the stamps.
 #[derive(Debug, Drop)]
 pub struct Order {
     vars: u32,
     activities: Vec<u64>,
-    // How many variables are in.
-    count: usize,
-    // All variables, each as its number less one: a heap of those that are in, and then the others.
-    heap: Vec<u32>,
-    // Where each variable stands in the heap.
-    places: Vec<u32>,
-    amount: u64,
+    inside: Vec<bool>,
+    // A ring of all variables and of 0: from each number to that of the next lesser rank, and to that of the next greater.
+    previous: Vec<u32>,
+    next: Vec<u32>,
+    // No variable of greater rank is in.
+    cursor: u32,
+    // No activity is greater.
+    top: u64,
 }
 
 impl Model for Order {
     ghost use Rattle.lls_order.specs.Order.{OrderState};
-    ghost use Rattle.lls_order.specs.Heap.{order_in, AreParts};
+    ghost use Rattle.lls_order.specs.Queue.{order_in, AreParts};
 
     ghost Value = { OrderState };
 
-    ghost view = { λ o. order_in o.vars o.activities.items o.count o.places.items o.amount };
+    ghost view = { λ o. order_in o.vars o.activities.items o.inside.items o.top };
 
-    ghost invariant = { λ o. AreParts o.vars o.activities.items o.count o.heap.items o.places.items o.amount };
+    ghost invariant = { λ o. AreParts o.vars o.activities.items o.inside.items o.previous.items o.next.items o.cursor o.top };
 }
 
 impl Order {
@@ -53,15 +52,18 @@ impl Order {
         ensures { IfOk result (λ order. order ≡ new_order vars) }
     {
         let activities = vec![in alloc; 0; vars as usize]?;
-        let heap = numbers_below(alloc, vars)?;
-        let places = numbers_below(alloc, vars)?;
+        let inside = vec![in alloc; true; vars as usize]?;
+        let previous = greater_numbers(alloc, vars)?;
+        let next = lesser_numbers(alloc, vars)?;
+        let cursor = previous[0];
         Ok(Order {
             vars,
             activities,
-            count: vars as usize,
-            heap,
-            places,
-            amount: 1,
+            inside,
+            previous,
+            next,
+            cursor,
+            top: 0,
         })
     }
 
@@ -73,6 +75,15 @@ impl Order {
         self.vars
     }
 
+    /// Whether the first has more activity, or as much and the smaller number.
+    pub fn comes_before(&self, first: Var, second: Var) -> bool
+        requires first { first ≤ self.now.vars }
+        requires second { second ≤ self.now.vars }
+        ensures { (result ≡ true) ↔ ComesBefore self.now first second }
+    {
+        rank(&self.activities, first.number()) > rank(&self.activities, second.number())
+    }
+
     /// Takes out the variable of the greatest activity, of equal ones the least: None exactly where none is in.
     pub fn pop_greatest(&mut self) -> Option<Var>
         ensures greatest { IfSome result (IsGreatest self.old) }
@@ -81,18 +92,12 @@ impl Order {
         ensures out { IfSome result (λ v. self.new ≡ taken_out self.old v) }
         ensures same { IfNone result (self.new ≡ self.old) }
     {
-        if self.count == 0 {
+        self.cursor = first_inside(&self.activities, &self.inside, &self.previous, self.cursor);
+        if self.cursor == 0 {
             return None;
         }
-        let greatest = self.heap[0];
-        self.count -= 1;
-        remove_first(
-            &self.activities,
-            &mut self.heap,
-            &mut self.places,
-            self.count,
-        );
-        Var::from_number(greatest + 1)
+        self.inside[self.cursor as usize - 1] = false;
+        Var::from_number(self.cursor)
     }
 
     /// Puts a variable in where it isn't.
@@ -101,80 +106,51 @@ impl Order {
         ensures put_in { self.new ≡ put_in self.old var }
         ensures stands { is_in self.new var ≡ true }
     {
-        let place = self.places[var.number() as usize - 1] as usize;
-        if place >= self.count {
-            insert_from(
-                &self.activities,
-                &mut self.heap,
-                &mut self.places,
-                place,
-                self.count,
-            );
-            self.count += 1;
-        }
+        let number = var.number();
+        self.inside[number as usize - 1] = true;
+        self.cursor = foremost(&self.activities, number, self.cursor);
     }
 
-    /// Adds the amount to a variable's activity. Where the sum would pass `MOST_ACTIVITY`, all activities and the amount are
-    /// halved first.
+    /// Adds a whole number of at least 1, which the order chooses, to a variable's activity: the greatest that was given, and
+    /// 1 more, less the activity. Where the sum would pass `MOST_ACTIVITY`, all activities and the greatest that was given are
+    /// halved first, rounding down.
     pub fn bump(&mut self, var: Var)
         requires { var ≤ self.old.vars }
         ensures bumped { self.new ≡ bumped self.old var }
-        ensures amount { 1 ≤ self.old.amount }
+        ensures below { activity_of self.old var ≤ self.old.top }
     {
-        let activity = self.activities[var.number() as usize - 1];
-        if activity + self.amount > MOST_ACTIVITY {
-            self.scale_down(1);
+        if self.top >= MOST_ACTIVITY {
+            self.halve();
         }
         self.raise(var);
     }
 
-    /// Makes the amount greater by about a twentieth: what is bumped from now on counts more. Where the amount is great, all
-    /// activities and the amount are scaled down first.
-    pub fn grow(&mut self)
-        ensures { self.new ≡ grown self.old }
+    // Activities that differed may be equal then, so the ring is made anew.
+    fn halve(&mut self)
+        ensures halved { self.new ≡ halved self.old }
+        ensures room { self.new.top < MOST_ACTIVITY }
     {
-        if self.amount > SCALED_ABOVE {
-            self.scale_down(SCALE);
-        }
-        self.amount += self.amount / 20 + 1;
+        halve_all(&mut self.activities);
+        self.top /= 2;
+        link_by_rank(&self.activities, &mut self.previous, &mut self.next);
+        self.cursor = self.previous[0];
     }
 
-    // Divides all activities and the amount by a power of two. Activities that differed may be equal then, so the heap is made
-    // anew.
-    fn scale_down(&mut self, power: u32)
-        requires { power < 64 }
-        ensures { self.new ≡ scaled_down self.old power }
-    {
-        shift_all(&mut self.activities, power);
-        self.amount = (self.amount >> power).max(1);
-        make_heap(
-            &self.activities,
-            &mut self.heap,
-            &mut self.places,
-            self.count,
-        );
-    }
-
-    // Adds the amount to a variable's activity.
+    // Makes a variable the last of the ring.
     fn raise(&mut self, var: Var)
         requires within { var ≤ self.old.vars }
-        requires fits { activity_of self.old var + self.old.amount ≤ MOST_ACTIVITY }
+        requires room { self.old.top < MOST_ACTIVITY }
         ensures { self.new ≡ raised self.old var }
     {
-        let v = var.number() as usize - 1;
-        self.activities[v] += self.amount;
-        let place = self.places[v] as usize;
-        if place < self.count {
-            sift_up(&self.activities, &mut self.heap, &mut self.places, place);
-        }
-    }
-}
-
-fn shift_all(activities: &mut [u64], power: u32)
-    requires { power < 64 }
-    ensures { activities.new ≡ map (λ a. a / 2 ^ power) activities.old }
-{
-    for activity in activities.iter_mut() {
-        *activity >>= power;
+        let number = var.number();
+        self.cursor = cursor_behind(&self.inside, &self.previous, self.cursor, number);
+        self.top += 1;
+        raise(
+            &mut self.activities,
+            &mut self.previous,
+            &mut self.next,
+            number,
+            self.top,
+        );
     }
 }

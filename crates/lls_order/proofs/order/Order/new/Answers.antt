@@ -1,12 +1,19 @@
-use Rattle.std.proofs.Common.{◌≡◌, Bool, List, replicate, ap, ◌∙◌, rules}
-use Rattle.lls_order.specs.Heap.{order_in}
-use Rattle.lls_order.proofs.Parts.{inside_of-all}
+use Rattle.std.proofs.Common.{◌≡◌, ◌<◌, length, get_or, replicate, sym, subst, arith, rules}
+use Rattle.std.proofs.lemmas.List.{get_or_read}
+use Rattle.lls_order.specs.Queue.{AreParts}
+use Rattle.lls_order.proofs.Parts.{AreParts-new}
 use Rattle.lls_order.proofs.order.Order.new.Goals as goal
 
-pub returns : goal.returns
-returns c =
+pub invariant_of-result : goal.invariant_of-result
+invariant_of-result c =
     let vars = c.args.vars in
-    let places = c.in_ok-places.places.items in
-    let zeros : c.in_ok-activities.activities.items ≡ replicate vars 0 = search rules in
-    ap (λ activities. order_in vars activities vars places 1) zeros
-    ∙ ap (λ (bs : List Bool). record { vars = vars; activities = replicate vars 0; inside = bs; amount = 1 }) (inside_of-all vars places c.in_ok-places.ensures.len c.in_ok-places.ensures.own_place)
+    let activities = c.in_ok-activities.activities.items in
+    let inside = c.in_ok-inside.inside.items in
+    let previous = c.in_ok-previous.previous.items in
+    let next = c.in_ok-next.next.items in
+    let zeros : activities ≡ replicate vars 0 = search rules in
+    let inside_each : length inside ≡ vars = search rules in
+    let some : 0 < length previous = omega (arith, c.in_ok-previous.ensures.len) in
+    let cursor : c.index-cursor.result.now ≡ get_or previous 0 0 = get_or_read previous 0 c.index-cursor.result.now some c.index-cursor.ensures 0 in
+    subst (λ n. AreParts vars activities inside previous next n 0) (sym cursor)
+    (AreParts-new vars activities inside previous next c.requires zeros inside_each c.in_ok-previous.ensures.len c.in_ok-previous.ensures.each c.in_ok-previous.ensures.around c.in_ok-next.ensures.len c.in_ok-next.ensures.each c.in_ok-next.ensures.around)

@@ -1,38 +1,48 @@
-use Rattle.std.proofs.Common.{◌≡◌, ◌+◌, ◌<◌, ◌≤◌, true, get_or, length, refl, subst, sym, ◌∙◌, arith}
+use Rattle.std.proofs.Common.{◌≡◌, ◌<◌, ◌≤◌, Bool, true, List, refl, subst, sym, ◌∙◌, arith}
 use Rattle.std.proofs.lemmas.Bool.{false≢true}
-use Rattle.std.proofs.lemmas.List.{get_or_read}
 use Rattle.lls_lit.specs.Literal.{IsVariable}
 use Rattle.lls_lit.specs.declared.var.TheConstants.Var.{MOST}
-use Rattle.lls_order.specs.Order.{OrderState, IsEmpty, IsGreatest, is_in}
-use Rattle.lls_order.proofs.Greatest.{first_is_in, first_is_greatest, none_in, some_answer, is_there}
+use Rattle.lls_order.specs.Order.{IsEmpty, IsGreatest}
+use Rattle.lls_order.specs.Queue.{IsCursor, rank_of, stands_in}
+use Rattle.lls_order.proofs.Cursor.{IsCursor-at_lists, IsCursor-set, empty_at_none, greatest_at_cursor, is_there, some_answer}
+use Rattle.lls_order.proofs.Parts.{AreParts-with}
 use Rattle.lls_order.proofs.order.Order.pop_greatest.Goals as goal
 
 pub returns-then-self-eq0-clause-none : goal.returns-then-self-eq0-clause-none
 returns-then-self-eq0-clause-none c =
     let m = c.self.inside in
-    (λ none. subst IsEmpty c.self.view_is (none_in m.vars m.count m.amount m.activities.items m.places.items c.if-self-eq0.true), λ empty. refl)
+    let at = c.first_inside-self-inside.result in
+    let is_cursor = IsCursor-at_lists _ _ _ _ _ at c.self.invariant.activity_each c.deref.ensures.value c.deref-2.ensures.value c.first_inside-self-inside.ensures.cursor in
+    let at_none = subst (λ n. IsCursor (rank_of m.activities.items) m.vars m.inside.items n) c.if-self-eq0.true is_cursor in
+    (λ none. subst IsEmpty c.self.view_is (empty_at_none m.vars m.activities.items m.inside.items m.top c.self.invariant.few c.self.invariant.inside_each at_none), λ empty. refl)
+
+pub invariant_of-self-2 : goal.invariant_of-self-2
+invariant_of-self-2 c =
+    let m = c.self.inside in
+    let at = c.first_inside-self-inside.result in
+    let is_cursor = IsCursor-at_lists _ _ _ _ _ at c.self.invariant.activity_each c.deref.ensures.value c.deref-2.ensures.value c.first_inside-self-inside.ensures.cursor in
+    AreParts-with m.vars m.activities.items m.inside.items m.previous.items m.next.items m.cursor m.top c.self.invariant at _ at
+    (IsCursor-set (rank_of m.activities.items) m.vars m.inside.items at _ (omega (arith, c.if-self-eq0.false)) is_cursor)
 
 pub returns-clause-greatest : goal.returns-clause-greatest
 returns-clause-greatest c =
     let m = c.self.inside in
-    let g = c.index-greatest.result.now in
-    let some : 0 < m.count = omega (arith, c.if-self-eq0.false) in
-    let first : g ≡ get_or m.heap.items 0 0 = get_or_read m.heap.items 0 g (omega (arith, some, c.self.invariant.within, c.self.invariant.activity_each, c.self.invariant.tables.number_each)) c.index-greatest.ensures 0 in
-    some_answer c.from_number.result (IsVariable (g + 1)) (g + 1) (IsGreatest c.args.self.now) c.from_number.ensures (λ v at.
-    let P : OrderState → Type 0 = λ s. IsGreatest s v in
-    subst P c.self.view_is (first_is_greatest m.vars m.count m.amount m.activities.items m.heap.items m.places.items c.self.invariant v some (omega (arith, at, first)))
-    )
+    let at = c.first_inside-self-inside.result in
+    let some : 0 < at = omega (arith, c.if-self-eq0.false) in
+    let is_cursor = IsCursor-at_lists _ _ _ _ _ at c.self.invariant.activity_each c.deref.ensures.value c.deref-2.ensures.value c.first_inside-self-inside.ensures.cursor in
+    let stands : stands_in m.inside.items at ≡ true = subst (λ (bs : List Bool). stands_in bs at ≡ true) c.deref-2.ensures.value (c.first_inside-self-inside.ensures.stands some) in
+    let greatest : IsGreatest c.args.self.now at = subst (λ s. IsGreatest s at) c.self.view_is (greatest_at_cursor m.vars m.activities.items m.inside.items m.top c.self.invariant.few c.self.invariant.inside_each at some stands is_cursor) in
+    some_answer c.from_number.result (IsVariable at) at (IsGreatest c.args.self.now) c.from_number.ensures (λ v is. subst (λ n. IsGreatest c.args.self.now n) (sym is) greatest)
 
 pub returns-clause-none : goal.returns-clause-none
 returns-clause-none c =
     let m = c.self.inside in
-    let g = c.index-greatest.result.now in
-    let some : 0 < m.count = omega (arith, c.if-self-eq0.false) in
-    let some_number : 0 < length m.heap.items = omega (arith, some, c.self.invariant.within, c.self.invariant.activity_each, c.self.invariant.tables.number_each) in
-    let first : g ≡ get_or m.heap.items 0 0 = get_or_read m.heap.items 0 g some_number c.index-greatest.ensures 0 in
-    let fits : g + 1 ≤ MOST = omega (arith, first, c.self.invariant.tables.inverse.number_fits 0 some_number, c.self.invariant.tables.number_each, c.self.invariant.tables.few) in
-    let P : OrderState → Type 0 = λ s. is_in s (g + 1) ≡ true in
-    let stands : is_in c.args.self.now (g + 1) ≡ true = subst P c.self.view_is (first_is_in m.vars m.count m.amount m.activities.items m.heap.items m.places.items c.self.invariant (g + 1) some (omega (arith, first))) in (
-      λ none. absurd (is_there c.from_number.result (IsVariable (g + 1)) (g + 1) c.from_number.ensures (omega arith, fits) none),
-      λ empty. absurd (false≢true (sym (empty (g + 1)) ∙ stands)),
+    let at = c.first_inside-self-inside.result in
+    let some : 0 < at = omega (arith, c.if-self-eq0.false) in
+    let is_cursor = IsCursor-at_lists _ _ _ _ _ at c.self.invariant.activity_each c.deref.ensures.value c.deref-2.ensures.value c.first_inside-self-inside.ensures.cursor in
+    let stands : stands_in m.inside.items at ≡ true = subst (λ (bs : List Bool). stands_in bs at ≡ true) c.deref-2.ensures.value (c.first_inside-self-inside.ensures.stands some) in
+    let greatest : IsGreatest c.args.self.now at = subst (λ s. IsGreatest s at) c.self.view_is (greatest_at_cursor m.vars m.activities.items m.inside.items m.top c.self.invariant.few c.self.invariant.inside_each at some stands is_cursor) in
+    let fits : at ≤ MOST = omega (arith, is_cursor.fits, c.self.invariant.few) in (
+      λ none. absurd (is_there c.from_number.result (IsVariable at) at c.from_number.ensures (omega (arith, some), fits) none),
+      λ empty. absurd (false≢true (sym (empty at) ∙ greatest.stands)),
     )
