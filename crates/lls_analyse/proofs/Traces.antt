@@ -1,16 +1,19 @@
 -- The clauses that were resolved, kept on the way back from a conflict, and what is told of them at its end.
 use Rattle.std.proofs.Common.{◌≡◌, ◌≢◌, ℕ, zero, suc, ◌+◌, ◌-◌, ◌<◌, ◌≤◌, Bool, true, false, List, [], ◌∷◌, ◌++◌, length, get_or, set, Some, refl, sym, ap, subst, ◌∙◌, inl, inr, arith}
-use Rattle.std.specs.Prelude.{ℤ, ◌⊎◌, Contains, All}
+use Rattle.std.specs.Prelude.{AllPairs, ℤ, ◌⊎◌, Contains, All}
 use Rattle.std.specs.FinSet as finset
 use Rattle.std.proofs.lemmas.List.{get_or-set_other}
 use Rattle.std.proofs.lemmas.Grind.{get_or-set_at}
-use Rattle.std.proofs.lemmas.List.Elements.{Contains-append_left, Contains-push, Contains-push_cases, All-weaker, All-contains_itself}
+use Rattle.std.proofs.lemmas.List.Quantifiers.{all_pairs_push}
+use Rattle.std.proofs.lemmas.List.Kept.{AllPairs-cons}
+use Rattle.std.proofs.lemmas.List.Elements.{Contains-get_or, Contains-append_left, Contains-push, Contains-push_cases, All-weaker, All-contains_itself}
 use Rattle.std.proofs.lemmas.Bool.Decides.{eqb_tells}
 use Rattle.lls_lit.specs.Literal.{variable_of}
 use Rattle.lls_lit.specs.Formula.{is_within}
 use Rattle.lls_store.specs.Trail.{TrailState, HasNegated, IsTrail, reason_of}
 use Rattle.lls_store.specs.Clauses.{LiveClause, IsIn, clause_numbered}
-use Rattle.lls_store.specs.Store.{StoreState, AreLive}
+use Rattle.lls_store.specs.Sound.{IsSound}
+use Rattle.lls_store.specs.Store.{StoreState, AreLive, IsConflict}
 use Rattle.lls_store.proofs.Tabled.{variable_bounds}
 use Rattle.lls_analyse.specs.declared.visited.Seen.{Seen}
 use Rattle.lls_analyse.specs.declared.visited.Seen.TheVariants.{No, Open, Kept, Followed}
@@ -21,6 +24,7 @@ use Rattle.lls_analyse.specs.Traced.{IsTraced}
 use Rattle.lls_analyse.proofs.Visits.{unlike}
 use Rattle.lls_analyse.proofs.Trails.{false_within, consistent_trail}
 use Rattle.lls_analyse.proofs.Holds.{visited_contains}
+use Rattle.lls_analyse.proofs.Forcing.{conflict_forces_none}
 use Rattle.lls_analyse.proofs.Resolving.{IsResolving, HeldClause, first_held, same_found}
 use Rattle.lls_analyse.proofs.LiveClauses.{IsSome-from, number_given, clause_within}
 
@@ -37,6 +41,7 @@ traced_first live trail number s clause is_live now = record {
   reasons = [];
   begins = refl;
   are_reasons = λ n (k, lt, at). absurd (omega (arith, lt));
+  once = λ i j d before lt. absurd (omega (arith, lt));
   all_followed = λ l n stands is _. absurd (unlike (first_held live trail s clause now l stands).1 (ap is_held is));
   of_resolved = λ l stands. record { number = number; clause = clause; among = (0, omega arith, refl); is_live = is_live; is_in = (first_held live trail s clause now l stands).0 };
 }
@@ -80,8 +85,8 @@ module _ (live : List LiveClause) (trail : TrailState) (s new : VisitedState) (v
   ]
 
   -- the clause is resolved too
-  pub traced_on : (number reason : ℕ) (resolved : List ℕ) → reason_of trail.entries v ≡ Some reason → clause_numbered live reason ≡ Some clause → IsTraced live trail.entries number s resolved → IsTraced live trail.entries number new (resolved ++ reason ∷ [])
-  traced_on number reason resolved has_reason is_live t = record {
+  pub traced_on : (number reason : ℕ) (resolved : List ℕ) → reason_of trail.entries v ≡ Some reason → ((u : ℕ) → reason_of trail.entries u ≡ Some reason → u ≡ v) → clause_numbered live reason ≡ Some clause → IsTraced live trail.entries number s resolved → IsTraced live trail.entries number new (resolved ++ reason ∷ [])
+  traced_on number reason resolved has_reason alone is_live t = record {
     reasons = t.reasons ++ reason ∷ [];
     begins = ap (λ ns. ns ++ reason ∷ []) t.begins;
     are_reasons = λ n among. elim (Contains-push_cases t.reasons reason n among) [
@@ -95,6 +100,7 @@ module _ (live : List LiveClause) (trail : TrailState) (s new : VisitedState) (v
         has_reason = ap (reason_of trail.entries) of_v ∙ has_reason ∙ ap Some same;
       }
     ];
+    once = all_pairs_push (λ a b. a ≢ b) t.reasons reason t.once new_reason;
     all_followed = λ m n stands is has. elim (source m stands) [
       | before stood same ↦ elim (eqb_tells (variable_of m - 1) (v - 1)) [
         | inl t' ↦
@@ -117,6 +123,15 @@ module _ (live : List LiveClause) (trail : TrailState) (s new : VisitedState) (v
 
     of_v : variable_of here.lit ≡ v
     of_v = omega (arith, here.of_variable, low)
+
+    open_followed : Open ≡ Followed → ⊥
+    open_followed is = cc
+
+    new_reason : (k d : ℕ) → k < length t.reasons → get_or t.reasons k d ≢ reason
+    new_reason k d lt same =
+        let f = t.are_reasons (get_or t.reasons k d) (Contains-get_or t.reasons k d lt) in
+        let is_v = alone (variable_of f.lit) (f.has_reason ∙ ap Some same) in
+        open_followed (sym opened ∙ ap (status_of s.seen) (sym is_v) ∙ f.is_followed)
 
 -- a clause that was resolved, and that something is known of each of its literals
 record IsSpent (live : List LiveClause) (seen : List Seen) (number : ℕ) : Type 0 where
@@ -147,9 +162,9 @@ spent live trail number s resolved r t n among =
           }
 
 -- what is told at the end
-pub comes_by : (store : StoreState) (trail : TrailState) (number : ℕ) (s : VisitedState) (resolved : List ℕ) → AreLive store → AreVisited s → IsResolved store.live trail number 1 s → 0 < trail.current → IsTraced store.live trail.entries number s resolved
+pub comes_by : (store : StoreState) (trail : TrailState) (number : ℕ) (s : VisitedState) (resolved : List ℕ) → IsTrail trail → IsSound store.live trail → IsConflict store.live trail number → AreLive store → AreVisited s → IsResolved store.live trail number 1 s → 0 < trail.current → IsTraced store.live trail.entries number s resolved
     → ComesBy store.live trail number s.lits resolved
-comes_by store trail number s resolved live visited r above t =
+comes_by store trail number s resolved kept sound conflict live visited r above t =
     let part = r.part refl above in
     record {
       from_clause = r.analysed.conflict;
@@ -159,6 +174,7 @@ comes_by store trail number s resolved live visited r above t =
       reasons = t.reasons;
       begins = t.begins;
       are_reasons = λ n among. (let f = t.are_reasons n among in record { lit = f.lit; stands = f.stands; has_reason = f.has_reason });
+      once = (let P : List ℕ → Type 0 = λ ns. AllPairs (λ a b. a ≢ b) ns in subst P (sym t.begins) (AllPairs-cons (λ a b. a ≢ b) number t.reasons apart t.once));
       are_live = λ n among. (let is = spent store.live trail number s resolved r t n among in IsSome-from (clause_numbered store.live n) is.clause is.is_live);
       are_met = record {
         within = ap (λ n. is_within n s.lits) (sym r.analysed.marked.same_vars) ∙ visited.within;
@@ -169,6 +185,11 @@ comes_by store trail number s resolved live visited r above t =
       };
       gave_way = λ l stands. by_status l stands (status s.seen l) refl;
     } where
+      apart : (k d : ℕ) → k < length t.reasons → number ≢ get_or t.reasons k d
+      apart k d lt same =
+          let f = t.are_reasons (get_or t.reasons k d) (Contains-get_or t.reasons k d lt) in
+          conflict_forces_none store.live trail (variable_of f.lit) number kept sound conflict (f.has_reason ∙ ap Some (sym same))
+
       no_other : (l : ℤ) → IsOfOne store.live resolved l → IsListed s.lits (variable_of l)
       no_other l one =
           let is = spent store.live trail number s resolved r t one.number one.among in

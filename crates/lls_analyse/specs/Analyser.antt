@@ -1,5 +1,5 @@
 -- What an analyser is seen as, and what it tells of the last conflict.
-use Rattle.std.specs.Prelude.{◌≡◌, ◌⊎◌, ℕ, ℤ, true, List, [], ◌∷◌, Contains, Some, IsSome}
+use Rattle.std.specs.Prelude.{◌≡◌, ◌≢◌, ◌⊎◌, ℕ, ℤ, true, List, [], ◌∷◌, AllPairs, Contains, Some, IsSome}
 use Rattle.lls_lit.specs.Literal.{variable_of}
 use Rattle.lls_lit.specs.Formula.{is_within}
 use Rattle.lls_prooflog.specs.Spent.{has_variables_once}
@@ -57,6 +57,8 @@ pub record ComesBy (live : List LiveClause) (trail : TrailState) (conflict : ℕ
   pub reasons : List ℕ
   pub begins : resolved ≡ conflict ∷ reasons
   pub are_reasons : (n : ℕ) → Contains reasons n → ForcedOne trail.entries met n
+  -- no clause twice
+  pub once : AllPairs (λ a b. a ≢ b) resolved
   pub are_live : (n : ℕ) → Contains resolved n → IsSome (clause_numbered live n)
   pub are_met : AreMet live trail met resolved
   -- each literal is of the point, or gave way to the clause that forced its negation

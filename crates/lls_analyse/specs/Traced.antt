@@ -1,5 +1,5 @@
 -- For private contracts: the clauses that were resolved, by what is known of the literals that were visited.
-use Rattle.std.specs.Prelude.{◌≡◌, ℕ, ℤ, List, ◌∷◌, Contains, Some}
+use Rattle.std.specs.Prelude.{◌≡◌, ◌≢◌, ℕ, ℤ, List, ◌∷◌, AllPairs, Contains, Some}
 use Rattle.lls_lit.specs.Literal.{variable_of}
 use Rattle.lls_store.specs.Trail.{Entry, reason_of}
 use Rattle.lls_store.specs.Clauses.{LiveClause}
@@ -19,5 +19,6 @@ pub record IsTraced (live : List LiveClause) (entries : List Entry) (number : �
   pub reasons : List ℕ
   pub begins : resolved ≡ number ∷ reasons
   pub are_reasons : (n : ℕ) → Contains reasons n → ForcedFollowed entries s n
+  pub once : AllPairs (λ a b. a ≢ b) reasons
   pub all_followed : (l : ℤ) (n : ℕ) → Contains s.lits l → status s.seen l ≡ Followed → reason_of entries (variable_of l) ≡ Some n → Contains reasons n
   pub of_resolved : (l : ℤ) → Contains s.lits l → IsOfOne live resolved l

@@ -10,6 +10,7 @@ use Rattle.lls_analyse.proofs.Visits.{unlike}
 use Rattle.lls_analyse.proofs.Opens.{open_is}
 use Rattle.lls_analyse.proofs.Resolving.{begins, held_first, same_found}
 use Rattle.lls_analyse.proofs.Followed.{follow_step, held_step, skip_step, var_bounds, forced_step, not_at_end, var_within, ends}
+use Rattle.lls_analyse.proofs.Forcing.{forces_one}
 use Rattle.lls_analyse.proofs.Traces.{traced_first, traced_on}
 use Rattle.lls_analyse.proofs.resolve.resolve.Goals as goal
 
@@ -88,7 +89,7 @@ loop-place-preserved-then-is_open g c =
           let Q : List ℕ → Type 0 = λ ns. IsTraced store.live c.args.trail.now.entries c.args.conflict c.follow.new.visited ns in
           subst Q (sym c.push_reserved-then-is_open.ensures.items)
           (traced_on store.live c.args.trail.now c.loop-place.visited c.follow.new.visited c.var-var.result f.holds.clause c.len-place.ensures.kept h.resolving.visited h.resolving.marked bounds.0 (omega (arith, bounds.0, bounds.1, h.resolving.visited.each, h.resolving.marked.same_vars)) opened now
-          c.args.conflict c.follow.result c.loop-place.resolved.items c.follow.ensures.reason (ap (clause_numbered store.live) (sym same) ∙ f.holds.is_live) h.traced);
+          c.args.conflict c.follow.result c.loop-place.resolved.items c.follow.ensures.reason (λ u of_u. forces_one store.live c.args.trail.now u c.var-var.result c.follow.result c.len-place.ensures.kept c.requires.sound of_u c.follow.ensures.reason) (ap (clause_numbered store.live) (sym same) ∙ f.holds.is_live) h.traced);
       few = omega (arith, h.few, not_at_end store.live c.args.trail.now c.args.conflict c.args.left c.loop-place.visited c.loop-place.place h.resolving more, ap (λ (ns : List ℕ). length ns) c.push_reserved-then-is_open.ensures.items, length_push c.loop-place.resolved.items c.follow.result);
       room_stays = c.push_reserved-then-is_open.ensures.capacity ∙ h.room_stays;
     }
