@@ -1,8 +1,8 @@
 -- The clauses that were resolved, kept on the way back from a conflict, and what is told of them at its end.
-use Rattle.std.proofs.Common.{◌≡◌, ◌≢◌, ℕ, zero, suc, ◌+◌, ◌-◌, ◌<◌, ◌≤◌, Bool, true, false, List, [], ◌∷◌, ◌++◌, length, get_or, set, Some, refl, sym, ap, subst, ◌∙◌, inl, inr, arith}
+use Rattle.std.proofs.Common.{fold, cond, ◌≡◌, ◌≢◌, ℕ, zero, suc, ◌+◌, ◌-◌, ◌<◌, ◌≤◌, Bool, true, false, List, [], ◌∷◌, ◌++◌, length, get_or, set, Some, refl, sym, ap, subst, ◌∙◌, inl, inr, arith}
 use Rattle.std.specs.Prelude.{AllPairs, ℤ, ◌⊎◌, Contains, All}
 use Rattle.std.specs.FinSet as finset
-use Rattle.std.proofs.lemmas.List.{get_or-set_other}
+use Rattle.std.proofs.lemmas.List.{append_assoc, append-nil, get_or-set_other}
 use Rattle.std.proofs.lemmas.Grind.{get_or-set_at}
 use Rattle.std.proofs.lemmas.List.Quantifiers.{all_pairs_push}
 use Rattle.std.proofs.lemmas.List.Kept.{AllPairs-cons}
@@ -11,15 +11,15 @@ use Rattle.std.proofs.lemmas.Bool.Decides.{eqb_tells}
 use Rattle.lls_lit.specs.Literal.{variable_of}
 use Rattle.lls_lit.specs.Formula.{is_within}
 use Rattle.lls_store.specs.Trail.{TrailState, HasNegated, IsTrail, reason_of}
-use Rattle.lls_store.specs.Clauses.{LiveClause, IsIn, clause_numbered}
+use Rattle.lls_store.specs.Clauses.{LiveClause, Literals, IsIn, clause_numbered}
 use Rattle.lls_store.specs.Sound.{IsSound}
 use Rattle.lls_store.specs.Store.{StoreState, AreLive, IsConflict}
 use Rattle.lls_store.proofs.Tabled.{variable_bounds}
 use Rattle.lls_analyse.specs.declared.visited.Seen.{Seen}
 use Rattle.lls_analyse.specs.declared.visited.Seen.TheVariants.{No, Open, Kept, Followed}
 use Rattle.lls_analyse.specs.Visited.{VisitedState, AreVisited, IsListed, is_seen, is_held, status, status_of}
-use Rattle.lls_analyse.specs.Marked.{AreMarked, IsResolved, nothing_seen}
-use Rattle.lls_analyse.specs.Analyser.{IsOfOne, IsForcedByOne, ComesBy}
+use Rattle.lls_analyse.specs.Marked.{holding, held_in, AreMarked, HoldsClause, IsResolved, nothing_seen}
+use Rattle.lls_analyse.specs.Analyser.{BeginsWith, IsOfOne, IsForcedByOne, ComesBy}
 use Rattle.lls_analyse.specs.Traced.{IsTraced}
 use Rattle.lls_analyse.proofs.Visits.{unlike}
 use Rattle.lls_analyse.proofs.Trails.{false_within, consistent_trail}
@@ -35,20 +35,57 @@ pub record IsTracing (live : List LiveClause) (trail : TrailState) (number left 
   pub few : length resolved + place ≤ length trail.entries + 1
   pub room_stays : room ≡ room_before
 
+-- literals that were held were put behind those that were visited
+grown : (trail : TrailState) (s : VisitedState) (lits : List ℤ) → (added : List ℤ) × ((fold (held_in trail) s lits).lits ≡ s.lits ++ added)
+grown trail s [] = ([], sym (append-nil s.lits))
+grown trail s (l ∷ ls) =
+    let (first, is_first) = by_test (is_seen (status s.seen l)) in
+    let (rest, is_rest) = grown trail (held_in trail s l) ls in
+    (first ++ rest, is_rest ∙ ap (λ xs. xs ++ rest) is_first ∙ append_assoc s.lits first rest) where
+      by_test : (b : Bool) → (added : List ℤ) × ((cond b s (record { vars = s.vars; seen = set s.seen (variable_of l - 1) (holding trail l); lits = s.lits ++ l ∷ [] })).lits ≡ s.lits ++ added)
+      by_test true = ([], sym (append-nil s.lits))
+      by_test false = (l ∷ [], refl)
+
+pub grown_by : (live : List LiveClause) (trail : TrailState) (old new : VisitedState) (number : ℕ) → HoldsClause live trail old new number → (added : List ℤ) × (new.lits ≡ old.lits ++ added)
+grown_by live trail old new number h =
+    let (added, is) = grown trail old h.lits in
+    (added, ap (λ (s : VisitedState). s.lits) h.held ∙ is)
+
+begins_longer : (lits : Literals) (met longer added : List ℤ) → longer ≡ met ++ added → BeginsWith lits met → BeginsWith lits longer
+begins_longer lits met longer added is b = record {
+  own = b.own;
+  others = b.others ++ added;
+  parts = is ∙ ap (λ xs. xs ++ added) b.parts ∙ append_assoc b.own b.others added;
+  each_own = b.each_own;
+  all_own = b.all_own;
+}
+
 -- where nothing was followed, the conflict alone is resolved
-pub traced_first : (live : List LiveClause) (trail : TrailState) (number : ℕ) (s : VisitedState) (clause : LiveClause) → clause_numbered live number ≡ Some clause → HeldClause live trail (nothing_seen trail.vars) s clause → IsTraced live trail.entries number s (number ∷ [])
-traced_first live trail number s clause is_live now = record {
+pub traced_first : (live : List LiveClause) (trail : TrailState) (number : ℕ) (s : VisitedState) (clause : LiveClause) → IsTrail trail → IsConflict live trail number → clause_numbered live number ≡ Some clause → HeldClause live trail (nothing_seen trail.vars) s clause
+    → IsTraced live trail.entries number s (number ∷ [])
+traced_first live trail number s clause kept conflict is_live now = record {
+  conflict = clause;
+  is_live = is_live;
+  conflict_first = record {
+    own = s.lits;
+    others = [];
+    parts = sym (append-nil s.lits);
+    each_own = λ l stands. (first_held live trail s clause now l stands).0;
+    all_own = λ l inside. (let is = false_ l inside in visited_contains trail.entries s l (consistent_trail trail kept) now.visited now.marked.all_false is (false_within trail l kept is).0 (now.all_seen l inside));
+  };
   reasons = [];
   begins = refl;
   are_reasons = λ n (k, lt, at). absurd (omega (arith, lt));
   once = λ i j d before lt. absurd (omega (arith, lt));
   all_followed = λ l n stands is _. absurd (unlike (first_held live trail s clause now l stands).1 (ap is_held is));
   of_resolved = λ l stands. record { number = number; clause = clause; among = (0, omega arith, refl); is_live = is_live; is_in = (first_held live trail s clause now l stands).0 };
-}
+} where
+  false_ : (l : ℤ) → IsIn clause.lits l → HasNegated trail.entries l
+  false_ l inside = conflict.all_false l (ap (λ (c : LiveClause). finset.contains c.lits l) (same_found conflict.clause clause conflict.is_live is_live) ∙ inside)
 
 -- an open literal was followed, and the literals of the clause that forced its negation are held
 module _ (live : List LiveClause) (trail : TrailState) (s new : VisitedState) (v : ℕ) (clause : LiveClause) (kept : IsTrail trail) (visited : AreVisited s) (marked : AreMarked trail s)
-    (low : 1 ≤ v) (inside : v - 1 < length s.seen) (opened : status_of s.seen v ≡ Open) (now : HeldClause live trail (record s { seen = set s.seen (v - 1) Followed }) new clause) where
+    (low : 1 ≤ v) (inside : v - 1 < length s.seen) (opened : status_of s.seen v ≡ Open) (now : HeldClause live trail (record s { seen = set s.seen (v - 1) Followed }) new clause) (added : List ℤ) (longer : new.lits ≡ s.lits ++ added) where
   mid_at : (m : ℤ) → variable_of m - 1 ≡ v - 1 → status (set s.seen (v - 1) Followed) m ≡ Followed
   mid_at m same = get_or-set_at s.seen (v - 1) (variable_of m - 1) Followed No same inside
 
@@ -87,6 +124,9 @@ module _ (live : List LiveClause) (trail : TrailState) (s new : VisitedState) (v
   -- the clause is resolved too
   pub traced_on : (number reason : ℕ) (resolved : List ℕ) → reason_of trail.entries v ≡ Some reason → ((u : ℕ) → reason_of trail.entries u ≡ Some reason → u ≡ v) → clause_numbered live reason ≡ Some clause → IsTraced live trail.entries number s resolved → IsTraced live trail.entries number new (resolved ++ reason ∷ [])
   traced_on number reason resolved has_reason alone is_live t = record {
+    conflict = t.conflict;
+    is_live = t.is_live;
+    conflict_first = begins_longer t.conflict.lits s.lits new.lits added longer t.conflict_first;
     reasons = t.reasons ++ reason ∷ [];
     begins = ap (λ ns. ns ++ reason ∷ []) t.begins;
     are_reasons = λ n among. elim (Contains-push_cases t.reasons reason n among) [
@@ -183,6 +223,7 @@ comes_by store trail number s resolved kept sound conflict live visited r above 
         of_resolved = t.of_resolved;
         no_other = no_other;
       };
+      conflict_first = (let P : LiveClause → Type 0 = λ c. BeginsWith c.lits s.lits in subst P (same_found t.conflict r.analysed.conflict t.is_live r.analysed.is_live) t.conflict_first);
       gave_way = λ l stands. by_status l stands (status s.seen l) refl;
     } where
       apart : (k d : ℕ) → k < length t.reasons → number ≢ get_or t.reasons k d

@@ -1,5 +1,5 @@
 -- What an analyser is seen as, and what it tells of the last conflict.
-use Rattle.std.specs.Prelude.{◌≡◌, ◌≢◌, ◌⊎◌, ℕ, ℤ, true, List, [], ◌∷◌, AllPairs, Contains, Some, IsSome}
+use Rattle.std.specs.Prelude.{◌≡◌, ◌≢◌, ◌⊎◌, ℕ, ℤ, true, List, [], ◌∷◌, ◌++◌, AllPairs, Contains, Some, IsSome}
 use Rattle.lls_lit.specs.Literal.{variable_of}
 use Rattle.lls_lit.specs.Formula.{is_within}
 use Rattle.lls_prooflog.specs.Spent.{has_variables_once}
@@ -40,6 +40,14 @@ pub record IsForcedByOne (entries : List Entry) (numbers : List ℕ) (l : ℤ) :
   pub among : Contains numbers number
   pub has_reason : reason_of entries (variable_of l) ≡ Some number
 
+-- first the literals of the clause stand there
+pub record BeginsWith (lits : Literals) (met : List ℤ) : Type 0 where
+  pub own : List ℤ
+  pub others : List ℤ
+  pub parts : met ≡ own ++ others
+  pub each_own : (l : ℤ) → Contains own l → IsIn lits l
+  pub all_own : (l : ℤ) → IsIn lits l → Contains own l
+
 -- the literals that were met: false, and one of each variable that a resolved clause has
 pub record AreMet (live : List LiveClause) (trail : TrailState) (met : List ℤ) (resolved : List ℕ) : Type 0 where
   pub within : is_within trail.vars met ≡ true
@@ -61,5 +69,6 @@ pub record ComesBy (live : List LiveClause) (trail : TrailState) (conflict : ℕ
   pub once : AllPairs (λ a b. a ≢ b) resolved
   pub are_live : (n : ℕ) → Contains resolved n → IsSome (clause_numbered live n)
   pub are_met : AreMet live trail met resolved
+  pub conflict_first : BeginsWith from_clause.lits met
   -- each literal is of the point, or gave way to the clause that forced its negation
   pub gave_way : (l : ℤ) → Contains met l → IsIn uip l ⊎ IsForcedByOne trail.entries reasons l

@@ -1,9 +1,9 @@
-use Rattle.std.proofs.Common.{◌-◌, ◌≡◌, ◌≢◌, ◌<◌, ◌∷◌, ◌++◌, [], length, refl, sym, ap, subst, ◌∙◌, arith}
+use Rattle.std.proofs.Common.{◌-◌, ◌≡◌, ◌≢◌, ◌<◌, ◌∷◌, ◌++◌, [], length, set, refl, sym, ap, subst, ◌∙◌, arith}
 use Rattle.std.specs.Prelude.{ℕ, List, count_by}
 use Rattle.std.proofs.lemmas.List.{length_push}
 use Rattle.lls_store.specs.Clauses.{clause_numbered}
 use Rattle.lls_analyse.specs.Traced.{IsTraced}
-use Rattle.lls_analyse.specs.declared.visited.Seen.TheVariants.{Open}
+use Rattle.lls_analyse.specs.declared.visited.Seen.TheVariants.{Open, Followed}
 use Rattle.lls_analyse.specs.Visited.{VisitedState, is_open, status_of}
 use Rattle.lls_analyse.specs.Marked.{HoldsClause}
 use Rattle.lls_analyse.proofs.Visits.{unlike}
@@ -11,7 +11,7 @@ use Rattle.lls_analyse.proofs.Opens.{open_is}
 use Rattle.lls_analyse.proofs.Resolving.{begins, held_first, same_found}
 use Rattle.lls_analyse.proofs.Followed.{follow_step, held_step, skip_step, var_bounds, forced_step, not_at_end, var_within, ends}
 use Rattle.lls_analyse.proofs.Forcing.{forces_one}
-use Rattle.lls_analyse.proofs.Traces.{traced_first, traced_on}
+use Rattle.lls_analyse.proofs.Traces.{grown_by, traced_first, traced_on}
 use Rattle.lls_analyse.proofs.resolve.resolve.Goals as goal
 
 pub loop-place-init : goal.loop-place-init
@@ -24,7 +24,7 @@ loop-place-init g c =
       traced =
           let Q : List ℕ → Type 0 = λ ns. IsTraced store.live c.args.trail.now.entries c.args.conflict c.hold_clause.new.visited ns in
           subst Q (sym (c.push_reserved.ensures.items ∙ ap (λ ns. ns ++ c.args.conflict ∷ []) c.requires.empty))
-          (traced_first store.live c.args.trail.now c.args.conflict c.hold_clause.new.visited held.clause held.is_live (held_first store c.args.trail.now c.args.conflict c.hold_clause.new.visited c.len-place.ensures.kept c.requires.live c.requires.store_vars c.requires.conflict held));
+          (traced_first store.live c.args.trail.now c.args.conflict c.hold_clause.new.visited held.clause c.len-place.ensures.kept c.requires.conflict held.is_live (held_first store c.args.trail.now c.args.conflict c.hold_clause.new.visited c.len-place.ensures.kept c.requires.live c.requires.store_vars c.requires.conflict held));
       few = omega (arith, c.len-place.ensures.len, ap (λ (ns : List ℕ). length ns) (c.push_reserved.ensures.items ∙ ap (λ ns. ns ++ c.args.conflict ∷ []) c.requires.empty));
       room_stays = refl;
     }
@@ -81,6 +81,7 @@ loop-place-preserved-then-is_open g c =
     let h = c.loop-place.invariant in
     let f = c.follow.ensures.follows in
     let now = held_step store c.args.trail.now c.args.conflict c.args.left c.loop-place.visited c.follow.new.visited c.loop-place.place c.var-var.result c.lit.result c.len-place.ensures.kept c.requires.live c.requires.store_vars c.requires.sound h.resolving more c.lit.ensures c.var-var.ensures.var opened f in
+    let longer = grown_by store.live c.args.trail.now (record c.loop-place.visited { seen = set c.loop-place.visited.seen (c.var-var.result - 1) Followed }) c.follow.new.visited f.reason f.holds in
     let bounds = var_bounds c.args.trail.now (c.loop-place.place - 1) c.var-var.result c.lit.result c.len-place.ensures.kept c.lit.ensures c.var-var.ensures.var in
     let same : f.reason ≡ c.follow.result = same_found f.reason c.follow.result f.has_reason c.follow.ensures.reason in
     record {
@@ -88,7 +89,7 @@ loop-place-preserved-then-is_open g c =
       traced =
           let Q : List ℕ → Type 0 = λ ns. IsTraced store.live c.args.trail.now.entries c.args.conflict c.follow.new.visited ns in
           subst Q (sym c.push_reserved-then-is_open.ensures.items)
-          (traced_on store.live c.args.trail.now c.loop-place.visited c.follow.new.visited c.var-var.result f.holds.clause c.len-place.ensures.kept h.resolving.visited h.resolving.marked bounds.0 (omega (arith, bounds.0, bounds.1, h.resolving.visited.each, h.resolving.marked.same_vars)) opened now
+          (traced_on store.live c.args.trail.now c.loop-place.visited c.follow.new.visited c.var-var.result f.holds.clause c.len-place.ensures.kept h.resolving.visited h.resolving.marked bounds.0 (omega (arith, bounds.0, bounds.1, h.resolving.visited.each, h.resolving.marked.same_vars)) opened now longer.0 longer.1
           c.args.conflict c.follow.result c.loop-place.resolved.items c.follow.ensures.reason (λ u of_u. forces_one store.live c.args.trail.now u c.var-var.result c.follow.result c.len-place.ensures.kept c.requires.sound of_u c.follow.ensures.reason) (ap (clause_numbered store.live) (sym same) ∙ f.holds.is_live) h.traced);
       few = omega (arith, h.few, not_at_end store.live c.args.trail.now c.args.conflict c.args.left c.loop-place.visited c.loop-place.place h.resolving more, ap (λ (ns : List ℕ). length ns) c.push_reserved-then-is_open.ensures.items, length_push c.loop-place.resolved.items c.follow.result);
       room_stays = c.push_reserved-then-is_open.ensures.capacity ∙ h.room_stays;
