@@ -114,7 +114,7 @@ impl Analyser {
     }
 
     /// Learns a clause from a conflict that has a literal of the current level, which is above 0: adds it to the store under
-    /// the id, and its addition to the log.
+    /// the id, and its addition to the log. What resolution came by is told after it, by `met` and `resolved`.
     pub fn learn<S: Store>(
         &mut self,
         store: &mut S,
@@ -168,7 +168,7 @@ impl Analyser {
         }
     }
 
-    /// Derives the empty clause from a conflict at level 0: adds its addition to the log, under the id.
+    /// Derives the empty clause from a conflict at level 0: adds its addition to the log, under the id. Nothing is told after it.
     pub fn refute<S: Store>(
         &mut self,
         store: &S,

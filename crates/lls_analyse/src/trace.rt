@@ -4,7 +4,6 @@ ghost use Rattle.lls_store.specs.Sound.{IsSound};
 ghost use Rattle.lls_store.specs.Store.{AreLive};
 ghost use Rattle.lls_store.specs.Trail.{IsTrail};
 ghost use Rattle.lls_analyse.specs.Learnt.{IsCurrentConflict};
-ghost use Rattle.lls_analyse.specs.Visited.{AreVisited};
 ghost use Rattle.lls_analyse.specs.Marked.{IsResolved, nothing_seen};
 ghost use Rattle.lls_analyse.specs.Analyser.{ComesBy};
 
