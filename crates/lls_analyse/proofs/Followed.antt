@@ -320,16 +320,14 @@ module _ (live : List LiveClause) (trail : TrailState) (number left : ℕ) (s : 
       leads_on = λ one. follow_leads one (h.leads_on one);
     }
 
--- the literal at the place is followed
-pub follows : (store : StoreState) (trail : TrailState) (number left : ℕ) (s new : VisitedState) (k : ℕ) (e : Entry) → IsTrail trail → AreLive store → store.vars ≡ trail.vars → IsSound store.live trail
-    → IsResolving store.live trail number left s (k + 1) → slice_get trail.entries k ≡ Some e → status_of s.seen (variable_of e.lit) ≡ Open → left < count_by is_open s.seen → Follows store.live trail s new (variable_of e.lit)
-    → IsResolving store.live trail number left new k
+-- the others of the clause that forced the literal at the place are held
+pub others_held : (store : StoreState) (trail : TrailState) (number left : ℕ) (s new : VisitedState) (k : ℕ) (e : Entry) → IsTrail trail → AreLive store → store.vars ≡ trail.vars → IsSound store.live trail
+    → IsResolving store.live trail number left s (k + 1) → slice_get trail.entries k ≡ Some e → status_of s.seen (variable_of e.lit) ≡ Open → (f : Follows store.live trail s new (variable_of e.lit))
+    → HeldClause store.live trail (record s { seen = set s.seen (variable_of e.lit - 1) Followed }) new f.holds.clause
 unfolding l mid
-follows store trail number left s new k e kept live vars sound h here opened more f =
-    let c = f.holds.clause in
-    let now = held_clause store trail (mid store.live trail number left s k e kept h here opened) new f.reason kept live vars (mid_visited store.live trail number left s k e kept h here opened) (mid_marked store.live trail number left s k e kept h here opened) f.holds
-    (λ m within unseen. by_other m within unseen (int_eq m e.lit) refl) in
-    followed_on store.live trail number left s k e kept h here opened store refl live vars sound new f.reason f.has_reason c f.holds.is_live now more
+others_held store trail number left s new k e kept live vars sound h here opened f =
+    held_clause store trail (mid store.live trail number left s k e kept h here opened) new f.reason kept live vars (mid_visited store.live trail number left s k e kept h here opened) (mid_marked store.live trail number left s k e kept h here opened) f.holds
+    (λ m within unseen. by_other m within unseen (int_eq m e.lit) refl)
   where
     reasoned : e.reason ≡ Some f.reason
     reasoned = sym (reason_is store.live trail number left s k e kept h here opened) ∙ f.has_reason
@@ -339,6 +337,14 @@ follows store trail number left s new k e kept live vars sound h here opened mor
         absurd (unlike (ap is_seen (mid_at store.live trail number left s k e kept h here opened m (ap (λ x. variable_of x - 1) ((Decides-int_eq m e.lit).0 is)))) unseen)
     by_other m within unseen false is =
         has_taken trail.entries k (negation m) (others_earlier store.live trail k e f.reason f.holds.clause sound here reasoned f.holds.is_live m within (λ same. unlike ((Decides-int_eq m e.lit).1 same) is))
+
+-- the literal at the place is followed
+pub follows : (store : StoreState) (trail : TrailState) (number left : ℕ) (s new : VisitedState) (k : ℕ) (e : Entry) → IsTrail trail → AreLive store → store.vars ≡ trail.vars → IsSound store.live trail
+    → IsResolving store.live trail number left s (k + 1) → slice_get trail.entries k ≡ Some e → status_of s.seen (variable_of e.lit) ≡ Open → left < count_by is_open s.seen → Follows store.live trail s new (variable_of e.lit)
+    → IsResolving store.live trail number left new k
+unfolding l mid
+follows store trail number left s new k e kept live vars sound h here opened more f =
+    followed_on store.live trail number left s k e kept h here opened store refl live vars sound new f.reason f.has_reason f.holds.clause f.holds.is_live (others_held store trail number left s new k e kept live vars sound h here opened f) more
 
 -- a clause forced the literal at the place
 pub forced_here : (live : List LiveClause) (trail : TrailState) (number left : ℕ) (s : VisitedState) (k : ℕ) (e : Entry) → IsTrail trail → IsResolving live trail number left s (k + 1) → slice_get trail.entries k ≡ Some e → status_of s.seen (variable_of e.lit) ≡ Open
@@ -414,6 +420,17 @@ follow_step store trail number left s new place v lit kept live vars sound h mor
     let Q : ℕ → Type 0 = λ n. Follows store.live trail s new n in
     follows store trail number left s new (place - 1) e kept live vars sound (subst P (one_less place (not_at_end store.live trail number left s place h more)) h) at.0 (ap (status_of s.seen) (sym same) ∙ opened) more (subst Q same f)
 
+-- so the others of the clause are held
+pub held_step : (store : StoreState) (trail : TrailState) (number left : ℕ) (s new : VisitedState) (place v : ℕ) (lit : ℤ) → IsTrail trail → AreLive store → store.vars ≡ trail.vars → IsSound store.live trail
+    → IsResolving store.live trail number left s place → left < count_by is_open s.seen → slice_get (literals_of trail.entries) (place - 1) ≡ Some lit → v ≡ variable_of lit → status_of s.seen v ≡ Open → (f : Follows store.live trail s new v)
+    → HeldClause store.live trail (record s { seen = set s.seen (v - 1) Followed }) new f.holds.clause
+held_step store trail number left s new place v lit kept live vars sound h more here var opened f =
+    let (e, at) = entry_with trail.entries (place - 1) lit here in
+    let same : v ≡ variable_of e.lit = var ∙ ap variable_of (sym at.1) in
+    let P : ℕ → Type 0 = λ n. IsResolving store.live trail number left s n in
+    let Q : ℕ → Type 0 = λ n. (g : Follows store.live trail s new n) → HeldClause store.live trail (record s { seen = set s.seen (n - 1) Followed }) new g.holds.clause in
+    subst Q (sym same) (others_held store trail number left s new (place - 1) e kept live vars sound (subst P (one_less place (not_at_end store.live trail number left s place h more)) h) at.0 (ap (status_of s.seen) (sym same) ∙ opened)) f
+
 pub skip_step : (store : StoreState) (trail : TrailState) (number left : ℕ) (s : VisitedState) (place v : ℕ) (lit : ℤ) → IsTrail trail → IsResolving store.live trail number left s place → left < count_by is_open s.seen → slice_get (literals_of trail.entries) (place - 1) ≡ Some lit → v ≡ variable_of lit
     → status_of s.seen v ≢ Open → IsResolving store.live trail number left s (place - 1)
 skip_step store trail number left s place v lit kept h more here var shut =
@@ -431,8 +448,11 @@ forced_step store trail number left s place v lit kept h more here var opened ca
     let Q : ℕ → Type 0 = λ n. IsSome (reason_of trail.entries n) in
     subst Q (sym same) (forced_here store.live trail number left s (place - 1) e kept (subst P (one_less place (not_at_end store.live trail number left s place h more)) h) at.0 (ap (status_of s.seen) (sym same) ∙ opened) can more)
 
-pub var_within : (trail : TrailState) (k v : ℕ) (lit : ℤ) → IsTrail trail → slice_get (literals_of trail.entries) k ≡ Some lit → v ≡ variable_of lit → v ≤ trail.vars
-var_within trail k v lit kept here var =
+pub var_bounds : (trail : TrailState) (k v : ℕ) (lit : ℤ) → IsTrail trail → slice_get (literals_of trail.entries) k ≡ Some lit → v ≡ variable_of lit → (1 ≤ v) × (v ≤ trail.vars)
+var_bounds trail k v lit kept here var =
     let (e, at) = entry_with trail.entries k lit here in
     let bounds = false_within trail (negation lit) kept (ap (has trail.entries) (negation_twice lit ∙ sym at.1) ∙ has_here trail.entries k e at.0) in
-    omega (arith, var, bounds.1, variable_of-negation lit)
+    (omega (arith, var, bounds.0, variable_of-negation lit), omega (arith, var, bounds.1, variable_of-negation lit))
+
+pub var_within : (trail : TrailState) (k v : ℕ) (lit : ℤ) → IsTrail trail → slice_get (literals_of trail.entries) k ≡ Some lit → v ≡ variable_of lit → v ≤ trail.vars
+var_within trail k v lit kept here var = (var_bounds trail k v lit kept here var).1

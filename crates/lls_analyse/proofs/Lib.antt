@@ -6,6 +6,8 @@ pub mod Holds
 pub mod Opens
 pub mod Resolving
 pub mod Followed
+pub mod Forcing
+pub mod Traces
 pub mod Resolvents
 pub mod HintLists
 pub mod Clauses

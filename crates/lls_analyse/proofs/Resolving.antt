@@ -88,18 +88,26 @@ held_seen Open is = refl
 held_seen Kept is = refl
 held_seen Followed is = absurd cc
 
--- at first
+-- at first the literals of the conflict are held
+pub held_first : (store : StoreState) (trail : TrailState) (number : ℕ) (s : VisitedState) → IsTrail trail → AreLive store → store.vars ≡ trail.vars → IsConflict store.live trail number
+    → (h : HoldsClause store.live trail (nothing_seen trail.vars) s number) → HeldClause store.live trail (nothing_seen trail.vars) s h.clause
+held_first store trail number s kept live vars conflict h =
+    let of_conflict : conflict.clause ≡ h.clause = same_found conflict.clause h.clause conflict.is_live h.is_live in
+    held_clause store trail (nothing_seen trail.vars) s number kept live vars (AreVisited-nothing trail.vars kept.vars_fit)
+    (record { same_vars = refl; all_false = λ l (k, lt, at). absurd (omega (arith, lt)); current = λ l (k, lt, at). absurd (omega (arith, lt)); lower = λ l (k, lt, at). absurd (omega (arith, lt)) })
+    h (λ l inside _. conflict.all_false l (ap (λ (c : LiveClause). set.contains c.lits l) of_conflict ∙ inside))
+
+-- and no other
+pub first_held : (live : List LiveClause) (trail : TrailState) (s : VisitedState) (clause : LiveClause) → HeldClause live trail (nothing_seen trail.vars) s clause → (l : ℤ) → Contains s.lits l → IsIn clause.lits l × (is_held (status s.seen l) ≡ true)
+first_held live trail s clause now l stands = now.newly l (now.marked.all_false l stands) (ap is_seen (get_or-nothing trail.vars (variable_of l - 1))) (now.visited.all_seen l stands)
+
 pub begins : (store : StoreState) (trail : TrailState) (number left : ℕ) (s : VisitedState) → IsTrail trail → AreLive store → store.vars ≡ trail.vars → IsConflict store.live trail number → CanLeave store.live trail number left
     → HoldsClause store.live trail (nothing_seen trail.vars) s number → IsResolving store.live trail number left s (length trail.entries)
 begins store trail number left s kept live vars conflict can h =
-    let old = nothing_seen trail.vars in
-    let unseen : (l : ℤ) → is_seen (status old.seen l) ≡ false = λ l. ap is_seen (get_or-nothing trail.vars (variable_of l - 1)) in
     let of_conflict : conflict.clause ≡ h.clause = same_found conflict.clause h.clause conflict.is_live h.is_live in
     let false_ : (l : ℤ) → IsIn h.clause.lits l → HasNegated trail.entries l = λ l inside. conflict.all_false l (ap (λ (c : LiveClause). set.contains c.lits l) of_conflict ∙ inside) in
-    let now = held_clause store trail old s number kept live vars (AreVisited-nothing trail.vars kept.vars_fit)
-    (record { same_vars = refl; all_false = λ l (k, lt, at). absurd (omega (arith, lt)); current = λ l (k, lt, at). absurd (omega (arith, lt)); lower = λ l (k, lt, at). absurd (omega (arith, lt)) })
-    h (λ l inside _. false_ l inside) in
-    let new_at : (l : ℤ) → Contains s.lits l → IsIn h.clause.lits l × (is_held (status s.seen l) ≡ true) = λ l stands. now.newly l (now.marked.all_false l stands) (unseen l) (now.visited.all_seen l stands) in
+    let now = held_first store trail number s kept live vars conflict h in
+    let new_at = first_held store.live trail s h.clause now in
     let stands_in : (l : ℤ) → IsIn h.clause.lits l → Contains s.lits l = λ l inside.
     visited_contains trail.entries s l (consistent_trail trail kept) now.visited now.marked.all_false (false_ l inside) (false_within trail l kept (false_ l inside)).0 (now.all_seen l inside) in
     record {

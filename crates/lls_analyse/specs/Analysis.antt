@@ -1,6 +1,7 @@
 -- For private contracts: what comes of an analysis.
-use Rattle.std.specs.Prelude.{◌≡◌, ◌≤◌, ◌<◌, ℕ, ℤ, List}
+use Rattle.std.specs.Prelude.{◌≡◌, ◌≤◌, ◌<◌, ℕ, ℤ, true, List}
 use Rattle.lls_lit.specs.declared.var.TheConstants.Var.{MOST}
+use Rattle.lls_lit.specs.Formula.{is_within}
 use Rattle.lls_store.specs.Trail.{TrailState}
 use Rattle.lls_store.specs.Clauses.{LiveClause}
 use Rattle.lls_analyse.specs.Visited.{VisitedState, AreVisited}
@@ -30,3 +31,9 @@ pub record IsReady (vars : ℕ) (s : VisitedState) (clause_room places_room hint
   pub clause_fits : vars ≤ clause_room
   pub places_fit : vars ≤ places_room
   pub hints_fit : vars < hints_room
+
+-- the literals are of the variables, and there is room for all literals and numbers
+pub record CanTell (vars : ℕ) (met : List ℤ) (met_room resolved_room : ℕ) : Type 0 where
+  pub within : is_within vars met ≡ true
+  pub met_fits : vars ≤ met_room
+  pub resolved_fits : vars < resolved_room

@@ -6,3 +6,5 @@ pub mod Marked
 pub mod Gathered
 pub mod Minimised
 pub mod Analysis
+pub mod Analyser
+pub mod Traced

@@ -3,7 +3,7 @@ ghost use Rattle.std.specs.Prelude.{◌≡◌, ◌≤◌, ◌<◌, [], vec_capac
 ghost use Rattle.lls_store.specs.Sound.{IsSound};
 ghost use Rattle.lls_store.specs.Store.{AreLive, IsConflict};
 ghost use Rattle.lls_store.specs.Trail.{IsTrail};
-ghost use Rattle.lls_analyse.specs.Marked.{CanLeave, nothing_seen};
+ghost use Rattle.lls_analyse.specs.Marked.{CanLeave, IsResolved, nothing_seen};
 ghost use Rattle.lls_analyse.specs.Analysis.{IsAnalysis, IsRefutation};
 
 use crate::clause::gather_clause;
@@ -23,7 +23,7 @@ fn clear(visited: &mut Visited)
     }
 }
 
-// Goes back from a conflict to one literal of the current level, minimises the clause, and gathers it and its hints.
+// Minimises the clause to which the way back from a conflict led, and gathers it and its hints.
 pub(crate) fn analyse<S: Store>(
     visited: &mut Visited,
     trail: &Trail,
@@ -33,13 +33,11 @@ pub(crate) fn analyse<S: Store>(
     places: &mut Vec<usize>,
     hints: &mut Vec<i64>,
 )
-    requires start { visited.old ≡ nothing_seen trail.now.vars }
     requires store_vars { (S.state store.now).vars ≡ trail.now.vars }
     requires live { AreLive (S.state store.now) }
     requires kept { IsTrail trail.now }
     requires sound { IsSound (S.state store.now).live trail.now }
-    requires conflict { IsConflict (S.state store.now).live trail.now conflict }
-    requires one { CanLeave (S.state store.now).live trail.now conflict 1 }
+    requires resolved { IsResolved (S.state store.now).live trail.now conflict 1 visited.old }
     requires room_for_clause { trail.now.vars ≤ vec_capacity clause.old }
     requires room_for_places { trail.now.vars ≤ vec_capacity places.old }
     requires room_for_hints { trail.now.vars < vec_capacity hints.old }
@@ -49,7 +47,6 @@ pub(crate) fn analyse<S: Store>(
     ensures room_for_places { vec_capacity places.new ≡ vec_capacity places.old }
     ensures room_for_hints { vec_capacity hints.new ≡ vec_capacity hints.old }
 {
-    resolve(visited, trail, store, conflict, 1);
     minimise(visited, trail, store);
     places.clear();
     hints.clear();
@@ -65,6 +62,7 @@ pub(crate) fn analyse_at_zero<S: Store>(
     trail: &Trail,
     store: &S,
     conflict: u32,
+    resolved: &mut Vec<u32>,
     places: &mut Vec<usize>,
     hints: &mut Vec<i64>,
 )
@@ -75,14 +73,19 @@ pub(crate) fn analyse_at_zero<S: Store>(
     requires sound { IsSound (S.state store.now).live trail.now }
     requires conflict { IsConflict (S.state store.now).live trail.now conflict }
     requires none { CanLeave (S.state store.now).live trail.now conflict 0 }
+    requires room_for_resolved { trail.now.vars < vec_capacity resolved.old }
     requires room_for_places { trail.now.vars ≤ vec_capacity places.old }
     requires room_for_hints { trail.now.vars < vec_capacity hints.old }
     ensures end { visited.new ≡ nothing_seen trail.now.vars }
     ensures refutation { IsRefutation (S.state store.now).live trail.now conflict hints.new.items }
+    ensures resolved { resolved.new.items ≡ [] }
+    ensures room_for_resolved { vec_capacity resolved.new ≡ vec_capacity resolved.old }
     ensures room_for_places { vec_capacity places.new ≡ vec_capacity places.old }
     ensures room_for_hints { vec_capacity hints.new ≡ vec_capacity hints.old }
 {
-    resolve(visited, trail, store, conflict, 0);
+    resolved.clear();
+    resolve(visited, trail, store, conflict, 0, resolved);
+    resolved.clear();
     places.clear();
     hints.clear();
     gather_hints(visited, trail, store, conflict, places, hints);

@@ -7,6 +7,7 @@ mod clause;
 mod hints;
 mod minimise;
 mod resolve;
+mod trace;
 mod visited;
 
 pub use analyser::{Analyser, Learnt};

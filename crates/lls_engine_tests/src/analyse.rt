@@ -132,7 +132,7 @@ fn learn<S: Store>(
     requires tracked { S.tracks store.old trail.old }
     requires sound { IsSound (S.state store.old).live trail.old }
     requires at_rest { IsAtRest (S.state store.old) }
-    requires analyser { analyser.old ≡ VARS }
+    requires analyser { analyser.old.vars ≡ VARS }
 {
     let conflict = store.propagate(trail).ok_or("a false clause")?;
     analyser.reserve_conflict(store, log)?;
@@ -166,8 +166,22 @@ fn assert_learnt(rt: &impl Abort, alloc: Global, learnt: Learnt, log: &Log) -> R
     Ok(())
 }
 
+fn assert_told(rt: &impl Abort, analyser: &Analyser) -> Result<(), Fail> {
+    let met = [
+        literal(-3)?,
+        literal(-5)?,
+        literal(-6)?,
+        literal(-7)?,
+        literal(-2)?,
+    ];
+    assert_eq!(rt; analyser.met(), met.as_slice());
+    assert_eq!(rt; analyser.resolved(), [5, 4].as_slice());
+    Ok(())
+}
+
 // Back from the last clause -6 gives way, which brings -2; then -5 alone is of the current level. The others imply -7 by the
-// first clause, and -3 by the third, so -5 -2 is left. Its hints are those of 7, 3 and 6, and then the last clause.
+// first clause, and -3 by the third, so -5 -2 is left. Its hints are those of 7, 3 and 6, and then the last clause. Resolution came
+// by the four literals of the last clause and then by -2, and took the last clause and that of 6, which are 5 and 4 from 0.
 #[test]
 fn a_conflict_is_learnt_as_worked(rt: HostRuntime) -> Result<(), Fail> {
     let mut store = ScanStore::new(rt.alloc(), VARS);
@@ -176,5 +190,6 @@ fn a_conflict_is_learnt_as_worked(rt: HostRuntime) -> Result<(), Fail> {
     let mut log = Log::new(rt.alloc());
     fill_and_decide(&mut store, &mut trail)?;
     let learnt = learn(&mut store, &mut trail, &mut analyser, &mut log)?;
-    assert_learnt(&rt, rt.alloc(), learnt, &log)
+    assert_learnt(&rt, rt.alloc(), learnt, &log)?;
+    assert_told(&rt, &analyser)
 }

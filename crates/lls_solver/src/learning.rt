@@ -25,7 +25,7 @@ pub(crate) fn learn_from<S: Store>(
 ) -> Result<(), Memory>
     requires searching { IsSearching formula.now log.old.steps (S.state store.old) course.old }
     requires tracked { S.tracks store.old course.old }
-    requires analyser { analyser.old ≡ formula.now.vars }
+    requires analyser { analyser.old.vars ≡ formula.now.vars }
     requires few { additions log.old.steps < MOST_BUDGET }
     requires level { 0 < course.old.current }
     requires conflict { IsCurrentConflict (S.state store.old).live course.old conflict }
@@ -35,7 +35,7 @@ pub(crate) fn learn_from<S: Store>(
     ensures err { OnErr result (log.new.steps ≡ log.old.steps) }
     ensures vars { (S.state store.new).vars ≡ (S.state store.old).vars }
     ensures tracked { S.tracks store.new course.new }
-    ensures analyser { analyser.new ≡ analyser.old }
+    ensures analyser { analyser.new.vars ≡ analyser.old.vars }
 {
     analyser.reserve_conflict(store, log)?;
     let id = formula.len() as u64 + log.additions() + 1;
@@ -60,14 +60,14 @@ pub(crate) fn learn_further<S: Store>(
 ) -> Result<(), Memory>
     requires searching { IsSearching formula.now log.now.steps (S.state store.old) course.now }
     requires tracked { S.tracks store.old course.now }
-    requires analyser { analyser.old ≡ formula.now.vars }
+    requires analyser { analyser.old.vars ≡ formula.now.vars }
     requires few { additions log.now.steps ≤ MOST_BUDGET }
     requires level { 0 < course.now.current }
     requires conflict { IsCurrentConflict (S.state store.old).live course.now conflict }
     ensures further { OnOk result (SomeCanBeLearnt formula.now.vars (live_after formula.now log.now.steps)) }
     ensures vars { (S.state store.new).vars ≡ (S.state store.old).vars }
     ensures tracked { S.tracks store.new course.now }
-    ensures analyser { analyser.new ≡ analyser.old }
+    ensures analyser { analyser.new.vars ≡ analyser.old.vars }
 {
     let mut further = Log::new(alloc);
     analyser.reserve_conflict(store, &mut further)?;
@@ -87,7 +87,7 @@ pub(crate) fn refute_by<S: Store>(
 ) -> Result<(), Memory>
     requires searching { IsSearching formula.now log.old.steps (S.state store.old) course.now }
     requires tracked { S.tracks store.old course.now }
-    requires analyser { analyser.old ≡ formula.now.vars }
+    requires analyser { analyser.old.vars ≡ formula.now.vars }
     requires few { additions log.old.steps ≤ MOST_BUDGET }
     requires level { course.now.current ≡ 0 }
     requires conflict { IsConflict (S.state store.old).live course.now conflict }
@@ -96,7 +96,7 @@ pub(crate) fn refute_by<S: Store>(
     ensures err { OnErr result (log.new.steps ≡ log.old.steps) }
     ensures vars { (S.state store.new).vars ≡ (S.state store.old).vars }
     ensures tracked { S.tracks store.new course.now }
-    ensures analyser { analyser.new ≡ analyser.old }
+    ensures analyser { analyser.new.vars ≡ analyser.old.vars }
 {
     analyser.reserve_conflict(store, log)?;
     let id = formula.len() as u64 + log.additions() + 1;

@@ -55,7 +55,7 @@ impl<S: Store> Model for Searcher<S> {
 
     ghost view = { λ s. record { store = S.state s.store; trail = s.course } };
 
-    ghost invariant = { λ s. S.tracks s.store s.course × (s.analyser ≡ (S.state s.store).vars) };
+    ghost invariant = { λ s. S.tracks s.store s.course × (s.analyser.vars ≡ (S.state s.store).vars) };
 }
 
 impl<S: Store + Drop> Searcher<S> {

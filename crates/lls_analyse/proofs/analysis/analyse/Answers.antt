@@ -5,11 +5,11 @@ pub returns-clause-analysis : goal.returns-clause-analysis
 returns-clause-analysis g c = record {
   seen = c.minimise.new.visited;
   visited = c.minimise.ensures.visited;
-  resolved = minimised (g.S.Store.state c.args.store.now).live c.args.trail.now c.args.conflict 1 c.resolve.new.visited c.minimise.new.visited c.minimise.ensures.visited c.resolve.ensures.resolved c.minimise.ensures.minimises;
+  resolved = minimised (g.S.Store.state c.args.store.now).live c.args.trail.now c.args.conflict 1 c.args.visited.now c.minimise.new.visited c.minimise.ensures.visited c.requires.resolved c.minimise.ensures.minimises;
   hinted = c.gather_hints.ensures.hints;
   gathered = c.gather_clause.ensures.clause;
 }
 
 pub gather_hints-requires-clause-analysed : goal.gather_hints-requires-clause-analysed
 gather_hints-requires-clause-analysed g c =
-    (minimised (g.S.Store.state c.args.store.now).live c.args.trail.now c.args.conflict 1 c.resolve.new.visited c.minimise.new.visited c.minimise.ensures.visited c.resolve.ensures.resolved c.minimise.ensures.minimises).analysed
+    (minimised (g.S.Store.state c.args.store.now).live c.args.trail.now c.args.conflict 1 c.args.visited.now c.minimise.new.visited c.minimise.ensures.visited c.requires.resolved c.minimise.ensures.minimises).analysed

@@ -8,6 +8,7 @@ use Rattle.lls_store.specs.Store.{IsLearnt, sealed}
 use Rattle.lls_analyse.specs.Gathered.{back_of}
 use Rattle.lls_analyse.proofs.Steps.{learns}
 use Rattle.lls_analyse.proofs.Learned.{within_clause, once_clause, learnt_clause, few_clause}
+use Rattle.lls_analyse.proofs.Traces.{resolved_given}
 use Rattle.lls_analyse.proofs.analyser.Analyser.learn.Goals as goal
 
 pub push_add-requires-clause-spare : goal.push_add-requires-clause-spare
@@ -52,3 +53,7 @@ returns-clause-learns g c =
     (c.back_of.ensures ∙ ap (back_of c.args.trail.now.entries) c.as_slice-4.ensures.value)
     (ap (λ (l : Logged). l.steps) c.push_add.ensures ∙ ap (λ (ls : List ℤ). c.args.log.now.steps ++ Add c.args.id ls c.as_slice-2.result.now ∷ []) c.as_slice.ensures.value ∙ ap (λ (hs : List ℤ). c.args.log.now.steps ++ Add c.args.id lits hs ∷ []) c.as_slice-2.ensures.value)
     (c.store_clause.ensures.state ∙ ap (λ (ls : List ℤ). sealed (record store { tail = ls }) c.args.id) c.as_slice-3.ensures.value)
+
+pub returns-clause-resolved : goal.returns-clause-resolved
+returns-clause-resolved g c =
+    resolved_given (g.S.Store.state c.args.store.now) c.args.trail.now c.args.conflict c.trace.new.met.items c.trace.new.resolved.items c.count.ensures.live c.trace.ensures.comes_by
