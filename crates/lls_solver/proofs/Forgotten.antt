@@ -1,9 +1,8 @@
 -- A search goes on where marked clauses are taken out, and the others are numbered anew.
-use Rattle.std.proofs.Common.{◌≡◌, ◌≢◌, inl, inr, ℕ, zero, suc, ◌+◌, ◌<◌, ◌≤◌, Bool, true, false, not, cond, List, [], ◌∷◌, ◌++◌, length, length-append, get_or, map, Some, None, is_some, refl, sym, ap, subst, ◌∙◌, arith}
-use Rattle.std.specs.Prelude.{ℤ, All, AllPairs, Contains, filter, fold, ◌||◌, ◌&&◌, ◌==◌, ◌-◌, ◌/◌, nat_le, nat_lt, slice_index_or}
-use Rattle.std.specs.List.{list_any, list_all, enumerate_from}
+use Rattle.std.proofs.Common.{◌≡◌, ◌≢◌, inl, inr, ℕ, zero, suc, ◌+◌, ◌<◌, ◌≤◌, Bool, true, false, not, cond, List, [], ◌∷◌, ◌++◌, length, length-append, get_or, map, Some, is_some, refl, sym, ap, subst, ◌∙◌, arith}
+use Rattle.std.specs.Prelude.{ℤ, All, AllPairs, Contains, filter, fold, ◌||◌, ◌&&◌, ◌==◌, ◌-◌, ◌/◌, nat_le, nat_lt}
+use Rattle.std.specs.List.{list_any, list_all}
 use Rattle.std.specs.Ordering.{int_eq}
-use Rattle.std.specs.FinSet as set
 use Rattle.std.proofs.lemmas.Bool.{and_from, cases_order, eq-eqb, ne_eqb}
 use Rattle.std.proofs.lemmas.List.{get_or_default}
 use Rattle.std.proofs.lemmas.Bool.Decides.{nat_tests}
@@ -16,21 +15,21 @@ use Rattle.lls_lit.specs.Formula.{Clause, Cnf}
 use Rattle.lls_lit.specs.Literal.{negation}
 use Rattle.lls_prooflog.specs.UnitWalk.{Live, numbered, find_clause}
 use Rattle.lls_prooflog.specs.Steps.{after, is_empty_addition}
-use Rattle.lls_prooflog.specs.Spent.{LogState, log_start, log_after, live_after, EachStep, IsGood, IsFreshAddition, IsLateDeletion, DeletesLate, is_addition}
+use Rattle.lls_prooflog.specs.Spent.{LogState, log_start, log_after, live_after, IsGood, IsFreshAddition, IsLateDeletion, is_addition}
 use Rattle.lls_prooflog.specs.declared.step.Step.{Step}
 use Rattle.lls_prooflog.specs.declared.step.Step.TheVariants.{Add, Del}
 use Rattle.lls_store.specs.declared.store.TheConstants.{MOST_ID}
-use Rattle.lls_store.specs.Trail.{Entry, TrailState, Has, HasNegated, has}
-use Rattle.lls_store.specs.Clauses.{LiveClause, Literals, IsIn, clause_numbered}
-use Rattle.lls_store.specs.Closed.{IsSettled, satisfied, two_left, AreSettled, entries_below}
+use Rattle.lls_store.specs.Trail.{Entry, TrailState, has}
+use Rattle.lls_store.specs.Clauses.{LiveClause, Literals}
+use Rattle.lls_store.specs.Closed.{IsSettled, satisfied, two_left, entries_below}
 use Rattle.lls_store.specs.Sound.{IsSound}
 use Rattle.lls_store.specs.Store.{StoreState, AreLive}
 use Rattle.lls_store.specs.Removal.{compacted, renamed, renamed_entry, renumbered}
 use Rattle.lls_store.proofs.Live.{clause_numbered-contained}
 use Rattle.lls_analyse.specs.Spelled.{Spells}
 use Rattle.lls_order.specs.Order.{OrderState}
-use Rattle.lls_solver.specs.Course.{AreClosedBelow, AreWaiting, IsOnCourse}
-use Rattle.lls_solver.specs.Deletion.{AreAllLive, is_marked, ids_marked, marked_of, without_marked, IsLate, MayGo}
+use Rattle.lls_solver.specs.Course.{AreClosedBelow, AreWaiting}
+use Rattle.lls_solver.specs.Deletion.{added_after, AreAllLive, is_marked, ids_marked, marked_of, without_marked, IsLate, MayGo}
 use Rattle.lls_solver.specs.Searching.{additions, ids_of, AreAscending, AreNumberedFrom, HoldsClauses, IsGoodLog, IsSearching}
 use Rattle.lls_solver.proofs.Logs.{additions-cons, each_push, found_added, live_after-push, live_parts}
 
@@ -212,7 +211,7 @@ spells_found (x ∷ xs) (pair ∷ pairs) clause h (zero, lt, same) =
     ap (λ b. is_some (cond b (Some pair.1) (find_clause pairs clause.id))) (eq-eqb pair.0 clause.id (h.0 ∙ ap (λ (c : LiveClause). c.id) same))
 spells_found (x ∷ xs) (pair ∷ pairs) clause h (suc k, lt, same) =
     let rest = spells_found xs pairs clause h.1.1 (k, omega (arith, lt), same) in
-    elim (pair.0 == clause.id) as (λ b. is_some (cond b (Some pair.1) (find_clause pairs clause.id)) ≡ true) [ | true ↦ refl | false ↦ rest ]
+    elim (pair.0 == clause.id) as (λ b. is_some (cond b (Some pair.1) (find_clause pairs clause.id)) ≡ true) [ true ↦ refl | false ↦ rest ]
 
 -- a marked clause was learnt
 learnt_marked : (live : List LiveClause) (entries : List Entry) (last : ℕ) (marks : List Bool) (clause : LiveClause) → AllPairs (λ (a b : LiveClause). a.number < b.number) live → ((c : ℕ) → is_marked marks c ≡ true → MayGo live entries last c) → Contains live clause → is_marked marks clause.number ≡ true → last < clause.id
@@ -227,7 +226,7 @@ good_forgotten formula steps store entries marks last live holds log late may =
     let ids = ids_marked marks store.live in
     let state = fold log_after (log_start formula) steps in
     let added : list_all (λ id. is_some (find_clause state.added id)) ids ≡ true = all_marked store.live marks (λ id. is_some (find_clause state.added id)) (λ clause contains is.
-      found_added formula steps clause.id log (learnt_marked store.live entries (length formula.clauses) marks clause live.numbers may contains is) (spells_found store.live (live_after formula steps) clause holds.spelled contains)) in
+    found_added formula steps clause.id log (learnt_marked store.live entries (length formula.clauses) marks clause live.numbers may contains is) (spells_found store.live (live_after formula steps) clause holds.spelled contains)) in
     record {
       numbered_on = numbered_deleted (length formula.clauses + 1) steps ids log.numbered_on;
       good = each_push IsGood (log_start formula) steps (Del ids) log.good refl;
@@ -248,10 +247,10 @@ all_live store vars pairs last h = h.count ∙ sym (spells_length store.live pai
 -- ids of live clauses are in range
 pub ids_in_range : (store : StoreState) (marks : List Bool) → AreLive store → list_all (λ n. nat_le 1 n && nat_le n MOST_ID) (ids_marked marks store.live) ≡ true
 ids_in_range store marks live = all_marked store.live marks (λ n. nat_le 1 n && nat_le n MOST_ID) (λ clause contains _.
-  let fits = All-contains (λ (c : LiveClause). (1 ≤ c.id) × (c.id ≤ MOST_ID)) store.live clause live.ids_fit contains in
-  in_range clause.id fits.0 fits.1) where
-    in_range : (n : ℕ) → 1 ≤ n → n ≤ MOST_ID → (nat_le 1 n && nat_le n MOST_ID) ≡ true
-    in_range n least most = and_from (nat_le 1 n) (nat_le n MOST_ID) (grind (arith, nat_tests)) (grind (arith, nat_tests))
+    let fits = All-contains (λ (c : LiveClause). (1 ≤ c.id) × (c.id ≤ MOST_ID)) store.live clause live.ids_fit contains in
+    in_range clause.id fits.0 fits.1) where
+      in_range : (n : ℕ) → 1 ≤ n → n ≤ MOST_ID → (nat_le 1 n && nat_le n MOST_ID) ≡ true
+      in_range n least most = and_from (nat_le 1 n) (nat_le n MOST_ID) (grind (arith, nat_tests)) (grind (arith, nat_tests))
 
 -- the steps are additions and deletions
 steps_counted : (state : LogState) (steps : List Step) → state.deletions + length steps ≡ (fold log_after state steps).deletions + additions steps
@@ -264,10 +263,11 @@ pub learnt_counted : (formula : Cnf) (steps : List Step) → IsGoodLog formula s
 learnt_counted formula steps log =
     ap length (live_parts formula steps log) ∙ length-append (numbered formula.clauses) (fold log_after (log_start formula) steps).added ∙ ap (λ n. n + length (fold log_after (log_start formula) steps).added) (length-enumerate_from 1 formula.clauses)
 
-pub late_from : (formula : Cnf) (steps : List Step) (count many adds m : ℕ) → IsGoodLog formula steps → count ≡ length (live_after formula steps) → many ≡ length steps → adds ≡ additions steps → m ≡ length formula.clauses
-    → 64 ≤ count - m → many - adds ≤ (count - m - 64) / 64 → IsLate formula steps
-late_from formula steps count many adds m log count_is many_is adds_is m_is least few =
-    omega (arith, count_is, many_is, adds_is, m_is, least, few, learnt_counted formula steps log, steps_counted (log_start formula) steps)
+-- and whether they are so many that a deletion may come
+pub late_from : (formula : Cnf) (steps : List Step) (learnt many adds : ℕ) → learnt ≡ length (added_after formula steps) → many ≡ length steps → adds ≡ additions steps
+    → 64 ≤ learnt → many - adds ≤ (learnt - 64) / 64 → IsLate formula steps
+late_from formula steps learnt many adds learnt_is many_is adds_is least few =
+    omega (arith, learnt_is, many_is, adds_is, least, few, steps_counted (log_start formula) steps)
 
 -- a search goes on over the clauses that are left
 pub searching_forgotten : (formula : Cnf) (steps : List Step) (store : StoreState) (trail : TrailState) (marks : List Bool) → AreLive store → IsSearching formula steps store trail → IsLate formula steps

@@ -1,14 +1,14 @@
 -- The entries of a trail that stand above a level: the last ones.
-use Rattle.std.proofs.Common.{◌≡◌, ◌≢◌, ℕ, zero, suc, ◌+◌, ◌<◌, ◌≤◌, Bool, true, false, cond, List, [], ◌∷◌, ◌++◌, length, take, drop, get_or, Option, Some, None, is_none, refl, sym, ap, subst, ◌∙◌, arith}
-use Rattle.std.specs.Prelude.{ℤ, nat_le, nat_lt, slice_get, option_map, IsSome}
+use Rattle.std.proofs.Common.{◌≡◌, ◌≢◌, ℕ, zero, suc, ◌+◌, ◌<◌, ◌≤◌, Bool, true, false, cond, List, [], ◌∷◌, ◌++◌, length, take, drop, get_or, Option, Some, None, is_none, is_some, not, refl, sym, ap, subst, ◌∙◌, arith}
+use Rattle.std.specs.Prelude.{ℤ, nat_le, nat_lt, slice_get, option_and_then, option_map, IsSome}
 use Rattle.std.specs.Option.{option_map_or}
 use Rattle.std.proofs.lemmas.Bool.{and_parts}
 use Rattle.std.proofs.lemmas.Bool.Decides.{nat_tests}
 use Rattle.std.proofs.lemmas.Option.{same_Some, slice_get_within, slice_get-get_or, get_or_from_slice_get}
-use Rattle.std.proofs.lemmas.List.{take_more, take_all, get_or-map, length-map}
-use Rattle.std.proofs.lemmas.List.Sums.{take_while-cons}
+use Rattle.std.proofs.lemmas.List.{take-append-drop, take_more, take_all, get_or-map, length-map}
+use Rattle.std.proofs.lemmas.List.Sums.{count_by_more_no, count_by_more_yes, sum_by-append, take_while-cons}
 use Rattle.lls_lit.specs.Literal.{variable_of}
-use Rattle.lls_store.specs.Trail.{Entry, IsTrail, TrailState, decisions, entry_of, level_of, literals_of, has_variables_once}
+use Rattle.lls_store.specs.Trail.{Entry, IsTrail, TrailState, decisions, entry_of, is_decision, level_of, literals_of, reason_of, has_variables_once}
 use Rattle.lls_store.specs.Changes.{entries_up_to}
 use Rattle.lls_store.proofs.Entries.{entry_of-cons_same, entry_of-cons_other, IsTrail-popped, level_of_last}
 use Rattle.lls_store.proofs.Cut.{cut_all}
@@ -129,3 +129,38 @@ above_told level n test is passes = let e : nat_lt level n ≡ true = sym is ∙
 
 pub below_told : (level n : ℕ) (test : Bool) → test ≡ nat_lt level n → test ≡ false → n ≤ level
 below_told level n test is fails = let e : nat_lt level n ≡ false = sym is ∙ fails in grind (arith, nat_tests)
+
+-- the reason of a literal that was read
+pub reason_read : (t : TrailState) (k v : ℕ) (l : ℤ) (h : IsTrail t) (read : slice_get (literals_of t.entries) k ≡ Some l) → v ≡ variable_of l → reason_of t.entries v ≡ (is_read t k l h read).entry.reason
+reason_read t k v l h read of_lit =
+    let at = is_read t k l h read in
+    ap (reason_of t.entries) (of_lit ∙ ap variable_of (sym at.lit)) ∙ ap (option_and_then (λ (e : Entry). e.reason)) (entry_of-stands t.entries k at.entry at.at h.once)
+
+-- no more decisions stand among the first entries
+pub decisions_front : (t : TrailState) (k : ℕ) → IsTrail t → decisions (take k t.entries) ≤ t.current
+decisions_front t k h = omega (arith, h.current, ap decisions (take-append-drop k t.entries), sum_by-append (λ (e : Entry). cond (is_decision e) 1 0) (take k t.entries) (drop k t.entries))
+
+-- one more entry, which was decided
+pub decisions_more : (t : TrailState) (k v : ℕ) (l : ℤ) (b : Bool) → IsTrail t → slice_get (literals_of t.entries) k ≡ Some l → v ≡ variable_of l → b ≡ is_none (reason_of t.entries v) → decisions (take (k + 1) t.entries) ≡ decisions (take k t.entries) + cond b 1 0
+decisions_more t k v l b h read of_lit is = by_test b refl where
+  at : IsRead t k l
+  at = is_read t k l h read
+
+  d : Entry
+  d = at.entry
+
+  lt : k < length t.entries
+  lt = slice_get_within t.entries k at.entry at.at
+
+  decided : is_decision (get_or t.entries k d) ≡ b
+  decided = ap is_decision (get_or_from_slice_get t.entries k at.entry d at.at) ∙ ap is_none (sym (reason_read t k v l h read of_lit)) ∙ sym is
+
+  by_test : (c : Bool) → b ≡ c → decisions (take (k + 1) t.entries) ≡ decisions (take k t.entries) + cond c 1 0
+  by_test true so = count_by_more_yes is_decision t.entries k d lt (decided ∙ so)
+  by_test false so = omega (arith, count_by_more_no is_decision t.entries k d lt (decided ∙ so))
+
+pub none_told : (b : Bool) (o : Option ℕ) → not b ≡ is_some o → b ≡ is_none o
+none_told true None is = refl
+none_told false (Some n) is = refl
+none_told true (Some n) is = absurd cc
+none_told false None is = absurd cc

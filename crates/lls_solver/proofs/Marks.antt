@@ -1,7 +1,7 @@
 -- Clauses that are marked by number.
 use Rattle.std.proofs.Common.{◌≡◌, ◌≢◌, inl, inr, ℕ, zero, suc, ◌+◌, ◌<◌, ◌≤◌, Bool, true, false, not, cond, List, [], ◌∷◌, ◌++◌, length, length-set, get_or, take, map, Option, Some, None, is_some, refl, sym, ap, subst, ◌∙◌, arith, zero-add}
 use Rattle.std.specs.FinSet as finset
-use Rattle.std.specs.Prelude.{ℤ, option_and_then, ◌⊎◌, ◌-◌, All, AllPairs, Contains, filter, IfSome, IsSome, ◌&&◌, ◌==◌, nat_lt, slice_get, slice_set}
+use Rattle.std.specs.Prelude.{ℤ, ◌⊎◌, ◌-◌, All, AllPairs, Contains, filter, IfSome, IsSome, ◌&&◌, ◌==◌, nat_lt, slice_get, slice_set}
 use Rattle.std.proofs.lemmas.Bool.{cases_order}
 use Rattle.std.proofs.lemmas.Bool.Decides.{eqb_tells, nat_tests}
 use Rattle.std.proofs.lemmas.List.{get_or-set_other, get_or-set_same, append-nil, get_or_default, map-append, take_more}
@@ -16,8 +16,8 @@ use Rattle.lls_store.specs.Store.{StoreState, AreLive}
 use Rattle.lls_store.specs.Removal.{IsNoReason, without_clause}
 use Rattle.lls_store.proofs.Live.{clause_numbered-contained}
 use Rattle.lls_solver.specs.declared.deletion.Candidate.{Candidate}
-use Rattle.lls_solver.proofs.Levels.{entry_of-stands, is_read}
-use Rattle.lls_solver.specs.Deletion.{is_marked, ids_marked, marked_of, without_marked, AreAllLive, MayGo}
+use Rattle.lls_solver.proofs.Levels.{is_read, reason_read}
+use Rattle.lls_solver.specs.Deletion.{is_marked, ids_marked, without_marked, AreAllLive, MayGo}
 
 -- a clause that was looked at
 pub may_go_from : (live : List LiveClause) (entries : List Entry) (last c id : ℕ) → is_some (clause_numbered live c) ≡ true → IfSome (clause_numbered live c) (λ clause. id ≡ clause.id) → last < id → IsNoReason entries c → MayGo live entries last c
@@ -41,11 +41,6 @@ marked_cases marks n c is = elim (cases_order c n) [
   | inl same ↦ inl same
   | inr other ↦ inr (sym (get_or-set_other marks n c true false (elim other [ inl less ↦ λ same. omega (arith, less, same) | inr more ↦ λ same. omega (arith, more, same) ])) ∙ is)
 ]
-
-reason_read : (t : TrailState) (k v : ℕ) (l : ℤ) (h : IsTrail t) (read : slice_get (literals_of t.entries) k ≡ Some l) → v ≡ variable_of l → reason_of t.entries v ≡ (is_read t k l h read).entry.reason
-reason_read t k v l h read of_lit =
-    let at = is_read t k l h read in
-    ap (reason_of t.entries) (of_lit ∙ ap variable_of (sym at.lit)) ∙ ap (option_and_then (λ (e : Entry). e.reason)) (entry_of-stands t.entries k at.entry at.at h.once)
 
 no_reason_next : (entries : List Entry) (k : ℕ) (e : Entry) (c : ℕ) → k < length entries → ((d : Entry) → get_or entries k d ≡ e) → e.reason ≢ Some c → IsNoReason (take k entries) c → IsNoReason (take (k + 1) entries) c
 no_reason_next entries k e c lt at other before =

@@ -2,7 +2,8 @@
 use Rattle.std.specs.Prelude.{◌≡◌, ◌≤◌, ◌<◌, ℕ, Bool, false, not, List, map, length, filter, slice_index_or, fold, Some}
 use Rattle.lls_lit.specs.Formula.{Cnf}
 use Rattle.lls_prooflog.specs.declared.step.Step.{Step}
-use Rattle.lls_prooflog.specs.Spent.{LogState, least_added, log_after, log_start}
+use Rattle.lls_prooflog.specs.UnitWalk.{Live}
+use Rattle.lls_prooflog.specs.Spent.{least_added, log_after, log_start}
 use Rattle.lls_store.specs.Trail.{Entry}
 use Rattle.lls_store.specs.Clauses.{LiveClause, clause_numbered}
 use Rattle.lls_store.specs.Removal.{IsNoReason}
@@ -38,6 +39,10 @@ without_marked store marks = record store { live = filter (λ clause. not (is_ma
 abbrev pub AreAllLive : StoreState → Type 0
 AreAllLive store = store.count ≡ length store.live
 
--- so many additions are live behind the steps that a deletion may come
+-- the additions that are live behind the steps
+abbrev pub added_after : Cnf → List Step → Live
+added_after formula steps = (fold log_after (log_start formula) steps).added
+
+-- they are so many that a deletion may come
 abbrev pub IsLate : Cnf → List Step → Type 0
-IsLate formula steps = let state = fold log_after (log_start formula) steps in least_added state.deletions ≤ length state.added
+IsLate formula steps = least_added (fold log_after (log_start formula) steps).deletions ≤ length (added_after formula steps)

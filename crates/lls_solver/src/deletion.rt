@@ -1,12 +1,13 @@
 // What a search forgets: the half of its learnt clauses that was of least use, in one step of the log.
 ghost use Rattle.std.specs.Prelude.{◌≡◌, ◌≤◌, ◌<◌, ℕ, All, Contains, Some, false, true, IfOk, IsSome, IsTrue, OnErr, OnOk, length, map, replicate};
+ghost use Rattle.lls_lit.specs.Formula.{Cnf};
 ghost use Rattle.lls_prooflog.specs.Spent.{live_after};
 ghost use Rattle.lls_store.specs.Trail.{reason_of};
 ghost use Rattle.lls_store.specs.Sound.{IsSound};
 ghost use Rattle.lls_store.specs.Clauses.{clause_numbered};
 ghost use Rattle.lls_store.specs.Removal.{IsNoReason};
 ghost use Rattle.lls_store.specs.Store.{AreLive};
-ghost use Rattle.lls_solver.specs.Deletion.{is_marked, ids_marked, without_marked, AreAllLive, HasReasons, IsLate, MayGo};
+ghost use Rattle.lls_solver.specs.Deletion.{added_after, is_marked, ids_marked, without_marked, AreAllLive, HasReasons, IsLate, MayGo};
 ghost use Rattle.lls_solver.specs.Searching.{additions, IsGoodLog, IsSearching};
 
 use crate::course::Course;
@@ -27,13 +28,10 @@ struct Candidate {
 }
 
 /// Whether so many learnt clauses are live that a deletion may come: 64, and 64 more for each deletion before.
-pub(crate) fn is_late(formula: &Formula, log: &Log, count: u32) -> bool
-    requires log { IsGoodLog formula.now log.now.steps }
-    requires count { count ≡ length (live_after formula.now log.now.steps) }
-    ensures { IsTrue result → IsLate formula.now log.now.steps }
+pub(crate) fn is_late(log: &Log, learnt: u64) -> bool
+    ensures { (formula : Cnf) → learnt ≡ length (added_after formula log.now.steps) → IsTrue result → IsLate formula log.now.steps }
 {
     let deletions = log.len() as u64 - log.additions();
-    let learnt = u64::from(count) - formula.len() as u64;
     learnt >= 64 && (learnt - 64) / 64 >= deletions
 }
 

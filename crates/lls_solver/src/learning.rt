@@ -3,9 +3,11 @@ ghost use Rattle.std.specs.Prelude.{◌≡◌, ◌≤◌, ◌<◌, ◌+◌, ℕ,
 ghost use Rattle.lls_prooflog.specs.Spent.{SomeCanBeLearnt, live_after};
 ghost use Rattle.lls_store.specs.Store.{IsConflict};
 ghost use Rattle.lls_analyse.specs.Learnt.{IsCurrentConflict};
+ghost use Rattle.lls_solver.specs.Policy.{policy_for};
 ghost use Rattle.lls_solver.specs.Searching.{additions, IsRefutation, IsSearching, KeepsAll};
 
 use crate::course::Course;
+use crate::policy::Policy;
 use crate::solving::MOST_BUDGET;
 use lls_analyse::Analyser;
 use lls_base::Memory;
@@ -20,12 +22,14 @@ pub(crate) fn learn_from<S: Store>(
     store: &mut S,
     course: &mut Course,
     analyser: &mut Analyser,
+    policy: &mut Policy,
     log: &mut Log,
     conflict: u32,
 ) -> Result<(), Memory>
     requires searching { IsSearching formula.now log.old.steps (S.state store.old) course.old }
     requires tracked { S.tracks store.old course.old }
     requires analyser { analyser.old.vars ≡ formula.now.vars }
+    requires policy { policy.old ≡ policy_for (S.state store.old) }
     requires few { additions log.old.steps < MOST_BUDGET }
     requires level { 0 < course.old.current }
     requires conflict { IsCurrentConflict (S.state store.old).live course.old conflict }
@@ -36,13 +40,20 @@ pub(crate) fn learn_from<S: Store>(
     ensures vars { (S.state store.new).vars ≡ (S.state store.old).vars }
     ensures tracked { S.tracks store.new course.new }
     ensures analyser { analyser.new.vars ≡ analyser.old.vars }
+    ensures policy { policy.new ≡ policy_for (S.state store.new) }
 {
     analyser.reserve_conflict(store, log)?;
+    policy.add_clause()?;
     let id = formula.len() as u64 + log.additions() + 1;
     let learnt = analyser.learn(store, &course.trail, conflict, id, log);
     // What holds of all live clauses is known from here on.
     let _count = store.count();
-    course.bump(store.lits(learnt.clause));
+    policy.learn(
+        &course.trail,
+        store.lits(learnt.clause),
+        analyser.resolved(),
+    );
+    course.bump(analyser.met());
     course.go_back(store, learnt.back);
     Ok(())
 }
@@ -55,12 +66,14 @@ pub(crate) fn learn_further<S: Store>(
     store: &mut S,
     course: &Course,
     analyser: &mut Analyser,
+    policy: &mut Policy,
     log: &Log,
     conflict: u32,
 ) -> Result<(), Memory>
     requires searching { IsSearching formula.now log.now.steps (S.state store.old) course.now }
     requires tracked { S.tracks store.old course.now }
     requires analyser { analyser.old.vars ≡ formula.now.vars }
+    requires policy { policy.old ≡ policy_for (S.state store.old) }
     requires few { additions log.now.steps ≤ MOST_BUDGET }
     requires level { 0 < course.now.current }
     requires conflict { IsCurrentConflict (S.state store.old).live course.now conflict }
@@ -68,9 +81,11 @@ pub(crate) fn learn_further<S: Store>(
     ensures vars { (S.state store.new).vars ≡ (S.state store.old).vars }
     ensures tracked { S.tracks store.new course.now }
     ensures analyser { analyser.new.vars ≡ analyser.old.vars }
+    ensures policy { policy.new ≡ policy_for (S.state store.new) }
 {
     let mut further = Log::new(alloc);
     analyser.reserve_conflict(store, &mut further)?;
+    policy.add_clause()?;
     let id = formula.len() as u64 + log.additions() + 1;
     analyser.learn(store, &course.trail, conflict, id, &mut further);
     Ok(())
@@ -94,7 +109,7 @@ pub(crate) fn refute_by<S: Store>(
     ensures refutation { OnOk result ((budget : ℕ) → additions log.old.steps ≤ budget → IsRefutation formula.now budget log.new.steps) }
     ensures kept { OnOk result ((keep_all : Bool) → KeepsAll keep_all log.old.steps → KeepsAll keep_all log.new.steps) }
     ensures err { OnErr result (log.new.steps ≡ log.old.steps) }
-    ensures vars { (S.state store.new).vars ≡ (S.state store.old).vars }
+    ensures state { S.state store.new ≡ S.state store.old }
     ensures tracked { S.tracks store.new course.now }
     ensures analyser { analyser.new.vars ≡ analyser.old.vars }
 {

@@ -8,7 +8,7 @@ pub(crate) const MOST: u64 = 1 << 48;
 
 /// A mean of the numbers so far: each moves it by its part of the distance, which is at first one by how many there were, and
 /// never less than one by the greatest weight.
-#[derive(Debug)]
+#[derive(Debug, Drop)]
 pub(crate) struct Mean {
     value: u64,
     weight: u64,

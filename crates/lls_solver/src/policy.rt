@@ -56,7 +56,8 @@ impl Policy {
         ensures ok { OnOk result (self.new ≡ record self.old { clauses = self.old.clauses + 1 }) }
         ensures err { OnErr result (self.new ≡ self.old) }
     {
-        self.used.push(true)
+        self.used.push(true)?;
+        Ok(())
     }
 
     /// A clause of these literals was learnt from a conflict that was resolved with the clauses of these numbers.

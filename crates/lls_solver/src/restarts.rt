@@ -25,7 +25,7 @@ pub(crate) const BETWEEN: u32 = 2;
 pub(crate) const MARGIN: u64 = 120;
 
 /// Means of the glue of learnt clauses, which is the number of their levels.
-#[derive(Debug)]
+#[derive(Debug, Drop)]
 pub(crate) struct Restarts {
     late: Mean,
     past: Mean,

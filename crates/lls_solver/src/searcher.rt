@@ -1,5 +1,5 @@
 // A searcher, which takes turns.
-ghost use Rattle.std.specs.Prelude.{◌≡◌, ◌≤◌, Bool, [], Ok, IfOk, OnErr};
+ghost use Rattle.std.specs.Prelude.{◌≡◌, ◌≤◌, Bool, [], Ok, IfOk, OnErr, OnOk};
 ghost use Rattle.lls_store.specs.Changes.{empty_trail};
 ghost use Rattle.lls_store.specs.Store.{empty_store};
 ghost use Rattle.lls_solver.specs.Course.{IsComplete};
@@ -7,9 +7,11 @@ ghost use Rattle.lls_solver.specs.Searching.{additions, HasLearnt, HoldsFormula,
 
 use crate::conflict::go_to_conflict;
 use crate::course::Course;
+use crate::deletion::{forget_half, is_late};
 use crate::descent::{Descent, descend};
 use crate::learning::{learn_from, learn_further, refute_by};
 use crate::loading::load;
+use crate::policy::Policy;
 use crate::solving::MOST_BUDGET;
 use crate::values::values_of;
 use lls_analyse::Analyser;
@@ -33,12 +35,14 @@ pub(crate) enum Turn {
     Spent,
 }
 
-/// A store of clauses, a course of values over it, and an analyser of their conflicts. It is seen as its store and its trail.
+/// A store of clauses, a course of values over it, an analyser of their conflicts, and what the search goes by. It is seen as
+/// its store and its trail.
 #[derive(Drop)]
 pub(crate) struct Searcher<S: Store> {
     store: S,
     course: Course,
     analyser: Analyser,
+    policy: Policy,
 }
 
 impl<S: Store> Model for Searcher<S> {
@@ -46,6 +50,7 @@ impl<S: Store> Model for Searcher<S> {
     ghost use Rattle.std.specs.Coded.{codes, coded_ℤ};
     ghost use Rattle.std.specs.FinSet as set;
     ghost use Rattle.std.specs.Ordering.{int_cmp};
+    ghost use Rattle.lls_solver.specs.Policy.{policy_for};
     ghost use Rattle.lls_solver.specs.Searching.{SearcherState};
 
     ghost Value = { SearcherState };
@@ -55,7 +60,8 @@ impl<S: Store> Model for Searcher<S> {
 
     ghost view = { λ s. record { store = S.state s.store; trail = s.course } };
 
-    ghost invariant = { λ s. S.tracks s.store s.course × (s.analyser.vars ≡ (S.state s.store).vars) };
+    ghost invariant = { λ s. S.tracks s.store s.course
+        × ((s.analyser.vars ≡ (S.state s.store).vars) × (s.policy ≡ policy_for (S.state s.store))) };
 }
 
 impl<S: Store + Drop> Searcher<S> {
@@ -69,10 +75,12 @@ impl<S: Store + Drop> Searcher<S> {
         let course = Course::new(alloc, vars)?;
         let analyser = Analyser::new(alloc, vars)?;
         load(&mut store, &course.trail, formula)?;
+        let policy = Policy::new(alloc, vars, store.count() as usize)?;
         Ok(Searcher {
             store,
             course,
             analyser,
+            policy,
         })
     }
 }
@@ -121,6 +129,7 @@ impl<S: Store> Searcher<S> {
                 &mut self.store,
                 &self.course,
                 &mut self.analyser,
+                &mut self.policy,
                 log,
                 conflict,
             )?;
@@ -131,10 +140,59 @@ impl<S: Store> Searcher<S> {
             &mut self.store,
             &mut self.course,
             &mut self.analyser,
+            &mut self.policy,
             log,
             conflict,
         )?;
         Ok(Turn::Learnt)
+    }
+
+    /// Restarts where it is time to, and forgets clauses where it is time to and not all are to be kept. Where it ends with
+    /// `Memory`, the log is as it was.
+    pub(crate) fn tidy(
+        &mut self,
+        alloc: Global,
+        formula: &Formula,
+        log: &mut Log,
+        keep_all: bool,
+    ) -> Result<(), Memory>
+        requires searching { IsSearching formula.now log.old.steps self.old.store self.old.trail }
+        ensures searching { OnOk result (IsSearching formula.now log.new.steps self.new.store self.new.trail) }
+        ensures additions { additions log.new.steps ≡ additions log.old.steps }
+        ensures err { OnErr result (log.new.steps ≡ log.old.steps) }
+        ensures all_kept { KeepsAll keep_all log.old.steps → KeepsAll keep_all log.new.steps }
+    {
+        if self.policy.wants_restart() {
+            self.course.restart(&mut self.store);
+            self.policy.restart();
+        }
+        if keep_all {
+            return Ok(());
+        }
+        self.forget(alloc, formula, log)
+    }
+
+    // Forgets the half of the learnt clauses where there are many enough.
+    fn forget(&mut self, alloc: Global, formula: &Formula, log: &mut Log) -> Result<(), Memory>
+        requires searching { IsSearching formula.now log.old.steps self.old.store self.old.trail }
+        ensures searching { OnOk result (IsSearching formula.now log.new.steps self.new.store self.new.trail) }
+        ensures additions { additions log.new.steps ≡ additions log.old.steps }
+        ensures err { OnErr result (log.new.steps ≡ log.old.steps) }
+    {
+        let learnt = u64::from(self.store.count()) - formula.len() as u64;
+        if !self.policy.wants_round(learnt) || !is_late(log, learnt) {
+            return Ok(());
+        }
+        forget_half(
+            alloc,
+            formula,
+            &mut self.store,
+            &mut self.course,
+            log,
+            self.policy.used(),
+        )?;
+        self.policy.end_round(self.store.count() as usize);
+        Ok(())
     }
 
     /// The assignment that the trail is, where every variable has a value and no clause is false.

@@ -59,12 +59,10 @@ fn take_turns<S: Store>(
     requires budget { budget ≤ MOST_BUDGET }
     ensures { IsOutcome formula.now budget keep_all log.new.steps result }
 {
-    // Nothing is deleted yet, so all is kept either way.
-    let _ = keep_all;
     loop {
         match searcher.turn(alloc, formula, log, budget)? {
             Turn::Complete => return Ok(Outcome::Sat(searcher.assignment(alloc, formula)?)),
-            Turn::Learnt => {}
+            Turn::Learnt => searcher.tidy(alloc, formula, log, keep_all)?,
             Turn::Refuted => return Ok(Outcome::Unsat),
             Turn::Spent => return Ok(Outcome::Undecided),
         }

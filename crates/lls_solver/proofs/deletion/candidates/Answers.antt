@@ -1,5 +1,3 @@
-use Rattle.std.proofs.Common.{sym, ap, subst, ◌∙◌}
-use Rattle.std.specs.Prelude.{All}
 use Rattle.std.proofs.lemmas.List.Elements.{All-push}
 use Rattle.lls_solver.specs.declared.deletion.Candidate.{Candidate}
 use Rattle.lls_solver.specs.Deletion.{MayGo}

@@ -7,7 +7,7 @@ use Rattle.lls_store.specs.Trail.{TrailState}
 use Rattle.lls_store.specs.Sound.{IsSound}
 use Rattle.lls_store.specs.Store.{StoreState}
 use Rattle.lls_store.specs.Removal.{compacted, renamed}
-use Rattle.lls_solver.specs.Deletion.{ids_marked, is_marked, without_marked, AreAllLive, MayGo}
+use Rattle.lls_solver.specs.Deletion.{ids_marked, is_marked, without_marked, MayGo}
 use Rattle.lls_solver.specs.Searching.{additions, IsSearching}
 use Rattle.lls_solver.proofs.Kept.{sound_moved}
 use Rattle.lls_solver.proofs.Forgotten.{all_live, count_forgotten, ids_in_range, searching_forgotten}

@@ -21,15 +21,15 @@ loop-c-preserved g c =
     let k = c.loop-c.c in
     elim c.if-marks-c.branch [
       | then-marks-c w ↦ rw w.store-is (record {
-          state = w.remove.ensures.state ∙ ap (λ (s : StoreState). without_clause s k) c.loop-c.invariant.state ∙ without_first-marked old marks k w.if-marks-c.true;
-          tracked = w.remove.ensures.tracked;
-          sound = w.remove.ensures.sound;
-        })
+        state = w.remove.ensures.state ∙ ap (λ (s : StoreState). without_clause s k) c.loop-c.invariant.state ∙ without_first-marked old marks k w.if-marks-c.true;
+        tracked = w.remove.ensures.tracked;
+        sound = w.remove.ensures.sound;
+      })
       | else-marks-c w ↦ rw w.store-is (record {
-          state = c.loop-c.invariant.state ∙ without_first-unmarked old marks k w.if-marks-c.false;
-          tracked = c.loop-c.invariant.tracked;
-          sound = c.loop-c.invariant.sound;
-        })
+        state = c.loop-c.invariant.state ∙ without_first-unmarked old marks k w.if-marks-c.false;
+        tracked = c.loop-c.invariant.tracked;
+        sound = c.loop-c.invariant.sound;
+      })
     ]
 
 pub returns-clause-state : goal.returns-clause-state

@@ -52,8 +52,8 @@ returns-clause-kept g c =
     let logged = learns.step.logged ∙ ap (λ (ss : List Step). ss ++ Add id learns.lits learns.hints ∷ []) c.in_ok-reserve_conflict.ensures.steps.steps_stay in
     λ keep_all kept. subst (KeepsAll keep_all) (sym logged) (kept_push keep_all steps id learns.lits learns.hints kept)
 
-pub bump-requires : goal.bump-requires
-bump-requires g c =
+pub learn-requires-clause-within : goal.learn-requires-clause-within
+learn-requires-clause-within g c =
     let middle = g.S.Store.state c.reserve_conflict.new.store in
     let new = g.S.Store.state c.learn-learnt.new.store in
     let learns = c.learn-learnt.ensures.learns in
@@ -68,7 +68,7 @@ bump-requires g c =
     let vars : c.args.course.now.vars ≡ new.vars =
     g.met.S.Store.tracks_vars c.args.store.now c.args.course.now c.requires.tracked ∙ sym (ap (λ (s : StoreState). s.vars) learns.store ∙ ap (λ (s : StoreState). s.vars) c.in_ok-reserve_conflict.ensures.state)
     in
-    ap (λ n. is_within n lits) vars ∙ within
+    ap (λ n. is_within n lits) (ap (λ (t : TrailState). t.vars) c.course.view_is ∙ vars) ∙ within
 
 pub go_back-requires-clause-level : goal.go_back-requires-clause-level
 go_back-requires-clause-level g c =

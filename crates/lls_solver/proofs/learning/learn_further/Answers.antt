@@ -1,8 +1,9 @@
-use Rattle.std.proofs.Common.{◌+◌, ◌<◌, sym, ap, ◌∙◌, subst, arith}
+use Rattle.std.proofs.Common.{◌+◌, ◌<◌, length, sym, ap, ◌∙◌, subst, arith}
 use Rattle.lls_prooflog.specs.Spent.{live_after}
 use Rattle.lls_store.specs.Trail.{TrailState}
 use Rattle.lls_store.specs.Store.{StoreState, IsNewId}
 use Rattle.lls_analyse.specs.Spelled.{Spells}
+use Rattle.lls_solver.specs.Searching.{additions}
 use Rattle.lls_solver.proofs.Kept.{sound_kept, sound_moved, closed_below_kept, closed_below_moved}
 use Rattle.lls_solver.proofs.Clauses.{count_most, fresh_id}
 use Rattle.lls_solver.proofs.LearntClauses.{adds_learnt, further_learnt}

@@ -1,4 +1,4 @@
-use Rattle.std.proofs.Common.{ap, sym, ◌∙◌, subst}
+use Rattle.std.proofs.Common.{ap, sym, ◌∙◌}
 use Rattle.lls_store.specs.Trail.{TrailState}
 use Rattle.lls_solver.proofs.Kept.{sound_moved}
 use Rattle.lls_solver.proofs.Forgotten.{waiting_renamed}

@@ -1,4 +1,4 @@
-use Rattle.std.proofs.Common.{◌≡◌, ◌≤◌, ap, ◌∙◌, arith}
+use Rattle.std.proofs.Common.{◌≡◌, ap, ◌∙◌, arith}
 use Rattle.std.specs.Option.{unwrap_or}
 use Rattle.lls_store.specs.Trail.{level_of}
 use Rattle.lls_solver.proofs.Conflicts.{current_most, worth_most}
