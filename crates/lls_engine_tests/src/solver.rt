@@ -142,7 +142,7 @@ fn random_formulas_are_decided_within_budgets(rt: HostRuntime) -> Result<(), Fai
         (12, 54, 1, 80, "satisfiable"),
         (12, 54, 8, 80, "unsatisfiable"),
         (100, 450, 6, 450, "satisfiable"),
-        (100, 450, 3, 1_000, "unsatisfiable"),
+        (100, 450, 3, 2_000, "unsatisfiable"),
     ];
     for (vars, clauses, seed, budget, want) in rows {
         let formula = random_formula(rt.alloc(), vars, clauses, seed)?;
