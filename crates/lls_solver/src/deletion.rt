@@ -18,6 +18,12 @@ use lls_store::{Store, Trail};
 use std::alloc::Global;
 use std::cmp::Reverse;
 
+/// So many learnt clauses are live at the least where the first deletion comes.
+const LEAST_LEARNT: u64 = 64;
+
+/// So many more for each deletion before.
+const MORE_EACH_TIME: u64 = 64;
+
 /// A learnt clause that may go. The least goes first: one of no use since the last deletion, then the longer one, then the
 /// older one.
 #[derive(Clone, Copy, Debug, PartialEq, Eq, PartialOrd, Ord)]
@@ -27,12 +33,15 @@ struct Candidate {
     number: u32,
 }
 
-/// Whether so many learnt clauses are live that a deletion may come: 64, and 64 more for each deletion before.
+/// Whether so many learnt clauses are live that a deletion may come.
 pub(crate) fn is_late(log: &Log, learnt: u64) -> bool
     ensures { (formula : Cnf) → learnt ≡ length (added_after formula log.now.steps) → IsTrue result → IsLate formula log.now.steps }
 {
     let deletions = log.len() as u64 - log.additions();
-    learnt >= 64 && (learnt - 64) / 64 >= deletions
+    if learnt < LEAST_LEARNT {
+        return false;
+    }
+    (learnt - LEAST_LEARNT) / MORE_EACH_TIME >= deletions
 }
 
 /// Deletes the half of the learnt clauses that goes first, of those that are no reason.
