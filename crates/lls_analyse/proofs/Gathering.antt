@@ -10,7 +10,7 @@ use Rattle.lls_store.specs.Trail.{Entry}
 use Rattle.lls_analyse.specs.declared.visited.Seen.{Seen}
 use Rattle.lls_analyse.specs.declared.visited.Seen.TheVariants.{No, Open, Kept, Followed}
 use Rattle.lls_analyse.specs.Visited.{VisitedState, AreVisited, is_open, is_kept, status}
-use Rattle.lls_analyse.specs.Gathered.{level_or_zero, is_above, higher_of, highest_of, is_other}
+use Rattle.lls_analyse.specs.Gathered.{place_or_zero, is_behind, later_of, latest_of, is_other}
 use Rattle.lls_analyse.proofs.Visits.{unlike}
 use Rattle.lls_analyse.proofs.Opens.{some_open}
 
@@ -78,14 +78,14 @@ two_fail p (x ∷ xs) a b apart inside inside' fails fails' = by (first_or_later
   by (inr t) (inl t') rest = omega (arith, sum_by-cons (λ y. cond (p y) 1 0) x xs, ap one_if (ap p t' ∙ fails'), one_fails p xs a t fails)
   by (inr t) (inr t') rest = omega (arith, sum_by-cons (λ y. cond (p y) 1 0) x xs, at_most (p x), rest t t')
 
--- the highest of those that are kept
-pub none_kept : (entries : List Entry) (seen : List Seen) (ls : List ℤ) (best : Option ℤ) → fold (higher_of entries seen) best ls ≡ None → (best ≡ None) × ((m : ℤ) → Contains ls m → is_kept (status seen m) ≡ false)
+-- of those that are kept the one that became false last
+pub none_kept : (entries : List Entry) (seen : List Seen) (ls : List ℤ) (best : Option ℤ) → fold (later_of entries seen) best ls ≡ None → (best ≡ None) × ((m : ℤ) → Contains ls m → is_kept (status seen m) ≡ false)
 none_kept entries seen [] best is = (is, λ m inside. absurd (nothing_there m inside))
 none_kept entries seen (x ∷ xs) best is = by_test (is_kept (status seen x)) refl best is (none_kept entries seen xs) where
-  by_test : (k : Bool) → is_kept (status seen x) ≡ k → (best : Option ℤ) → fold (higher_of entries seen) (cond (k && is_above entries best x) (Some x) best) xs ≡ None
-      → ((best : Option ℤ) → fold (higher_of entries seen) best xs ≡ None → (best ≡ None) × ((m : ℤ) → Contains xs m → is_kept (status seen m) ≡ false)) → (best ≡ None) × ((m : ℤ) → Contains (x ∷ xs) m → is_kept (status seen m) ≡ false)
+  by_test : (k : Bool) → is_kept (status seen x) ≡ k → (best : Option ℤ) → fold (later_of entries seen) (cond (k && is_behind entries best x) (Some x) best) xs ≡ None
+      → ((best : Option ℤ) → fold (later_of entries seen) best xs ≡ None → (best ≡ None) × ((m : ℤ) → Contains xs m → is_kept (status seen m) ≡ false)) → (best ≡ None) × ((m : ℤ) → Contains (x ∷ xs) m → is_kept (status seen m) ≡ false)
   by_test true at None is' rest = absurd (let t = (rest (Some x) is').0 in cc)
-  by_test true at (Some b) is' rest = absurd (none (nat_lt (level_or_zero entries b) (level_or_zero entries x)) (rest (cond (nat_lt (level_or_zero entries b) (level_or_zero entries x)) (Some x) (Some b)) is').0) where
+  by_test true at (Some b) is' rest = absurd (none (nat_lt (place_or_zero entries b) (place_or_zero entries x)) (rest (cond (nat_lt (place_or_zero entries b) (place_or_zero entries x)) (Some x) (Some b)) is').0) where
     none : (c : Bool) → cond c (Some x) (Some b) ≡ None → ⊥
     none true e = cc
     none false e = cc
@@ -93,52 +93,52 @@ none_kept entries seen (x ∷ xs) best is = by_test (is_kept (status seen x)) re
       let r = rest best' is' in
       (r.0, λ m inside. elim (first_or_later x xs m inside) [ inl t ↦ ap (λ y. is_kept (status seen y)) (sym t) ∙ at | inr t ↦ r.1 m t ])
 
-pub record IsHighest (entries : List Entry) (seen : List Seen) (ls : List ℤ) (best : Option ℤ) (h : ℤ) : Type 0 where
+pub record IsLatest (entries : List Entry) (seen : List Seen) (ls : List ℤ) (best : Option ℤ) (h : ℤ) : Type 0 where
   pub from : (best ≡ Some h) ⊎ (Contains ls h × (is_kept (status seen h) ≡ true))
-  pub above_best : (b : ℤ) → best ≡ Some b → level_or_zero entries b ≤ level_or_zero entries h
-  pub above : (m : ℤ) → Contains ls m → is_kept (status seen m) ≡ true → level_or_zero entries m ≤ level_or_zero entries h
+  pub above_best : (b : ℤ) → best ≡ Some b → place_or_zero entries b ≤ place_or_zero entries h
+  pub above : (m : ℤ) → Contains ls m → is_kept (status seen m) ≡ true → place_or_zero entries m ≤ place_or_zero entries h
 
 some_same : {X : Type 0} → {x y : X} → Some x ≡ Some y → x ≡ y
 some_same is = cc
 
-pub one_highest : (entries : List Entry) (seen : List Seen) (ls : List ℤ) (best : Option ℤ) (h : ℤ) → fold (higher_of entries seen) best ls ≡ Some h → IsHighest entries seen ls best h
-one_highest entries seen [] best h is = record {
+pub one_latest : (entries : List Entry) (seen : List Seen) (ls : List ℤ) (best : Option ℤ) (h : ℤ) → fold (later_of entries seen) best ls ≡ Some h → IsLatest entries seen ls best h
+one_latest entries seen [] best h is = record {
   from = inl is;
-  above_best = λ b same. omega (arith, ap (level_or_zero entries) (some_same (sym same ∙ is)));
+  above_best = λ b same. omega (arith, ap (place_or_zero entries) (some_same (sym same ∙ is)));
   above = λ m inside _. absurd (nothing_there m inside);
 }
-one_highest entries seen (x ∷ xs) best h is = by_kept (is_kept (status seen x)) refl best is (one_highest entries seen xs) where
+one_latest entries seen (x ∷ xs) best h is = by_kept (is_kept (status seen x)) refl best is (one_latest entries seen xs) where
   -- the head is taken
-  taken : (best : Option ℤ) → is_kept (status seen x) ≡ true → ((b : ℤ) → best ≡ Some b → level_or_zero entries b ≤ level_or_zero entries x) → IsHighest entries seen xs (Some x) h → IsHighest entries seen (x ∷ xs) best h
+  taken : (best : Option ℤ) → is_kept (status seen x) ≡ true → ((b : ℤ) → best ≡ Some b → place_or_zero entries b ≤ place_or_zero entries x) → IsLatest entries seen xs (Some x) h → IsLatest entries seen (x ∷ xs) best h
   taken best' at beats r = record {
     from = elim r.from [
       | inl t ↦ (let same : x ≡ h = some_same t in inr ((0, omega arith, same), ap (λ y. is_kept (status seen y)) (sym same) ∙ at))
       | inr t ↦ inr (later x xs h t.0, t.1)
     ];
     above_best = λ b same. omega (arith, beats b same, r.above_best x refl);
-    above = λ m inside kept. elim (first_or_later x xs m inside) [ inl t ↦ omega (arith, ap (level_or_zero entries) t, r.above_best x refl) | inr t ↦ r.above m t kept ];
+    above = λ m inside kept. elim (first_or_later x xs m inside) [ inl t ↦ omega (arith, ap (place_or_zero entries) t, r.above_best x refl) | inr t ↦ r.above m t kept ];
   }
 
   -- or not
-  left : (best : Option ℤ) → (is_kept (status seen x) ≡ true → (b : ℤ) × ((best ≡ Some b) × (level_or_zero entries x ≤ level_or_zero entries b))) → IsHighest entries seen xs best h → IsHighest entries seen (x ∷ xs) best h
+  left : (best : Option ℤ) → (is_kept (status seen x) ≡ true → (b : ℤ) × ((best ≡ Some b) × (place_or_zero entries x ≤ place_or_zero entries b))) → IsLatest entries seen xs best h → IsLatest entries seen (x ∷ xs) best h
   left best' beaten r = record {
     from = elim r.from [ inl t ↦ inl t | inr t ↦ inr (later x xs h t.0, t.1) ];
     above_best = r.above_best;
     above = λ m inside kept. elim (first_or_later x xs m inside) [
-      | inl t ↦ (let (b, by) = beaten (ap (λ y. is_kept (status seen y)) t ∙ kept) in omega (arith, ap (level_or_zero entries) t, by.1, r.above_best b by.0))
+      | inl t ↦ (let (b, by) = beaten (ap (λ y. is_kept (status seen y)) t ∙ kept) in omega (arith, ap (place_or_zero entries) t, by.1, r.above_best b by.0))
       | inr t ↦ r.above m t kept
     ];
   }
 
-  by_level : (b : ℤ) (c : Bool) → nat_lt (level_or_zero entries b) (level_or_zero entries x) ≡ c → is_kept (status seen x) ≡ true → fold (higher_of entries seen) (cond c (Some x) (Some b)) xs ≡ Some h
-      → ((best : Option ℤ) (h : ℤ) → fold (higher_of entries seen) best xs ≡ Some h → IsHighest entries seen xs best h) → IsHighest entries seen (x ∷ xs) (Some b) h
-  by_level b true lt at is' rest = taken (Some b) at (λ b' same. omega (arith, ap (level_or_zero entries) (some_same same), ltb-true (level_or_zero entries b) (level_or_zero entries x) lt)) (rest (Some x) h is')
-  by_level b false ge at is' rest = left (Some b) (λ _. (b, (refl, ltb-false (level_or_zero entries b) (level_or_zero entries x) ge))) (rest (Some b) h is')
+  by_place : (b : ℤ) (c : Bool) → nat_lt (place_or_zero entries b) (place_or_zero entries x) ≡ c → is_kept (status seen x) ≡ true → fold (later_of entries seen) (cond c (Some x) (Some b)) xs ≡ Some h
+      → ((best : Option ℤ) (h : ℤ) → fold (later_of entries seen) best xs ≡ Some h → IsLatest entries seen xs best h) → IsLatest entries seen (x ∷ xs) (Some b) h
+  by_place b true lt at is' rest = taken (Some b) at (λ b' same. omega (arith, ap (place_or_zero entries) (some_same same), ltb-true (place_or_zero entries b) (place_or_zero entries x) lt)) (rest (Some x) h is')
+  by_place b false ge at is' rest = left (Some b) (λ _. (b, (refl, ltb-false (place_or_zero entries b) (place_or_zero entries x) ge))) (rest (Some b) h is')
 
-  by_kept : (k : Bool) → is_kept (status seen x) ≡ k → (best : Option ℤ) → fold (higher_of entries seen) (cond (k && is_above entries best x) (Some x) best) xs ≡ Some h
-      → ((best : Option ℤ) (h : ℤ) → fold (higher_of entries seen) best xs ≡ Some h → IsHighest entries seen xs best h) → IsHighest entries seen (x ∷ xs) best h
+  by_kept : (k : Bool) → is_kept (status seen x) ≡ k → (best : Option ℤ) → fold (later_of entries seen) (cond (k && is_behind entries best x) (Some x) best) xs ≡ Some h
+      → ((best : Option ℤ) (h : ℤ) → fold (later_of entries seen) best xs ≡ Some h → IsLatest entries seen xs best h) → IsLatest entries seen (x ∷ xs) best h
   by_kept true at None is' rest = taken None at (λ b same. absurd cc) (rest (Some x) h is')
-  by_kept true at (Some b) is' rest = by_level b (nat_lt (level_or_zero entries b) (level_or_zero entries x)) refl at is' rest
+  by_kept true at (Some b) is' rest = by_place b (nat_lt (place_or_zero entries b) (place_or_zero entries x)) refl at is' rest
   by_kept false at best' is' rest = left best' (λ kept. absurd (unlike kept at)) (rest best' h is')
 
 -- there is an open literal
@@ -149,9 +149,9 @@ asserting_found s None h some none =
     absurd (unlike (ap is_open at.is_open) (All-contains (λ m. is_open (status s.seen m) ≡ false) s.lits l none at.contains))
 
 -- the others are fewer by two than all
-pub others_few : (entries : List Entry) (s : VisitedState) (first second : ℤ) → Contains s.lits first → is_open (status s.seen first) ≡ true → highest_of entries s ≡ Some second → count_by (is_other s.seen second) s.lits + 2 ≤ length s.lits
+pub others_few : (entries : List Entry) (s : VisitedState) (first second : ℤ) → Contains s.lits first → is_open (status s.seen first) ≡ true → latest_of entries s ≡ Some second → count_by (is_other s.seen second) s.lits + 2 ≤ length s.lits
 others_few entries s first second inside opened is =
-    let top = one_highest entries s.seen s.lits None second is in
+    let top = one_latest entries s.seen s.lits None second is in
     let at : Contains s.lits second × (is_kept (status s.seen second) ≡ true) = elim top.from [ inl t ↦ absurd cc | inr t ↦ t ] in
     two_fail (is_other s.seen second) s.lits first second (λ same. shut (status s.seen second) at.1 (ap (λ m. is_open (status s.seen m)) (sym same) ∙ opened)) inside at.0
     (open_not_kept (status s.seen first) opened (not (int_eq first second)))

@@ -2,7 +2,7 @@
 use Rattle.std.specs.Prelude.{◌≡◌, ◌&&◌, ℕ, ℤ, Bool, true, not, nat_lt, List, [], ◌∷◌, Contains, Option, Some, None, unwrap_or, fold, filter, if◌then◌else◌}
 use Rattle.std.specs.Ordering.{int_eq}
 use Rattle.lls_lit.specs.Literal.{variable_of}
-use Rattle.lls_store.specs.Trail.{Entry, level_of}
+use Rattle.lls_store.specs.Trail.{Entry, level_of, place_of}
 use Rattle.lls_analyse.specs.declared.visited.Seen.{Seen}
 use Rattle.lls_analyse.specs.declared.visited.Seen.TheVariants.{Open}
 use Rattle.lls_analyse.specs.Visited.{VisitedState, is_kept, status}
@@ -11,21 +11,25 @@ use Rattle.lls_analyse.specs.Visited.{VisitedState, is_kept, status}
 abbrev pub level_or_zero : List Entry → ℤ → ℕ
 level_or_zero entries l = unwrap_or (level_of entries (variable_of l)) 0
 
--- the literal has a higher level than that one
-abbrev pub is_above : List Entry → Option ℤ → ℤ → Bool
-is_above entries None l = true
-is_above entries (Some m) l = nat_lt (level_or_zero entries m) (level_or_zero entries l)
+-- where a literal's variable stands in the trail, 0 where it has no value
+abbrev pub place_or_zero : List Entry → ℤ → ℕ
+place_or_zero entries l = unwrap_or (place_of entries (variable_of l)) 0
 
--- the literal is kept, and has a higher level than the highest so far
-abbrev pub is_higher : List Entry → List Seen → Option ℤ → ℤ → Bool
-is_higher entries seen highest l = is_kept (status seen l) && is_above entries highest l
+-- the literal's variable stands behind that one's
+abbrev pub is_behind : List Entry → Option ℤ → ℤ → Bool
+is_behind entries None l = true
+is_behind entries (Some m) l = nat_lt (place_or_zero entries m) (place_or_zero entries l)
 
--- of the highest so far and another literal
-abbrev pub higher_of : List Entry → List Seen → Option ℤ → ℤ → Option ℤ
-higher_of entries seen highest l = if is_higher entries seen highest l then Some l else highest
+-- the literal is kept, and became false later than the latest so far
+abbrev pub is_later : List Entry → List Seen → Option ℤ → ℤ → Bool
+is_later entries seen latest l = is_kept (status seen l) && is_behind entries latest l
 
-abbrev pub highest_of : List Entry → VisitedState → Option ℤ
-highest_of entries s = fold (higher_of entries s.seen) None s.lits
+-- of the latest so far and another literal
+abbrev pub later_of : List Entry → List Seen → Option ℤ → ℤ → Option ℤ
+later_of entries seen latest l = if is_later entries seen latest l then Some l else latest
+
+abbrev pub latest_of : List Entry → VisitedState → Option ℤ
+latest_of entries s = fold (later_of entries s.seen) None s.lits
 
 -- a literal that is kept, and isn't that one
 abbrev pub is_other : List Seen → ℤ → ℤ → Bool
@@ -36,12 +40,12 @@ abbrev pub kept_from : VisitedState → Option ℤ → List ℤ
 kept_from s None = []
 kept_from s (Some second) = second ∷ filter (is_other s.seen second) s.lits
 
--- the open literal, one of the highest level of those that are kept, and the others
+-- the open literal, of those that are kept the one that became false last, and the others
 pub record Gathers (entries : List Entry) (s : VisitedState) (lits : List ℤ) : Type 0 where
   pub first : ℤ
   pub contains : Contains s.lits first
   pub is_open : status s.seen first ≡ Open
-  pub gathered : lits ≡ first ∷ kept_from s (highest_of entries s)
+  pub gathered : lits ≡ first ∷ kept_from s (latest_of entries s)
 
 -- the level of the second literal, 0 where there is none
 abbrev pub back_of : List Entry → List ℤ → ℕ

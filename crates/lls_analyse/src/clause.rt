@@ -1,4 +1,4 @@
-// The literals of a learnt clause: first the one of the current level, then one of the highest of the other levels.
+// The literals of a learnt clause: first the one of the current level, then of the others the one that became false last.
 ghost use Rattle.std.specs.Prelude.{◌≡◌, ◌≤◌, ◌<◌, ◌+◌, ℕ, ℤ, [], ◌∷◌, ◌++◌, Bool, true, false, All, length, count_by, filter, fold, None, vec_capacity, Contains, IfNone, IfSome, IsTrue, unwrap_or};
 ghost use Rattle.lls_lit.specs.Literal.{variable_of};
 ghost use Rattle.lls_lit.specs.Formula.{is_within};
@@ -7,7 +7,7 @@ ghost use Rattle.lls_store.specs.Trail.{TrailState};
 ghost use Rattle.lls_store.specs.Sound.{IsSound};
 ghost use Rattle.lls_store.specs.Store.{IsLearnt, IsNewId, sealed};
 ghost use Rattle.lls_analyse.specs.Visited.{is_open, status, AreVisited};
-ghost use Rattle.lls_analyse.specs.Gathered.{back_of, highest_of, is_higher, is_other, level_or_zero, Gathers};
+ghost use Rattle.lls_analyse.specs.Gathered.{back_of, latest_of, is_later, is_other, level_or_zero, place_or_zero, Gathers};
 
 use crate::visited::Visited;
 use lls_lit::Lit;
@@ -21,34 +21,43 @@ fn level_or_zero(trail: &Trail, lit: Lit) -> u32
     trail.level(lit.var()).unwrap_or(0)
 }
 
-// Whether the literal is kept, and has a higher level than the highest so far.
-fn is_higher(visited: &Visited, trail: &Trail, highest: &Option<Lit>, lit: Lit) -> bool
+// Where a literal's variable stands in the trail, 0 where it has no value.
+fn place_or_zero(trail: &Trail, lit: Lit) -> usize
+    requires { variable_of lit ≤ trail.now.vars }
+    ensures { result ≡ place_or_zero trail.now.entries lit }
+{
+    trail.place(lit.var()).unwrap_or(0)
+}
+
+// Whether the literal is kept, and became false later than the latest so far.
+fn is_later(visited: &Visited, trail: &Trail, latest: &Option<Lit>, lit: Lit) -> bool
     requires vars { visited.now.vars ≡ trail.now.vars }
     requires within { variable_of lit ≤ trail.now.vars }
-    requires highest { IfSome highest.now (λ l. variable_of l ≤ trail.now.vars) }
-    ensures { result ≡ is_higher trail.now.entries visited.now.seen highest.now lit }
+    requires latest { IfSome latest.now (λ l. variable_of l ≤ trail.now.vars) }
+    ensures { result ≡ is_later trail.now.entries visited.now.seen latest.now lit }
 {
     if !visited.is_kept(lit.var()) {
         return false;
     }
-    match highest {
-        Some(other) => level_or_zero(trail, *other) < level_or_zero(trail, lit),
+    match latest {
+        Some(other) => place_or_zero(trail, *other) < place_or_zero(trail, lit),
         None => true,
     }
 }
 
-// A literal of the highest level of those that are kept.
-fn highest(visited: &Visited, trail: &Trail) -> Option<Lit>
+// Of the literals that are kept the one that became false last: none is of a higher level. The store watches it, and what is learnt
+// is propagated from there on.
+fn latest(visited: &Visited, trail: &Trail) -> Option<Lit>
     requires { visited.now.vars ≡ trail.now.vars }
-    ensures { result ≡ highest_of trail.now.entries visited.now }
+    ensures { result ≡ latest_of trail.now.entries visited.now }
 {
-    let mut highest = None;
+    let mut latest = None;
     for lit in visited.lits() {
-        if is_higher(visited, trail, &highest, *lit) {
-            highest = Some(*lit);
+        if is_later(visited, trail, &latest, *lit) {
+            latest = Some(*lit);
         }
     }
-    highest
+    latest
 }
 
 // A literal that is open.
@@ -97,7 +106,7 @@ pub(crate) fn gather_clause(visited: &Visited, trail: &Trail, clause: &mut Vec<L
     ensures room { vec_capacity clause.new ≡ vec_capacity clause.old }
 {
     clause.push_reserved(asserting(visited).unwrap());
-    if let Some(second) = highest(visited, trail) {
+    if let Some(second) = latest(visited, trail) {
         clause.push_reserved(second);
         push_others(visited, second, clause);
     }

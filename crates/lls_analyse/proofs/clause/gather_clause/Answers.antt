@@ -20,7 +20,7 @@ push_reserved-requires-in-Some c =
     let s = c.args.visited.now in
     let F : Option ℤ → Type 0 = λ o. IfSome o (λ (l : ℤ). Contains s.lits l) in
     let O : Option ℤ → Type 0 = λ o. IfSome o (λ (l : ℤ). is_open (status s.seen l) ≡ true) in
-    let few = others_few c.args.trail.now.entries s c.unwrap.result c.in-Some.second (subst F c.unwrap.ensures c.asserting.ensures.found) (subst O c.unwrap.ensures c.asserting.ensures.is_open) (sym c.highest.ensures ∙ c.in-Some.is) in
+    let few = others_few c.args.trail.now.entries s c.unwrap.result c.in-Some.second (subst F c.unwrap.ensures c.asserting.ensures.found) (subst O c.unwrap.ensures c.asserting.ensures.is_open) (sym c.latest.ensures ∙ c.in-Some.is) in
     omega (arith, few, visited_few s c.asserting.ensures.visited, c.requires.room, c.push_reserved.ensures.len, c.push_reserved.ensures.capacity, ap (λ (ls : List ℤ). length ls) c.requires.empty)
 
 pub push_others-requires : goal.push_others-requires
@@ -28,5 +28,5 @@ push_others-requires c =
     let s = c.args.visited.now in
     let F : Option ℤ → Type 0 = λ o. IfSome o (λ (l : ℤ). Contains s.lits l) in
     let O : Option ℤ → Type 0 = λ o. IfSome o (λ (l : ℤ). is_open (status s.seen l) ≡ true) in
-    let few = others_few c.args.trail.now.entries s c.unwrap.result c.in-Some.second (subst F c.unwrap.ensures c.asserting.ensures.found) (subst O c.unwrap.ensures c.asserting.ensures.is_open) (sym c.highest.ensures ∙ c.in-Some.is) in
+    let few = others_few c.args.trail.now.entries s c.unwrap.result c.in-Some.second (subst F c.unwrap.ensures c.asserting.ensures.found) (subst O c.unwrap.ensures c.asserting.ensures.is_open) (sym c.latest.ensures ∙ c.in-Some.is) in
     omega (arith, few, visited_few s c.asserting.ensures.visited, c.requires.room, c.push_reserved.ensures.len, c.push_reserved.ensures.capacity, c.push_reserved-in-Some.ensures.len, c.push_reserved-in-Some.ensures.capacity, ap (λ (ls : List ℤ). length ls) c.requires.empty)

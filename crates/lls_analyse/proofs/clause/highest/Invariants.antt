@@ -1,8 +1,0 @@
-use Rattle.std.proofs.Common.{◌≡◌, ◌≤◌, fold, take, None}
-use Rattle.std.specs.Prelude.{IfSome}
-use Rattle.lls_lit.specs.Literal.{variable_of}
-use Rattle.lls_analyse.specs.Gathered.{higher_of}
-use Rattle.lls_analyse.proofs.clause.highest.Given as goal
-
-abbrev pub invariant-loop-lit : goal.invariant-loop-lit
-invariant-loop-lit l = (l.highest ≡ fold (higher_of l.trail.entries l.visited.seen) None (take l.lit-index l.lit-items)) × IfSome l.highest (λ m. variable_of m ≤ l.trail.vars)
