@@ -20,6 +20,9 @@ lives-spans_in (s ∷ ss) [] ids rows = absurd (omega (arith, rows.lives_each))
 lives-spans_in (s ∷ ss) (l ∷ ls) [] rows = absurd (omega (arith, rows.ids_each))
 lives-spans_in (s ∷ ss) (l ∷ ls) (i ∷ ids) rows = ap (λ (lives : List Bool). l ∷ lives) (lives-spans_in ss ls ids (rest_rows s l i ss ls ids rows))
 
+abbrev pub no_place : Span
+no_place = record { start = 0; end = 0 }
+
 row_at : (ss : List Span) (ls : List Bool) (ids : List ℕ) (k : ℕ) (d : SpanState) (s : Span) (l : Bool) (i : ℕ) → k < length (spans_in ss ls ids) → get_or (spans_in ss ls ids) k d ≡ span_of (get_or ss k s) (get_or ls k l) (get_or ids k i)
 row_at [] ls ids k d s l i lt = absurd (omega arith)
 row_at (x ∷ ss) [] ids k d s l i lt = absurd (omega arith)
@@ -35,10 +38,13 @@ pub row_with_span : (ss : List Span) (ls : List Bool) (ids : List ℕ) (k : ℕ)
 row_with_span ss ls ids k s lt is = ap (with_span ls ids k) is ∙ sym (row_at ss ls ids k (with_span ls ids k s) s false 0 lt)
 
 pub live_at_row : (ss : List Span) (ls : List Bool) (ids : List ℕ) (k : ℕ) (d : SpanState) (l : Bool) → k < length (spans_in ss ls ids) → l ≡ get_or ls k l → (get_or (spans_in ss ls ids) k d).live ≡ l
-live_at_row ss ls ids k d l lt is = ap (λ (s : SpanState). s.live) (row_at ss ls ids k d (record { start = 0; end = 0 }) l 0 lt) ∙ sym is
+live_at_row ss ls ids k d l lt is = ap (λ (s : SpanState). s.live) (row_at ss ls ids k d no_place l 0 lt) ∙ sym is
 
 pub id_at_row : (ss : List Span) (ls : List Bool) (ids : List ℕ) (k : ℕ) (d : SpanState) (i : ℕ) → k < length (spans_in ss ls ids) → i ≡ get_or ids k i → (get_or (spans_in ss ls ids) k d).id ≡ i
-id_at_row ss ls ids k d i lt is = ap (λ (s : SpanState). s.id) (row_at ss ls ids k d (record { start = 0; end = 0 }) false i lt) ∙ sym is
+id_at_row ss ls ids k d i lt is = ap (λ (s : SpanState). s.id) (row_at ss ls ids k d no_place false i lt) ∙ sym is
+
+abbrev pub row : List Span → List Bool → List ℕ → ℕ → SpanState
+row ss ls ids k = with_span ls ids k (get_or ss k no_place)
 
 -- one row more
 pub spans_in-push : (ss : List Span) (ls : List Bool) (ids : List ℕ) (s : Span) (l : Bool) (i : ℕ) → HaveRows ss ls ids → spans_in (ss ++ s ∷ []) (ls ++ l ∷ []) (ids ++ i ∷ []) ≡ spans_in ss ls ids ++ span_of s l i ∷ []

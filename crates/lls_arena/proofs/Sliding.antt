@@ -2,15 +2,17 @@
 use Rattle.std.proofs.Common.{◌≡◌, ℕ, ◌+◌, ◌-◌, ◌<◌, ◌≤◌, Bool, true, false, cond, List, [], ◌∷◌, ◌++◌, length, get_or, set, take, drop, None, refl, sym, ap, subst, ◌∙◌, arith}
 use Rattle.std.specs.Prelude.{ℤ, pos, filter, map}
 use Rattle.std.specs.List.{slice_range}
-use Rattle.std.proofs.lemmas.List.{append-nil, drop_more, drop-set-lt, get_or_default, length-drop, map-append, same_lists, take_all, take_more, take_more_set}
+use Rattle.std.proofs.lemmas.List.{append-nil, drop_more, drop-set-lt, get_or_default, length-drop, length-set, map-append, same_lists, take_all, take_more, take_more_set}
 use Rattle.std.proofs.lemmas.List.Elements.{filter-append}
 use Rattle.lls_arena.specs.declared.edges.Edges.{Edges}
+use Rattle.lls_arena.specs.declared.arena.Span.{Span}
 use Rattle.lls_arena.specs.Arena.{HeadState, unlinked}
 use Rattle.lls_arena.specs.Links.{link_in}
-use Rattle.lls_arena.specs.Parts.{SpanState, AreAllWatched, AreInOrder, AreSlid, AreWatched, DifferWithin, head_at, heads_in}
+use Rattle.lls_arena.specs.Parts.{AreAllWatched, AreInOrder, AreSlid, AreWatched, DifferWithin, HaveRows, SpanState, head_at, heads_in, span_of, spans_in}
 use Rattle.lls_arena.proofs.Buffer.{AreAllWatched-same, AreInOrder-le, heads_in-same}
 use Rattle.lls_arena.proofs.Heads.{AreAllWatched-push, AreInOrder-push, heads_in-push, no_edges}
 use Rattle.lls_arena.proofs.Pieces.{AreAllWatched-behind, get_or-slice_range, heads_in-behind, length-slice_range, take-outside}
+use Rattle.lls_arena.proofs.Rows.{length-spans_in, no_place, row, row_with_span, spans_in-set}
 
 -- a piece that was copied
 pub slice_range-moved : (xs ys : List ℤ) (s e to n : ℕ) → length ys ≡ length xs → to ≤ s → s ≤ e → e ≤ length xs → n ≡ e - s → ((j : ℕ) (d : ℤ) → j < n → get_or ys (to + j) d ≡ get_or xs (s + j) d) → slice_range ys to (to + (e - s)) ≡ slice_range xs s e
@@ -198,9 +200,51 @@ AreSlid-end heads edges spans lits k kept end sliding all within = record {
   watched = sliding.done_watched;
 }
 
--- the next clause ends within the buffer
-pub ends_within : (heads : List HeadState) (edges : List Edges) (spans : List SpanState) (lits : List ℤ) (k kept end : ℕ) (s : SpanState) → AreSliding heads edges spans lits k kept end → length edges ≡ length spans → k < length spans → s ≡ get_or spans k s → s.end ≤ length lits
-ends_within heads edges spans lits k kept end s sliding each lt at_span =
-    let e = get_or edges k no_edges in
-    let at = is_at heads edges spans lits k kept end e s sliding each lt (get_or_default edges k no_edges e (omega (arith, each))) at_span in
-    AreInOrder-le s.end (drop (k + 1) spans) (length lits) at.rest_order
+-- the same, as three tables tell of the clauses
+pub record AreRowsSliding (heads : List HeadState) (edges : List Edges) (spans : List Span) (lives : List Bool) (ids : List ℕ) (lits : List ℤ) (k kept end : ℕ) : Type 0 where
+  pub rows : HaveRows spans lives ids
+  pub each : length edges ≡ length spans
+  pub sliding : AreSliding heads edges (spans_in spans lives ids) lits k kept end
+
+-- the next clause stands behind the live ones before it, within the buffer
+pub record IsNext (lits : List ℤ) (end : ℕ) (s : Span) : Type 0 where
+  pub begins : end ≤ s.start
+  pub straight : s.start ≤ s.end
+  pub ends : s.end ≤ length lits
+
+module _ (heads : List HeadState) (edges : List Edges) (spans : List Span) (lives : List Bool) (ids : List ℕ) (lits : List ℤ) (k kept end : ℕ) (sliding : AreRowsSliding heads edges spans lives ids lits k kept end) where
+  each_row : length (spans_in spans lives ids) ≡ length spans
+  each_row = length-spans_in spans lives ids sliding.rows
+
+  each_edge : length edges ≡ length (spans_in spans lives ids)
+  each_edge = sliding.each ∙ sym each_row
+
+  next_is : k < length spans → row spans lives ids k ≡ get_or (spans_in spans lives ids) k (row spans lives ids k)
+  next_is lt = row_with_span spans lives ids k (get_or spans k no_place) (omega (arith, lt, each_row)) (get_or_default spans k no_place (get_or spans k no_place) lt)
+
+  pub is_next : k < length spans → IsNext lits end (get_or spans k no_place)
+  is_next lt =
+      let e = get_or edges k no_edges in
+      let at = is_at heads edges (spans_in spans lives ids) lits k kept end e (row spans lives ids k) sliding.sliding each_edge (omega (arith, lt, each_row)) (get_or_default edges k no_edges e (omega (arith, lt, sliding.each))) (next_is lt) in
+      record { begins = at.begins; straight = at.straight; ends = AreInOrder-le (get_or spans k no_place).end (drop (k + 1) (spans_in spans lives ids)) (length lits) at.rest_order }
+
+  pub AreRowsSliding-dead : k < length spans → get_or lives k false ≡ false → AreRowsSliding heads edges spans lives ids lits (k + 1) kept end
+  AreRowsSliding-dead lt dead = record {
+    rows = sliding.rows;
+    each = sliding.each;
+    sliding = AreSliding-dead heads edges (spans_in spans lives ids) lits k kept end (row spans lives ids k) sliding.sliding each_edge (omega (arith, lt, each_row)) (next_is lt) dead;
+  }
+
+  pub AreRowsSliding-live : (new : List ℤ) (to : ℕ) (e moved : Edges) (put : Span) → k < length spans → e ≡ get_or edges k e → get_or lives k false ≡ true → HasSlid lits new e moved (row spans lives ids k) (span_of put true (get_or ids k 0)) end to → AreRowsSliding heads (set edges kept moved) (set spans kept put) (set lives kept true) (set ids kept (get_or ids k 0)) new (k + 1) (kept + 1) to
+  AreRowsSliding-live new to e moved put lt at_edges live slid = record {
+    rows = record {
+      lives_each = omega (arith, length-set lives kept true, length-set spans kept put, sliding.rows.lives_each);
+      ids_each = omega (arith, length-set ids kept (get_or ids k 0), length-set spans kept put, sliding.rows.ids_each);
+    };
+    each = omega (arith, length-set edges kept moved, length-set spans kept put, sliding.each);
+    sliding = rw (spans_in-set spans lives ids kept put true (get_or ids k 0))
+      (AreSliding-live heads edges (spans_in spans lives ids) lits new k kept end to e moved (row spans lives ids k) (span_of put true (get_or ids k 0)) sliding.sliding each_edge (omega (arith, lt, each_row)) at_edges (next_is lt) live slid);
+  }
+
+  pub AreRowsSliding-end : length heads ≤ k → k ≤ length spans → AreSlid heads edges (spans_in spans lives ids) lits kept end
+  AreRowsSliding-end all within = AreSlid-end heads edges (spans_in spans lives ids) lits k kept end sliding.sliding all (omega (arith, within, each_row))

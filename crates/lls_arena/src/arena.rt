@@ -2,7 +2,7 @@
 ghost use Rattle.std.specs.Prelude.{◌≡◌, ◌<◌, ◌≤◌, ◌+◌, ◌-◌, [], ◌∷◌, ◌++◌, false, true, length, map, slice_get, take, Some, IfSome, OnOk};
 ghost use Rattle.std.specs.List.{slice_range};
 ghost use Rattle.std.specs.Option.{ForSome};
-ghost use Rattle.lls_arena.specs.declared.TheConstants.{MOST_HEADS};
+ghost use Rattle.lls_arena.specs.declared.TheConstants.{MOST_HEADS, MOST_LITS};
 ghost use Rattle.lls_arena.specs.Arena.{IsLive, changed_at, compacted, empty_arena, killed, link_of, live_before, place_of, sealed, swapped, unlinked, with_link};
 ghost use Rattle.lls_arena.specs.Parts.{AreAllWatched, AreInOrder, AreSlid, AreTold, DifferWithin, HaveRows, heads_in, spans_in};
 
@@ -286,6 +286,7 @@ fn slide_live(
     lits: &mut [Lit],
 ) -> (usize, u32)
     requires rows { HaveRows spans.old lives.old ids.old }
+    requires few { length lits.old ≤ MOST_LITS }
     requires in_order { AreInOrder 0 (spans_in spans.old lives.old ids.old) (length lits.old) }
     requires watched { AreAllWatched lits.old edges.old (spans_in spans.old lives.old ids.old) }
     ensures { AreSlid (heads_in lits.old edges.old (spans_in spans.old lives.old ids.old)) edges.new (spans_in spans.new lives.new ids.new) lits.new result.0 result.1 }
@@ -297,12 +298,7 @@ fn slide_live(
             let span = spans[k];
             let start = end;
             end = start + (span.end - span.start);
-            slide(
-                lits,
-                span.start as usize,
-                span.end as usize,
-                start as usize,
-            );
+            slide(lits, span.start as usize, span.end as usize, start as usize);
             edges[kept] = edges[k].unlinked();
             spans[kept] = Span { start, end };
             lives[kept] = true;

@@ -25,7 +25,12 @@ invariant_of-self c =
     let rows = length-spans_in a.spans.items a.lives.items a.ids.items c.self.invariant.3 in
     let more_spans = ap length c.push_reserved-2.ensures.items in
     let more_edges = ap length c.push_reserved.ensures.items in
-    let span_pushed = length_push spans span in
+    let longer = length_push spans span in
+    let span_pushed = length_push a.spans.items place in
+    let life_pushed = length_push a.lives.items true in
+    let id_pushed = length_push a.ids.items c.args.id in
+    let more_lives = ap length c.push_reserved-3.ensures.items in
+    let more_ids = ap length c.push_reserved-4.ensures.items in
     let edges_pushed = length_push a.edges.items c.of.result in
     let spare = ap (λ (x : ArenaState). x.spare_heads) c.self.view_is in (
       record {

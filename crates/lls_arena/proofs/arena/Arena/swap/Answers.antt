@@ -17,8 +17,8 @@ index-span-requires c =
     let lt : c.args.c < length spans = live_inside c.args.self.now a.lits.items a.edges.items spans c.args.c (ap (λ (x : ArenaState). x.heads) c.self.view_is) c.self.invariant.0.watched c.requires.live in
     omega (arith, lt, length-spans_in a.spans.items a.lives.items a.ids.items c.self.invariant.3)
 
-pub overflow_add-span : goal.overflow_add-span
-overflow_add-span c =
+pub overflow_add-start : goal.overflow_add-start
+overflow_add-start c =
     let a = c.self.inside in
     let spans = spans_in a.spans.items a.lives.items a.ids.items in
     let parts = c.self.invariant.0 in
@@ -29,8 +29,8 @@ overflow_add-span c =
     let first : s.start + c.args.i < s.end = literal_inside c.args.self.now a.lits.items a.edges.items spans c.args.c c.args.i s (ap (λ (x : ArenaState). x.heads) c.self.view_is) parts.watched lt at_span c.requires.first in
     omega (arith, first, at.ends, parts.tail_begins)
 
-pub overflow_add-span-2 : goal.overflow_add-span-2
-overflow_add-span-2 c =
+pub overflow_add-start-2 : goal.overflow_add-start-2
+overflow_add-start-2 c =
     let a = c.self.inside in
     let spans = spans_in a.spans.items a.lives.items a.ids.items in
     let parts = c.self.invariant.0 in
