@@ -243,7 +243,7 @@ module _ (heads : List HeadState) (edges : List Edges) (spans : List Span) (live
     };
     each = omega (arith, length-set edges kept moved, length-set spans kept put, sliding.each);
     sliding = rw (spans_in-set spans lives ids kept put true (get_or ids k 0))
-      (AreSliding-live heads edges (spans_in spans lives ids) lits new k kept end to e moved (row spans lives ids k) (span_of put true (get_or ids k 0)) sliding.sliding each_edge (omega (arith, lt, each_row)) at_edges (next_is lt) live slid);
+        (AreSliding-live heads edges (spans_in spans lives ids) lits new k kept end to e moved (row spans lives ids k) (span_of put true (get_or ids k 0)) sliding.sliding each_edge (omega (arith, lt, each_row)) at_edges (next_is lt) live slid);
   }
 
   pub AreRowsSliding-end : length heads ≤ k → k ≤ length spans → AreSlid heads edges (spans_in spans lives ids) lits kept end

@@ -1,4 +1,4 @@
-use Rattle.std.proofs.Common.{◌≡◌, ◌+◌, ◌-◌, ◌<◌, true, length, get_or, refl, arith}
+use Rattle.std.proofs.Common.{◌+◌, ◌-◌, ◌<◌, length, get_or, refl, arith}
 use Rattle.lls_arena.specs.Parts.{heads_in, spans_in}
 use Rattle.lls_arena.proofs.Heads.{length-heads_in, same_length}
 use Rattle.lls_arena.proofs.Rows.{length-spans_in, no_place}

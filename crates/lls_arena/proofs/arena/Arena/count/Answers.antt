@@ -5,6 +5,11 @@ use Rattle.lls_arena.proofs.Heads.{length-heads_in}
 use Rattle.lls_arena.proofs.Rows.{length-spans_in}
 use Rattle.lls_arena.proofs.arena.Arena.count.Goals as goal
 
+pub overflow_cast-result : goal.overflow_cast-result
+overflow_cast-result c =
+    let a = c.self.inside in
+    omega (arith, c.len.ensures, length-spans_in a.spans.items a.lives.items a.ids.items c.self.invariant.3, c.self.invariant.0.few)
+
 pub returns : goal.returns
 returns c =
     let a = c.self.inside in

@@ -1,4 +1,4 @@
-use Rattle.std.proofs.Common.{length, ap, sym, ◌∙◌, arith}
+use Rattle.std.proofs.Common.{length, ap, ◌∙◌, arith}
 use Rattle.std.proofs.lemmas.List.{with_items_is}
 use Rattle.lls_arena.specs.Parts.{spans_in, AreTold}
 use Rattle.lls_arena.proofs.Heads.{same_length}
@@ -11,6 +11,11 @@ tell_where_to-requires-clause-each c =
     let a = c.self.inside in
     let spans = spans_in a.spans.items a.lives.items a.ids.items in
     omega (arith, ap length c.deref_mut.ensures.value, same_length a.lits.items a.edges.items spans c.self.invariant.0.watched, ap length c.deref.ensures.value, length-spans_in a.spans.items a.lives.items a.ids.items c.self.invariant.3, c.self.invariant.3.lives_each)
+
+pub tell_where_to-requires-clause-few : goal.tell_where_to-requires-clause-few
+tell_where_to-requires-clause-few c =
+    let a = c.self.inside in
+    omega (arith, ap length c.deref.ensures.value, length-spans_in a.spans.items a.lives.items a.ids.items c.self.invariant.3, c.self.invariant.3.lives_each, c.self.invariant.0.few)
 
 pub invariant_of-self : goal.invariant_of-self
 invariant_of-self c =

@@ -10,6 +10,11 @@ use Rattle.lls_arena.proofs.Told.{no_plan}
 use Rattle.lls_arena.proofs.Rows.{length-spans_in, spans_in-push}
 use Rattle.lls_arena.proofs.arena.Arena.seal.Goals as goal
 
+pub overflow_cast-number : goal.overflow_cast-number
+overflow_cast-number c =
+    let a = c.self.inside in
+    omega (arith, c.len-number.ensures, length-spans_in a.spans.items a.lives.items a.ids.items c.self.invariant.3, c.self.invariant.0.few)
+
 pub invariant_of-self : goal.invariant_of-self
 invariant_of-self c =
     let a = c.self.inside in
