@@ -179,3 +179,10 @@ literal_inside arena lits es spans k i s is watched lt at_span long =
     let read = slice_get-heads_in lits es spans k e s watched lt at_edges at_span in
     let short : i < length (slice_range lits s.start s.end) = long (head_at lits e s) (ap (λ (heads : List HeadState). slice_get heads k) (sym is) ∙ read) in
     omega (arith, short, length-take (s.end - s.start) (drop s.start lits))
+
+abbrev pub arena_of : List HeadState → List ℤ → ℕ → ℕ → Bool → ArenaState
+arena_of heads tail spare_heads spare_lits planned = record { heads = heads; tail = tail; spare_heads = spare_heads; spare_lits = spare_lits; planned = planned }
+
+-- the same clauses and the same tail make the same arena
+pub same_arena : (xs ys : List HeadState) (tail rest : List ℤ) (spare_heads spare_lits : ℕ) (planned : Bool) → xs ≡ ys → tail ≡ rest → arena_of xs tail spare_heads spare_lits planned ≡ arena_of ys rest spare_heads spare_lits planned
+same_arena xs ys tail rest spare_heads spare_lits planned heads tails = rw (heads, tails) refl

@@ -25,10 +25,10 @@ struct Span {
 /// A clause has two edges, for two lists of watches: each has the first or the second literal, and a link, which is whatever
 /// number was put there. A clause that is dead keeps its number until the arena is compacted.
 ///
-/// The literals, with the room for more, are at most `MOST_LITS`, which is 16 GiB of them.
+/// It holds at most 4,294,967,295 literals, which take 16 GiB.
 #[derive(Debug, Drop)]
 pub struct Arena {
-    // These four have a row for each clause. What a visit reads stands apart from the ids, so that more of it stays at hand.
+    // These four have a row for each clause. A visit reads no id, so the cache holds more of what it reads.
     edges: Vec<Edges>,
     spans: Vec<Span>,
     lives: Vec<bool>,
@@ -76,7 +76,8 @@ impl Arena {
     }
 
     /// Makes room for at least so many more clauses and literals. No other call takes memory. After `Memory` there may be
-    /// room for more than before. It comes too where the literals and the room for more would be more than `MOST_LITS`.
+    /// room for more than before. It comes too where the literals, with the room for more, would be more than 4,294,967,295, or
+    /// 16 GiB of them.
     pub fn reserve(&mut self, heads: u32, lits: usize) -> Result<(), Memory>
         ensures ok_heads { OnOk result (heads ≤ self.new.spare_heads) }
         ensures ok_lits { OnOk result (lits ≤ self.new.spare_lits) }

@@ -1,9 +1,9 @@
-use Rattle.std.proofs.Common.{◌≡◌, ◌≤◌, List, [], false, take, drop, length, ap, sym, subst, ◌∙◌, arith}
-use Rattle.std.specs.Prelude.{ℤ, filter, map}
+use Rattle.std.proofs.Common.{◌≡◌, ◌≤◌, [], false, take, drop, length, ap, sym, subst, ◌∙◌, arith}
 use Rattle.std.proofs.lemmas.List.{drop_all, length-drop, length-take, take-take, with_items_is}
-use Rattle.lls_arena.specs.Arena.{ArenaState, HeadState, unlinked}
+use Rattle.lls_arena.specs.Arena.{ArenaState}
 use Rattle.lls_arena.specs.Parts.{AreInOrder, AreSlid, HaveRows, heads_in, spans_in}
 use Rattle.lls_arena.proofs.Buffer.{AreAllWatched-same, heads_in-same}
+use Rattle.lls_arena.proofs.Heads.{same_arena}
 use Rattle.lls_arena.proofs.Told.{no_plan}
 use Rattle.lls_arena.proofs.Rows.{length-spans_in, spans_in-take}
 use Rattle.lls_arena.proofs.arena.Arena.finish_compact.Goals as goal
@@ -96,7 +96,5 @@ returns c =
     let front : take end lits ≡ take end (take end lits) = sym (take-take end end lits (omega arith)) in
     let gone : drop end (take end lits) ≡ [] = drop_all end (take end lits) (omega (arith, length-take end lits)) in
     let none : drop a.tail a.lits.items ≡ [] = ap (λ (x : ArenaState). x.tail) c.self.view_is ∙ c.requires.tail in
-    let left = map unlinked (filter (λ (head : HeadState). head.live) (heads_in a.lits.items a.edges.items (spans_in a.spans.items a.lives.items a.ids.items))) in
     rw (← c.self.view_is, new_edges, new_places, new_lives, new_ids, new_spans, new_lits)
-    (ap (λ (heads : List HeadState). record { heads = heads; tail = drop end (take end lits); spare_heads = a.spare_heads; spare_lits = a.spare_lits; planned = false }) (sym (heads_in-same lits (take end lits) (take kept edges) (take kept spans) 0 end front slid.in_order) ∙ slid.live)
-    ∙ ap (λ (tail : List ℤ). record { heads = left; tail = tail; spare_heads = a.spare_heads; spare_lits = a.spare_lits; planned = false }) (gone ∙ sym none))
+    (same_arena _ _ _ _ a.spare_heads a.spare_lits false (sym (heads_in-same lits (take end lits) (take kept edges) (take kept spans) 0 end front slid.in_order) ∙ slid.live) (gone ∙ sym none))

@@ -2,9 +2,9 @@ use Rattle.std.proofs.Common.{◌≡◌, ◌+◌, ◌<◌, List, drop, length, a
 use Rattle.std.specs.Prelude.{ℤ}
 use Rattle.std.specs.List.{slice_range}
 use Rattle.std.proofs.lemmas.List.{length-set}
-use Rattle.lls_arena.specs.Arena.{ArenaState, HeadState, changed_at, swapped}
-use Rattle.lls_arena.specs.Parts.{spans_in, AreWatched, DifferWithin, head_at, heads_in}
-use Rattle.lls_arena.proofs.Heads.{literal_inside, live_inside, same_length, span_at}
+use Rattle.lls_arena.specs.Arena.{ArenaState, swapped}
+use Rattle.lls_arena.specs.Parts.{spans_in, AreWatched, DifferWithin, head_at}
+use Rattle.lls_arena.proofs.Heads.{literal_inside, live_inside, same_arena, same_length, span_at}
 use Rattle.lls_arena.proofs.Pieces.{AreAllWatched-changed, AreWatched-piece, DifferWithin-swapped, drop-outside, head_at-swapped, heads_in-changed, slice_range-swapped}
 use Rattle.lls_arena.proofs.Told.{SayWhereTo-set}
 use Rattle.lls_arena.proofs.Rows.{length-spans_in, row_with_span, with_span}
@@ -150,6 +150,4 @@ returns c =
     let says : head_at lits c.watch.new.self s ≡ swapped c.args.i c.args.j (head_at a.lits.items c.index_mut.result.now s) = head_at-swapped a.lits.items lits c.index_mut.result.now c.watch.new.self s c.args.i c.args.j piece c.watch.ensures.first_link c.watch.ensures.second_link in
     let tails : drop a.tail lits ≡ drop a.tail a.lits.items = drop-outside a.lits.items lits s.start s.end a.tail differ at.ends in
     rw (← c.self.view_is)
-    (ap (λ (heads : List HeadState). record { heads = heads; tail = drop a.tail lits; spare_heads = a.spare_heads; spare_lits = a.spare_lits; planned = a.planned })
-    (heads_in-changed a.lits.items lits (swapped c.args.i c.args.j) c.index_mut.result.now c.watch.new.self s a.tail differ parts.tail_begins a.edges.items spans 0 c.args.c says parts.in_order parts.watched lt c.index_mut.ensures.value at_span)
-    ∙ ap (λ (tail : List ℤ). record { heads = changed_at (swapped c.args.i c.args.j) c.args.c (heads_in a.lits.items a.edges.items spans); tail = tail; spare_heads = a.spare_heads; spare_lits = a.spare_lits; planned = a.planned }) tails)
+    (same_arena _ _ _ _ a.spare_heads a.spare_lits a.planned (heads_in-changed a.lits.items lits (swapped c.args.i c.args.j) c.index_mut.result.now c.watch.new.self s a.tail differ parts.tail_begins a.edges.items spans 0 c.args.c says parts.in_order parts.watched lt c.index_mut.ensures.value at_span) tails)
