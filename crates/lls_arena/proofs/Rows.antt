@@ -1,6 +1,7 @@
 -- The three tables that tell of each clause, as one.
 use Rattle.std.proofs.Common.{◌≡◌, ℕ, zero, suc, ◌<◌, Bool, false, List, [], ◌∷◌, ◌++◌, length, get_or, set, take, refl, sym, ap, ◌∙◌, arith}
 use Rattle.std.specs.Prelude.{map}
+use Rattle.std.proofs.lemmas.List.{length-set}
 use Rattle.lls_arena.specs.declared.arena.Span.{Span}
 use Rattle.lls_arena.specs.Parts.{HaveRows, SpanState, span_of, spans_in}
 
@@ -65,15 +66,18 @@ spans_in-set (x ∷ ss) (y ∷ ls) [] (suc k) s l i = refl
 spans_in-set (x ∷ ss) (y ∷ ls) (z ∷ ids) zero s l i = refl
 spans_in-set (x ∷ ss) (y ∷ ls) (z ∷ ids) (suc k) s l i = ap (λ (spans : List SpanState). span_of x y z ∷ spans) (spans_in-set ss ls ids k s l i)
 
--- a clause is killed
-pub spans_in-killed : (ss : List Span) (ls : List Bool) (ids : List ℕ) (k : ℕ) (s : SpanState) → s ≡ get_or (spans_in ss ls ids) k s → spans_in ss (set ls k false) ids ≡ set (spans_in ss ls ids) k (record s { live = false })
-spans_in-killed [] ls ids k s is = refl
-spans_in-killed (x ∷ ss) [] ids zero s is = refl
-spans_in-killed (x ∷ ss) [] ids (suc k) s is = refl
-spans_in-killed (x ∷ ss) (y ∷ ls) [] zero s is = refl
-spans_in-killed (x ∷ ss) (y ∷ ls) [] (suc k) s is = refl
-spans_in-killed (x ∷ ss) (y ∷ ls) (z ∷ ids) zero s is = ap (λ (span : SpanState). record span { live = false } ∷ spans_in ss ls ids) (sym is)
-spans_in-killed (x ∷ ss) (y ∷ ls) (z ∷ ids) (suc k) s is = ap (λ (spans : List SpanState). span_of x y z ∷ spans) (spans_in-killed ss ls ids k s is)
+-- another life is written
+pub spans_in-life : (ss : List Span) (ls : List Bool) (ids : List ℕ) (k : ℕ) (l : Bool) (s : SpanState) → s ≡ get_or (spans_in ss ls ids) k s → spans_in ss (set ls k l) ids ≡ set (spans_in ss ls ids) k (record s { live = l })
+spans_in-life [] ls ids k l s is = refl
+spans_in-life (x ∷ ss) [] ids zero l s is = refl
+spans_in-life (x ∷ ss) [] ids (suc k) l s is = refl
+spans_in-life (x ∷ ss) (y ∷ ls) [] zero l s is = refl
+spans_in-life (x ∷ ss) (y ∷ ls) [] (suc k) l s is = refl
+spans_in-life (x ∷ ss) (y ∷ ls) (z ∷ ids) zero l s is = ap (λ (span : SpanState). record span { live = l } ∷ spans_in ss ls ids) (sym is)
+spans_in-life (x ∷ ss) (y ∷ ls) (z ∷ ids) (suc k) l s is = ap (λ (spans : List SpanState). span_of x y z ∷ spans) (spans_in-life ss ls ids k l s is)
+
+pub HaveRows-life : (ss : List Span) (ls : List Bool) (ids : List ℕ) (k : ℕ) (l : Bool) → HaveRows ss ls ids → HaveRows ss (set ls k l) ids
+HaveRows-life ss ls ids k l rows = record { lives_each = omega (arith, length-set ls k l, rows.lives_each); ids_each = rows.ids_each }
 
 -- the first rows alone
 pub spans_in-take : (ss : List Span) (ls : List Bool) (ids : List ℕ) (n : ℕ) → spans_in (take n ss) (take n ls) (take n ids) ≡ take n (spans_in ss ls ids)
