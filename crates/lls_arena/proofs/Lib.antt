@@ -2,5 +2,6 @@ pub mod Buffer
 pub mod Heads
 pub mod Changed
 pub mod Pieces
+pub mod Rows
 pub mod Told
 pub mod Sliding

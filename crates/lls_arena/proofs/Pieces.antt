@@ -5,9 +5,8 @@ use Rattle.std.specs.List.{SwappedAt, slice_range}
 use Rattle.std.proofs.lemmas.List.{drop-set-add, get_or-drop, get_or-take, length-drop, length-take, same_lists}
 use Rattle.std.proofs.lemmas.List.Edits.{swap_is}
 use Rattle.lls_arena.specs.declared.edges.Edges.{Edges}
-use Rattle.lls_arena.specs.declared.arena.Span.{Span}
 use Rattle.lls_arena.specs.Arena.{HeadState, changed_at, swapped}
-use Rattle.lls_arena.specs.Parts.{AreAllWatched, AreInOrder, AreWatched, DifferWithin, head_at, heads_in}
+use Rattle.lls_arena.specs.Parts.{SpanState, AreAllWatched, AreInOrder, AreWatched, DifferWithin, head_at, heads_in}
 use Rattle.lls_arena.proofs.Buffer.{AreInOrder-le}
 use Rattle.lls_arena.proofs.Heads.{between}
 
@@ -26,7 +25,7 @@ slice_range-outside xs ys low high s e differ within beside =
     let place : (s + k < low) ⊎ (high ≤ s + k) = elim beside [ inl before ↦ inl (omega arith) | inr after ↦ inr (omega arith) ] in
     get_or-slice_range ys s e k d short ∙ differ.outside (s + k) d place ∙ sym (get_or-slice_range xs s e k d short))
 
-AreWatched-outside : (xs ys : List ℤ) (low high : ℕ) (e : Edges) (s : Span) → DifferWithin xs ys low high → (s.end ≤ low) ⊎ (high ≤ s.start) → AreWatched xs e s → AreWatched ys e s
+AreWatched-outside : (xs ys : List ℤ) (low high : ℕ) (e : Edges) (s : SpanState) → DifferWithin xs ys low high → (s.end ≤ low) ⊎ (high ≤ s.start) → AreWatched xs e s → AreWatched ys e s
 AreWatched-outside xs ys low high e s differ beside watched =
     let place : (k : ℕ) → s.start ≤ k → k < s.end → (k < low) ⊎ (high ≤ k) = λ k from to. elim beside [ inl before ↦ inl (omega arith) | inr after ↦ inr (omega arith) ] in
     record {
@@ -35,7 +34,7 @@ AreWatched-outside xs ys low high e s differ beside watched =
     }
 
 -- the clauses behind the span
-pub heads_in-behind : (xs ys : List ℤ) (es : List Edges) (spans : List Span) (from tail low high : ℕ) → DifferWithin xs ys low high → high ≤ from → tail ≤ length xs → AreInOrder from spans tail → heads_in ys es spans ≡ heads_in xs es spans
+pub heads_in-behind : (xs ys : List ℤ) (es : List Edges) (spans : List SpanState) (from tail low high : ℕ) → DifferWithin xs ys low high → high ≤ from → tail ≤ length xs → AreInOrder from spans tail → heads_in ys es spans ≡ heads_in xs es spans
 heads_in-behind xs ys [] spans from tail low high differ behind within order = refl
 heads_in-behind xs ys (e ∷ es) [] from tail low high differ behind within order = refl
 heads_in-behind xs ys (e ∷ es) (s ∷ spans) from tail low high differ behind within order =
@@ -43,7 +42,7 @@ heads_in-behind xs ys (e ∷ es) (s ∷ spans) from tail low high differ behind 
     ap (λ (lits : List ℤ). record (head_at ys e s) { lits = lits } ∷ heads_in ys es spans) (slice_range-outside xs ys low high s.start s.end differ (omega arith) (inr (omega (arith, order.0))))
     ∙ ap (λ (heads : List HeadState). head_at xs e s ∷ heads) (heads_in-behind xs ys es spans s.end tail low high differ (omega (arith, order.0, order.1)) within order.2)
 
-pub AreAllWatched-behind : (xs ys : List ℤ) (es : List Edges) (spans : List Span) (from tail low high : ℕ) → DifferWithin xs ys low high → high ≤ from → AreInOrder from spans tail → AreAllWatched xs es spans → AreAllWatched ys es spans
+pub AreAllWatched-behind : (xs ys : List ℤ) (es : List Edges) (spans : List SpanState) (from tail low high : ℕ) → DifferWithin xs ys low high → high ≤ from → AreInOrder from spans tail → AreAllWatched xs es spans → AreAllWatched ys es spans
 AreAllWatched-behind xs ys [] [] from tail low high differ behind order watched = tt
 AreAllWatched-behind xs ys [] (s ∷ spans) from tail low high differ behind order watched = watched
 AreAllWatched-behind xs ys (e ∷ es) [] from tail low high differ behind order watched = watched
@@ -53,17 +52,17 @@ AreAllWatched-behind xs ys (e ∷ es) (s ∷ spans) from tail low high differ be
 )
 
 -- the span of a clause begins behind those before it
-begins_behind : (from : ℕ) (spans : List Span) (tail c : ℕ) (s : Span) → AreInOrder from spans tail → c < length spans → s ≡ get_or spans c s → from ≤ s.start
-begins_behind from spans tail c s order lt is = omega (arith, (between from spans tail c s order lt).begins, ap (λ (x : Span). x.start) is)
+begins_behind : (from : ℕ) (spans : List SpanState) (tail c : ℕ) (s : SpanState) → AreInOrder from spans tail → c < length spans → s ≡ get_or spans c s → from ≤ s.start
+begins_behind from spans tail c s order lt is = omega (arith, (between from spans tail c s order lt).begins, ap (λ (x : SpanState). x.start) is)
 
 -- one clause changes within its span
-module _ (xs ys : List ℤ) (change : HeadState → HeadState) (e new : Edges) (s : Span) (tail : ℕ) (differ : DifferWithin xs ys s.start s.end) (within : tail ≤ length xs) where
-  pub heads_in-changed : (es : List Edges) (spans : List Span) (from c : ℕ) → head_at ys new s ≡ change (head_at xs e s) → AreInOrder from spans tail → AreAllWatched xs es spans → c < length spans → e ≡ get_or es c e → s ≡ get_or spans c s → heads_in ys (set es c new) spans ≡ changed_at change c (heads_in xs es spans)
+module _ (xs ys : List ℤ) (change : HeadState → HeadState) (e new : Edges) (s : SpanState) (tail : ℕ) (differ : DifferWithin xs ys s.start s.end) (within : tail ≤ length xs) where
+  pub heads_in-changed : (es : List Edges) (spans : List SpanState) (from c : ℕ) → head_at ys new s ≡ change (head_at xs e s) → AreInOrder from spans tail → AreAllWatched xs es spans → c < length spans → e ≡ get_or es c e → s ≡ get_or spans c s → heads_in ys (set es c new) spans ≡ changed_at change c (heads_in xs es spans)
   heads_in-changed [] [] from c says order watched lt at_edges at_span = absurd (omega arith)
   heads_in-changed [] (y ∷ spans) from c says order watched lt at_edges at_span = absurd watched
   heads_in-changed (x ∷ es) [] from c says order watched lt at_edges at_span = absurd watched
   heads_in-changed (x ∷ es) (y ∷ spans) from zero says order watched lt at_edges at_span =
-      let ends : s.end ≡ y.end = ap (λ (z : Span). z.end) at_span in
+      let ends : s.end ≡ y.end = ap (λ (z : SpanState). z.end) at_span in
       ap (λ z. head_at ys new z ∷ heads_in ys es spans) (sym at_span)
       ∙ ap (λ head. head ∷ heads_in ys es spans) (says ∙ ap (λ z. change (head_at xs z s)) at_edges ∙ ap (λ z. change (head_at xs x z)) at_span)
       ∙ ap (λ (heads : List HeadState). change (head_at xs x y) ∷ heads) (heads_in-behind xs ys es spans y.end tail s.start s.end differ (omega (arith, ends)) within order.2)
@@ -73,12 +72,12 @@ module _ (xs ys : List ℤ) (change : HeadState → HeadState) (e new : Edges) (
       ap (λ (lits : List ℤ). record (head_at ys x y) { lits = lits } ∷ heads_in ys (set es c new) spans) (slice_range-outside xs ys s.start s.end y.start y.end differ (omega arith) (inl behind))
       ∙ ap (λ (heads : List HeadState). head_at xs x y ∷ heads) (heads_in-changed es spans y.end c says order.2 watched.1 (omega arith) at_edges at_span)
 
-  pub AreAllWatched-changed : (es : List Edges) (spans : List Span) (from c : ℕ) → AreWatched ys new s → AreInOrder from spans tail → AreAllWatched xs es spans → c < length spans → s ≡ get_or spans c s → AreAllWatched ys (set es c new) spans
+  pub AreAllWatched-changed : (es : List Edges) (spans : List SpanState) (from c : ℕ) → AreWatched ys new s → AreInOrder from spans tail → AreAllWatched xs es spans → c < length spans → s ≡ get_or spans c s → AreAllWatched ys (set es c new) spans
   AreAllWatched-changed [] [] from c watches order watched lt at_span = absurd (omega arith)
   AreAllWatched-changed [] (y ∷ spans) from c watches order watched lt at_span = absurd watched
   AreAllWatched-changed (x ∷ es) [] from c watches order watched lt at_span = absurd watched
   AreAllWatched-changed (x ∷ es) (y ∷ spans) from zero watches order watched lt at_span =
-      let ends : s.end ≡ y.end = ap (λ (z : Span). z.end) at_span in
+      let ends : s.end ≡ y.end = ap (λ (z : SpanState). z.end) at_span in
       (subst (AreWatched ys new) at_span watches, AreAllWatched-behind xs ys es spans y.end tail s.start s.end differ (omega (arith, ends)) order.2 watched.1)
   AreAllWatched-changed (x ∷ es) (y ∷ spans) from (suc c) watches order watched lt at_span =
       let behind : y.end ≤ s.start = begins_behind y.end spans tail c s order.2 (omega arith) at_span in
@@ -118,7 +117,7 @@ DifferWithin-swapped xs ys s e i j swaps same first second = record {
   clash k (inr after) n at from to = omega arith
 
 -- edges that watch the first two literals of a piece
-pub AreWatched-piece : (lits piece : List ℤ) (e : Edges) (s : Span) → piece ≡ slice_range lits s.start s.end → s.end ≤ length lits
+pub AreWatched-piece : (lits piece : List ℤ) (e : Edges) (s : SpanState) → piece ≡ slice_range lits s.start s.end → s.end ≤ length lits
     → (0 < length piece → e.first.lit ≡ get_or piece 0 (pos 0))
     → (1 < length piece → e.second.lit ≡ get_or piece 1 (pos 0))
     → AreWatched lits e s
@@ -131,7 +130,7 @@ AreWatched-piece lits piece e s is within first second =
     }
 
 -- a clause whose literals changed places
-pub head_at-swapped : (xs ys : List ℤ) (e new : Edges) (s : Span) (i j : ℕ) → slice_range ys s.start s.end ≡ swap (slice_range xs s.start s.end) i j → new.first.next ≡ e.first.next → new.second.next ≡ e.second.next → head_at ys new s ≡ swapped i j (head_at xs e s)
+pub head_at-swapped : (xs ys : List ℤ) (e new : Edges) (s : SpanState) (i j : ℕ) → slice_range ys s.start s.end ≡ swap (slice_range xs s.start s.end) i j → new.first.next ≡ e.first.next → new.second.next ≡ e.second.next → head_at ys new s ≡ swapped i j (head_at xs e s)
 head_at-swapped xs ys e new s i j is first second = rw (is, first, second) refl
 
 -- what stands behind the span

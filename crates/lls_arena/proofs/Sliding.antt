@@ -2,16 +2,17 @@
 use Rattle.std.proofs.Common.{◌≡◌, ℕ, ◌+◌, ◌-◌, ◌<◌, ◌≤◌, Bool, true, false, cond, List, [], ◌∷◌, ◌++◌, length, get_or, set, take, drop, None, refl, sym, ap, subst, ◌∙◌, arith}
 use Rattle.std.specs.Prelude.{ℤ, pos, filter, map}
 use Rattle.std.specs.List.{slice_range}
-use Rattle.std.proofs.lemmas.List.{append-nil, drop_more, drop-set-lt, get_or_default, length-drop, map-append, same_lists, take_all, take_more, take_more_set}
+use Rattle.std.proofs.lemmas.List.{append-nil, drop_more, drop-set-lt, get_or_default, length-drop, length-set, map-append, same_lists, take_all, take_more, take_more_set}
 use Rattle.std.proofs.lemmas.List.Elements.{filter-append}
 use Rattle.lls_arena.specs.declared.edges.Edges.{Edges}
 use Rattle.lls_arena.specs.declared.arena.Span.{Span}
 use Rattle.lls_arena.specs.Arena.{HeadState, unlinked}
 use Rattle.lls_arena.specs.Links.{link_in}
-use Rattle.lls_arena.specs.Parts.{AreAllWatched, AreInOrder, AreSlid, AreWatched, DifferWithin, head_at, heads_in}
+use Rattle.lls_arena.specs.Parts.{AreAllWatched, AreInOrder, AreSlid, AreWatched, DifferWithin, HaveRows, SpanState, head_at, heads_in, span_of, spans_in}
 use Rattle.lls_arena.proofs.Buffer.{AreAllWatched-same, AreInOrder-le, heads_in-same}
 use Rattle.lls_arena.proofs.Heads.{AreAllWatched-push, AreInOrder-push, heads_in-push, no_edges}
 use Rattle.lls_arena.proofs.Pieces.{AreAllWatched-behind, get_or-slice_range, heads_in-behind, length-slice_range, take-outside}
+use Rattle.lls_arena.proofs.Rows.{length-spans_in, no_place, row, row_with_span, spans_in-set}
 
 -- a piece that was copied
 pub slice_range-moved : (xs ys : List ℤ) (s e to n : ℕ) → length ys ≡ length xs → to ≤ s → s ≤ e → e ≤ length xs → n ≡ e - s → ((j : ℕ) (d : ℤ) → j < n → get_or ys (to + j) d ≡ get_or xs (s + j) d) → slice_range ys to (to + (e - s)) ≡ slice_range xs s e
@@ -29,7 +30,7 @@ abbrev left_of : List HeadState → List HeadState
 left_of heads = map unlinked (filter live_of heads)
 
 -- the live clauses among the first k stand at the front, and the others where they were
-pub record AreSliding (heads : List HeadState) (edges : List Edges) (spans : List Span) (lits : List ℤ) (k kept end : ℕ) : Type 0 where
+pub record AreSliding (heads : List HeadState) (edges : List Edges) (spans : List SpanState) (lits : List ℤ) (k kept end : ℕ) : Type 0 where
   pub behind : kept ≤ k
   pub done : heads_in lits (take kept edges) (take kept spans) ≡ left_of (take k heads)
   pub done_order : AreInOrder 0 (take kept spans) end
@@ -38,7 +39,7 @@ pub record AreSliding (heads : List HeadState) (edges : List Edges) (spans : Lis
   pub rest_order : AreInOrder end (drop k spans) (length lits)
   pub rest_watched : AreAllWatched lits (drop k edges) (drop k spans)
 
-pub AreSliding-start : (edges : List Edges) (spans : List Span) (lits : List ℤ) → AreInOrder 0 spans (length lits) → AreAllWatched lits edges spans → AreSliding (heads_in lits edges spans) edges spans lits 0 0 0
+pub AreSliding-start : (edges : List Edges) (spans : List SpanState) (lits : List ℤ) → AreInOrder 0 spans (length lits) → AreAllWatched lits edges spans → AreSliding (heads_in lits edges spans) edges spans lits 0 0 0
 AreSliding-start edges spans lits order watched = record {
   behind = omega arith;
   done = refl;
@@ -59,7 +60,7 @@ left_of-push : (heads : List HeadState) (h : HeadState) → left_of (heads ++ h 
 left_of-push heads h = ap (map unlinked) (filter-append live_of heads (h ∷ [])) ∙ map-append unlinked (filter live_of heads) (filter live_of (h ∷ []))
 
 -- the next clause, and those behind it
-record IsAt (heads : List HeadState) (edges : List Edges) (spans : List Span) (lits : List ℤ) (k end : ℕ) (e : Edges) (s : Span) : Type 0 where
+record IsAt (heads : List HeadState) (edges : List Edges) (spans : List SpanState) (lits : List ℤ) (k end : ℕ) (e : Edges) (s : SpanState) : Type 0 where
   among : k < length edges
   known : k < length heads
   next : get_or heads k (head_at lits e s) ≡ head_at lits e s
@@ -71,7 +72,7 @@ record IsAt (heads : List HeadState) (edges : List Edges) (spans : List Span) (l
   watched : AreWatched lits e s
   rest_watched : AreAllWatched lits (drop (k + 1) edges) (drop (k + 1) spans)
 
-is_at : (heads : List HeadState) (edges : List Edges) (spans : List Span) (lits : List ℤ) (k kept end : ℕ) (e : Edges) (s : Span) → AreSliding heads edges spans lits k kept end → length edges ≡ length spans → k < length spans → e ≡ get_or edges k e → s ≡ get_or spans k s → IsAt heads edges spans lits k end e s
+is_at : (heads : List HeadState) (edges : List Edges) (spans : List SpanState) (lits : List ℤ) (k kept end : ℕ) (e : Edges) (s : SpanState) → AreSliding heads edges spans lits k kept end → length edges ≡ length spans → k < length spans → e ≡ get_or edges k e → s ≡ get_or spans k s → IsAt heads edges spans lits k end e s
 is_at heads edges spans lits k kept end e s sliding each lt at_edges at_span =
     let among : k < length edges = omega (arith, each) in
     let es : drop k edges ≡ e ∷ drop (k + 1) edges = drop_more edges k e among ∙ ap (λ x. x ∷ drop (k + 1) edges) (sym at_edges) in
@@ -79,7 +80,7 @@ is_at heads edges spans lits k kept end e s sliding each lt at_edges at_span =
     let parts : heads_in lits (e ∷ drop (k + 1) edges) (s ∷ drop (k + 1) spans) ≡ drop k heads = sym (ap (λ (xs : List Edges). heads_in lits xs (s ∷ drop (k + 1) spans)) es) ∙ sym (ap (heads_in lits (drop k edges)) ss) ∙ sliding.rest in
     let known : k < length heads = omega (arith, ap length parts, length-drop k heads) in
     let both = same_heads (head_at lits e s) (get_or heads k (head_at lits e s)) (heads_in lits (drop (k + 1) edges) (drop (k + 1) spans)) (drop (k + 1) heads) (parts ∙ drop_more heads k (head_at lits e s) known) in
-    let order : AreInOrder end (s ∷ drop (k + 1) spans) (length lits) = subst (λ (xs : List Span). AreInOrder end xs (length lits)) ss sliding.rest_order in
+    let order : AreInOrder end (s ∷ drop (k + 1) spans) (length lits) = subst (λ (xs : List SpanState). AreInOrder end xs (length lits)) ss sliding.rest_order in
     let watched : AreAllWatched lits (e ∷ drop (k + 1) edges) (s ∷ drop (k + 1) spans) = subst (λ (xs : List Edges). AreAllWatched lits xs (s ∷ drop (k + 1) spans)) es (subst (AreAllWatched lits (drop k edges)) ss sliding.rest_watched) in
     record {
       among = among;
@@ -97,7 +98,7 @@ is_at heads edges spans lits k kept end e s sliding each lt at_edges at_span =
       rest_watched = watched.1;
     }
 
-AreInOrder-from : (low from : ℕ) (spans : List Span) (tail : ℕ) → low ≤ from → AreInOrder from spans tail → AreInOrder low spans tail
+AreInOrder-from : (low from : ℕ) (spans : List SpanState) (tail : ℕ) → low ≤ from → AreInOrder from spans tail → AreInOrder low spans tail
 AreInOrder-from low from [] tail le order = omega (arith, le, order)
 AreInOrder-from low from (s ∷ spans) tail le order = (omega (arith, le, order.0), order.1, order.2)
 
@@ -106,7 +107,7 @@ left_of-one h true is = ap (λ b. map unlinked (cond b (h ∷ []) [])) is
 left_of-one h false is = ap (λ b. map unlinked (cond b (h ∷ []) [])) is
 
 -- a dead clause goes
-pub AreSliding-dead : (heads : List HeadState) (edges : List Edges) (spans : List Span) (lits : List ℤ) (k kept end : ℕ) (s : Span) → AreSliding heads edges spans lits k kept end → length edges ≡ length spans → k < length spans → s ≡ get_or spans k s → s.live ≡ false → AreSliding heads edges spans lits (k + 1) kept end
+pub AreSliding-dead : (heads : List HeadState) (edges : List Edges) (spans : List SpanState) (lits : List ℤ) (k kept end : ℕ) (s : SpanState) → AreSliding heads edges spans lits k kept end → length edges ≡ length spans → k < length spans → s ≡ get_or spans k s → s.live ≡ false → AreSliding heads edges spans lits (k + 1) kept end
 AreSliding-dead heads edges spans lits k kept end s sliding each lt at_span dead =
     let e = get_or edges k no_edges in
     let at = is_at heads edges spans lits k kept end e s sliding each lt (get_or_default edges k no_edges e (omega (arith, each))) at_span in
@@ -121,7 +122,7 @@ AreSliding-dead heads edges spans lits k kept end s sliding each lt at_span dead
     }
 
 -- a live one slides down
-pub record HasSlid (lits new : List ℤ) (e moved : Edges) (s put : Span) (end to : ℕ) : Type 0 where
+pub record HasSlid (lits new : List ℤ) (e moved : Edges) (s put : SpanState) (end to : ℕ) : Type 0 where
   pub starts : put.start ≡ end
   pub ends : put.end ≡ to
   pub same_id : put.id ≡ s.id
@@ -134,11 +135,11 @@ pub record HasSlid (lits new : List ℤ) (e moved : Edges) (s put : Span) (end t
   pub first_link : link_in moved.first.next ≡ None
   pub second_link : link_in moved.second.next ≡ None
 
-head_at-slid : (lits new : List ℤ) (e moved : Edges) (s put : Span) (end to : ℕ) → HasSlid lits new e moved s put end to → s.live ≡ true → head_at new moved put ≡ unlinked (head_at lits e s)
+head_at-slid : (lits new : List ℤ) (e moved : Edges) (s put : SpanState) (end to : ℕ) → HasSlid lits new e moved s put end to → s.live ≡ true → head_at new moved put ≡ unlinked (head_at lits e s)
 head_at-slid lits new e moved s put end to slid live =
     rw (slid.starts, slid.ends, slid.piece, slid.same_id, slid.is_live, live, slid.first_link, slid.second_link) refl
 
-AreWatched-slid : (lits new : List ℤ) (e moved : Edges) (s put : Span) (end to : ℕ) → HasSlid lits new e moved s put end to → s.start ≤ s.end → AreWatched lits e s → AreWatched new moved put
+AreWatched-slid : (lits new : List ℤ) (e moved : Edges) (s put : SpanState) (end to : ℕ) → HasSlid lits new e moved s put end to → s.start ≤ s.end → AreWatched lits e s → AreWatched new moved put
 AreWatched-slid lits new e moved s put end to slid straight watched =
     let at : (k : ℕ) → k < s.end - s.start → get_or lits (s.start + k) (pos 0) ≡ get_or new (put.start + k) (pos 0) = λ k lt.
     sym (get_or-slice_range lits s.start s.end k (pos 0) lt)
@@ -159,7 +160,7 @@ AreWatched-slid lits new e moved s put end to slid straight watched =
           slid.second_lit ∙ watched.second (omega arith) ∙ at 1 short;
     }
 
-pub AreSliding-live : (heads : List HeadState) (edges : List Edges) (spans : List Span) (lits new : List ℤ) (k kept end to : ℕ) (e moved : Edges) (s put : Span) → AreSliding heads edges spans lits k kept end → length edges ≡ length spans → k < length spans → e ≡ get_or edges k e → s ≡ get_or spans k s → s.live ≡ true → HasSlid lits new e moved s put end to → AreSliding heads (set edges kept moved) (set spans kept put) new (k + 1) (kept + 1) to
+pub AreSliding-live : (heads : List HeadState) (edges : List Edges) (spans : List SpanState) (lits new : List ℤ) (k kept end to : ℕ) (e moved : Edges) (s put : SpanState) → AreSliding heads edges spans lits k kept end → length edges ≡ length spans → k < length spans → e ≡ get_or edges k e → s ≡ get_or spans k s → s.live ≡ true → HasSlid lits new e moved s put end to → AreSliding heads (set edges kept moved) (set spans kept put) new (k + 1) (kept + 1) to
 AreSliding-live heads edges spans lits new k kept end to e moved s put sliding each lt at_edges at_span live slid =
     let at = is_at heads edges spans lits k kept end e s sliding each lt at_edges at_span in
     let early : kept < length spans = omega (arith, sliding.behind) in
@@ -190,7 +191,7 @@ AreSliding-live heads edges spans lits new k kept end to e moved s put sliding e
       rest_watched = rw (rest_edges, rest_spans) (AreAllWatched-behind lits new (drop (k + 1) edges) (drop (k + 1) spans) s.end (length lits) end to slid.outside fits at.rest_order at.rest_watched);
     }
 
-pub AreSlid-end : (heads : List HeadState) (edges : List Edges) (spans : List Span) (lits : List ℤ) (k kept end : ℕ) → AreSliding heads edges spans lits k kept end → length heads ≤ k → k ≤ length spans → AreSlid heads edges spans lits kept end
+pub AreSlid-end : (heads : List HeadState) (edges : List Edges) (spans : List SpanState) (lits : List ℤ) (k kept end : ℕ) → AreSliding heads edges spans lits k kept end → length heads ≤ k → k ≤ length spans → AreSlid heads edges spans lits kept end
 AreSlid-end heads edges spans lits k kept end sliding all within = record {
   fewer = omega (arith, sliding.behind);
   shorter = AreInOrder-le end (drop k spans) (length lits) sliding.rest_order;
@@ -199,9 +200,51 @@ AreSlid-end heads edges spans lits k kept end sliding all within = record {
   watched = sliding.done_watched;
 }
 
--- the next clause ends within the buffer
-pub ends_within : (heads : List HeadState) (edges : List Edges) (spans : List Span) (lits : List ℤ) (k kept end : ℕ) (s : Span) → AreSliding heads edges spans lits k kept end → length edges ≡ length spans → k < length spans → s ≡ get_or spans k s → s.end ≤ length lits
-ends_within heads edges spans lits k kept end s sliding each lt at_span =
-    let e = get_or edges k no_edges in
-    let at = is_at heads edges spans lits k kept end e s sliding each lt (get_or_default edges k no_edges e (omega (arith, each))) at_span in
-    AreInOrder-le s.end (drop (k + 1) spans) (length lits) at.rest_order
+-- the same, as three tables tell of the clauses
+pub record AreRowsSliding (heads : List HeadState) (edges : List Edges) (spans : List Span) (lives : List Bool) (ids : List ℕ) (lits : List ℤ) (k kept end : ℕ) : Type 0 where
+  pub rows : HaveRows spans lives ids
+  pub each : length edges ≡ length spans
+  pub sliding : AreSliding heads edges (spans_in spans lives ids) lits k kept end
+
+-- the next clause stands behind the live ones before it, within the buffer
+pub record IsNext (lits : List ℤ) (end : ℕ) (s : Span) : Type 0 where
+  pub begins : end ≤ s.start
+  pub straight : s.start ≤ s.end
+  pub ends : s.end ≤ length lits
+
+module _ (heads : List HeadState) (edges : List Edges) (spans : List Span) (lives : List Bool) (ids : List ℕ) (lits : List ℤ) (k kept end : ℕ) (sliding : AreRowsSliding heads edges spans lives ids lits k kept end) where
+  each_row : length (spans_in spans lives ids) ≡ length spans
+  each_row = length-spans_in spans lives ids sliding.rows
+
+  each_edge : length edges ≡ length (spans_in spans lives ids)
+  each_edge = sliding.each ∙ sym each_row
+
+  next_is : k < length spans → row spans lives ids k ≡ get_or (spans_in spans lives ids) k (row spans lives ids k)
+  next_is lt = row_with_span spans lives ids k (get_or spans k no_place) (omega (arith, lt, each_row)) (get_or_default spans k no_place (get_or spans k no_place) lt)
+
+  pub is_next : k < length spans → IsNext lits end (get_or spans k no_place)
+  is_next lt =
+      let e = get_or edges k no_edges in
+      let at = is_at heads edges (spans_in spans lives ids) lits k kept end e (row spans lives ids k) sliding.sliding each_edge (omega (arith, lt, each_row)) (get_or_default edges k no_edges e (omega (arith, lt, sliding.each))) (next_is lt) in
+      record { begins = at.begins; straight = at.straight; ends = AreInOrder-le (get_or spans k no_place).end (drop (k + 1) (spans_in spans lives ids)) (length lits) at.rest_order }
+
+  pub AreRowsSliding-dead : k < length spans → get_or lives k false ≡ false → AreRowsSliding heads edges spans lives ids lits (k + 1) kept end
+  AreRowsSliding-dead lt dead = record {
+    rows = sliding.rows;
+    each = sliding.each;
+    sliding = AreSliding-dead heads edges (spans_in spans lives ids) lits k kept end (row spans lives ids k) sliding.sliding each_edge (omega (arith, lt, each_row)) (next_is lt) dead;
+  }
+
+  pub AreRowsSliding-live : (new : List ℤ) (to : ℕ) (e moved : Edges) (put : Span) → k < length spans → e ≡ get_or edges k e → get_or lives k false ≡ true → HasSlid lits new e moved (row spans lives ids k) (span_of put true (get_or ids k 0)) end to → AreRowsSliding heads (set edges kept moved) (set spans kept put) (set lives kept true) (set ids kept (get_or ids k 0)) new (k + 1) (kept + 1) to
+  AreRowsSliding-live new to e moved put lt at_edges live slid = record {
+    rows = record {
+      lives_each = omega (arith, length-set lives kept true, length-set spans kept put, sliding.rows.lives_each);
+      ids_each = omega (arith, length-set ids kept (get_or ids k 0), length-set spans kept put, sliding.rows.ids_each);
+    };
+    each = omega (arith, length-set edges kept moved, length-set spans kept put, sliding.each);
+    sliding = rw (spans_in-set spans lives ids kept put true (get_or ids k 0))
+        (AreSliding-live heads edges (spans_in spans lives ids) lits new k kept end to e moved (row spans lives ids k) (span_of put true (get_or ids k 0)) sliding.sliding each_edge (omega (arith, lt, each_row)) at_edges (next_is lt) live slid);
+  }
+
+  pub AreRowsSliding-end : length heads ≤ k → k ≤ length spans → AreSlid heads edges (spans_in spans lives ids) lits kept end
+  AreRowsSliding-end all within = AreSlid-end heads edges (spans_in spans lives ids) lits k kept end sliding.sliding all (omega (arith, within, each_row))

@@ -2,33 +2,37 @@
 ghost use Rattle.std.specs.Prelude.{◌≡◌, ◌<◌, ◌≤◌, ◌+◌, ◌-◌, [], ◌∷◌, ◌++◌, false, true, length, map, slice_get, take, Some, IfSome, OnOk};
 ghost use Rattle.std.specs.List.{slice_range};
 ghost use Rattle.std.specs.Option.{ForSome};
-ghost use Rattle.lls_arena.specs.declared.TheConstants.{MOST_HEADS};
+ghost use Rattle.lls_arena.specs.declared.TheConstants.{MOST_HEADS, MOST_LITS};
 ghost use Rattle.lls_arena.specs.Arena.{IsLive, changed_at, compacted, empty_arena, killed, link_of, live_before, place_of, sealed, swapped, unlinked, with_link};
-ghost use Rattle.lls_arena.specs.Parts.{AreAllWatched, AreInOrder, AreSlid, AreTold, DifferWithin, heads_in};
+ghost use Rattle.lls_arena.specs.Parts.{AreAllWatched, AreInOrder, AreSlid, AreTold, DifferWithin, HaveRows, heads_in, spans_in};
 
+use crate::MOST_LITS;
 use crate::edges::{Edges, Link};
 use lls_base::Memory;
 use lls_lit::Lit;
 use std::alloc::Global;
 use std::marker::Model;
 
-// Where a clause's literals stand in the buffer, its id, and whether it is live.
+// Where a clause's literals stand in the buffer, in 8 bytes.
 #[derive(Clone, Copy, Debug)]
 struct Span {
-    start: usize,
-    end: usize,
-    id: u64,
-    live: bool,
+    start: u32,
+    end: u32,
 }
 
 /// Clauses in place, by number from 0, and one more that is being built at the tail.
 ///
 /// A clause has two edges, for two lists of watches: each has the first or the second literal, and a link, which is whatever
 /// number was put there. A clause that is dead keeps its number until the arena is compacted.
+///
+/// It holds at most 4,294,967,295 literals, which take 16 GiB.
 #[derive(Debug, Drop)]
 pub struct Arena {
+    // These four have a row for each clause. A visit reads no id, so the cache holds more of what it reads.
     edges: Vec<Edges>,
     spans: Vec<Span>,
+    lives: Vec<bool>,
+    ids: Vec<u64>,
     // The literals of the clauses, one clause after another, and behind them the tail.
     lits: Vec<Lit>,
     tail: usize,
@@ -41,15 +45,16 @@ pub struct Arena {
 impl Model for Arena {
     ghost use Rattle.std.specs.Prelude.{◌≡◌, true, length, vec_capacity};
     ghost use Rattle.lls_arena.specs.Arena.{ArenaState};
-    ghost use Rattle.lls_arena.specs.Parts.{arena_in, AreParts, HaveRoom, SayWhereTo};
+    ghost use Rattle.lls_arena.specs.Parts.{arena_in, spans_in, AreParts, HaveRoom, HaveRows, SayWhereTo};
 
     ghost Value = { ArenaState };
 
-    ghost view = { λ a. arena_in a.edges.items a.spans.items a.lits.items a.tail a.spare_heads a.spare_lits a.planned };
+    ghost view = { λ a. arena_in a.edges.items (spans_in a.spans.items a.lives.items a.ids.items) a.lits.items a.tail a.spare_heads a.spare_lits a.planned };
 
-    ghost invariant = { λ a. AreParts a.edges.items a.spans.items a.lits.items a.tail
-        × HaveRoom (length a.edges.items) (length a.spans.items) (length a.lits.items) a.spare_heads a.spare_lits (vec_capacity a.edges) (vec_capacity a.spans) (vec_capacity a.lits)
-        × (a.planned ≡ true → SayWhereTo a.edges.items a.spans.items) };
+    ghost invariant = { λ a. AreParts a.edges.items (spans_in a.spans.items a.lives.items a.ids.items) a.lits.items a.tail
+        × HaveRoom (length a.edges.items) (length a.spans.items) (length a.lits.items) a.spare_heads a.spare_lits (vec_capacity a.edges) (vec_capacity a.spans) (vec_capacity a.lives) (vec_capacity a.ids) (vec_capacity a.lits)
+        × (a.planned ≡ true → SayWhereTo a.edges.items a.lives.items)
+        × HaveRows a.spans.items a.lives.items a.ids.items };
 }
 
 impl Arena {
@@ -60,6 +65,8 @@ impl Arena {
         Arena {
             edges: Vec::new(alloc),
             spans: Vec::new(alloc),
+            lives: Vec::new(alloc),
+            ids: Vec::new(alloc),
             lits: Vec::new(alloc),
             tail: 0,
             spare_heads: 0,
@@ -69,7 +76,8 @@ impl Arena {
     }
 
     /// Makes room for at least so many more clauses and literals. No other call takes memory. After `Memory` there may be
-    /// room for more than before.
+    /// room for more than before. It comes too where the literals, with the room for more, would be more than 4,294,967,295, or
+    /// 16 GiB of them.
     pub fn reserve(&mut self, heads: u32, lits: usize) -> Result<(), Memory>
         ensures ok_heads { OnOk result (heads ≤ self.new.spare_heads) }
         ensures ok_lits { OnOk result (lits ≤ self.new.spare_lits) }
@@ -79,8 +87,13 @@ impl Arena {
     {
         let heads = self.spare_heads.max(heads as usize);
         let lits = self.spare_lits.max(lits);
+        if lits > MOST_LITS as usize - self.lits.len() {
+            return Err(Memory);
+        }
         self.edges.reserve(heads)?;
         self.spans.reserve(heads)?;
+        self.lives.reserve(heads)?;
+        self.ids.reserve(heads)?;
         self.spare_heads = heads;
         self.lits.reserve(lits)?;
         self.spare_lits = lits;
@@ -100,7 +113,7 @@ impl Arena {
         requires { c < length self.now.heads }
         ensures { slice_get (map (λ head. head.live) self.now.heads) c ≡ Some result }
     {
-        self.spans[c as usize].live
+        self.lives[c as usize]
     }
 
     /// The id of a clause.
@@ -108,7 +121,7 @@ impl Arena {
         requires { c < length self.now.heads }
         ensures { slice_get (map (λ head. head.id) self.now.heads) c ≡ Some result }
     {
-        self.spans[c as usize].id
+        self.ids[c as usize]
     }
 
     /// The literals of a clause.
@@ -118,7 +131,7 @@ impl Arena {
         ensures { slice_get (map (λ head. head.lits) self.now.heads) c ≡ Some result.now }
     {
         let span = self.spans[c as usize];
-        piece(&self.lits, span.start, span.end)
+        piece(&self.lits, span.start as usize, span.end as usize)
     }
 
     /// The link of a clause's first edge, or of its second where `w`.
@@ -162,8 +175,9 @@ impl Arena {
         ensures { self.new ≡ record self.old { heads = changed_at (swapped i j) c self.old.heads } }
     {
         let span = self.spans[c as usize];
-        self.lits.swap(span.start + i, span.start + j);
-        self.edges[c as usize].watch(piece(&self.lits, span.start, span.end));
+        let start = span.start as usize;
+        self.lits.swap(start + i, start + j);
+        self.edges[c as usize].watch(piece(&self.lits, start, span.end as usize));
     }
 
     /// Makes a live clause dead.
@@ -171,7 +185,7 @@ impl Arena {
         requires { IsLive self.old.heads c }
         ensures { self.new ≡ record self.old { heads = changed_at killed c self.old.heads; planned = false } }
     {
-        self.spans[c as usize].live = false;
+        self.lives[c as usize] = false;
         self.planned = false;
     }
 
@@ -209,11 +223,11 @@ impl Arena {
         self.edges
             .push_reserved(Edges::of(piece(&self.lits, self.tail, end)));
         self.spans.push_reserved(Span {
-            start: self.tail,
-            end,
-            id,
-            live: true,
+            start: self.tail as u32,
+            end: end as u32,
         });
+        self.lives.push_reserved(true);
+        self.ids.push_reserved(id);
         self.tail = end;
         self.spare_heads -= 1;
         self.planned = false;
@@ -226,7 +240,7 @@ impl Arena {
         ensures heads { map unlinked self.new.heads ≡ map unlinked self.old.heads }
         ensures same { self.new ≡ record self.old { heads = self.new.heads; planned = true } }
     {
-        tell_where_to(&mut self.edges, &self.spans);
+        tell_where_to(&mut self.edges, &self.lives);
         self.planned = true;
     }
 
@@ -247,36 +261,49 @@ impl Arena {
         requires tail { self.old.tail ≡ [] }
         ensures { self.new ≡ compacted self.old }
     {
-        let (kept, end) = slide_live(&mut self.edges, &mut self.spans, &mut self.lits);
+        let (kept, end) = slide_live(
+            &mut self.edges,
+            &mut self.spans,
+            &mut self.lives,
+            &mut self.ids,
+            &mut self.lits,
+        );
         self.edges.truncate(kept);
         self.spans.truncate(kept);
-        self.lits.truncate(end);
-        self.tail = end;
+        self.lives.truncate(kept);
+        self.ids.truncate(kept);
+        self.lits.truncate(end as usize);
+        self.tail = end as usize;
         self.planned = false;
     }
 }
 
 // Slides the live clauses down over the dead ones: how many there are, and where their literals end.
-fn slide_live(edges: &mut [Edges], spans: &mut [Span], lits: &mut [Lit]) -> (usize, usize)
-    requires in_order { AreInOrder 0 spans.old (length lits.old) }
-    requires watched { AreAllWatched lits.old edges.old spans.old }
-    ensures { AreSlid (heads_in lits.old edges.old spans.old) edges.new spans.new lits.new result.0 result.1 }
+fn slide_live(
+    edges: &mut [Edges],
+    spans: &mut [Span],
+    lives: &mut [bool],
+    ids: &mut [u64],
+    lits: &mut [Lit],
+) -> (usize, u32)
+    requires rows { HaveRows spans.old lives.old ids.old }
+    requires few { length lits.old ≤ MOST_LITS }
+    requires in_order { AreInOrder 0 (spans_in spans.old lives.old ids.old) (length lits.old) }
+    requires watched { AreAllWatched lits.old edges.old (spans_in spans.old lives.old ids.old) }
+    ensures { AreSlid (heads_in lits.old edges.old (spans_in spans.old lives.old ids.old)) edges.new (spans_in spans.new lives.new ids.new) lits.new result.0 result.1 }
 {
     let mut kept = 0;
     let mut end = 0;
     for k in 0..spans.len() {
-        let span = spans[k];
-        if span.live {
+        if lives[k] {
+            let span = spans[k];
             let start = end;
             end = start + (span.end - span.start);
-            slide(lits, span.start, span.end, start);
+            slide(lits, span.start as usize, span.end as usize, start as usize);
             edges[kept] = edges[k].unlinked();
-            spans[kept] = Span {
-                start,
-                end,
-                id: span.id,
-                live: true,
-            };
+            spans[kept] = Span { start, end };
+            lives[kept] = true;
+            ids[kept] = ids[k];
             kept += 1;
         }
     }
@@ -298,14 +325,14 @@ fn slide(lits: &mut [Lit], start: usize, end: usize, to: usize)
 }
 
 // Puts at the first edge of each live clause how many live ones are before it.
-fn tell_where_to(edges: &mut [Edges], spans: &[Span])
-    requires each { length edges.old ≡ length spans.now }
-    requires few { length spans.now ≤ MOST_HEADS }
-    ensures { AreTold edges.old edges.new spans.now }
+fn tell_where_to(edges: &mut [Edges], lives: &[bool])
+    requires each { length edges.old ≡ length lives.now }
+    requires few { length lives.now ≤ MOST_HEADS }
+    ensures { AreTold edges.old edges.new lives.now }
 {
     let mut before = 0;
-    for k in 0..spans.len() {
-        if spans[k].live {
+    for k in 0..lives.len() {
+        if lives[k] {
             edges[k].first.next = Link::new(Some(before));
             before += 1;
         }

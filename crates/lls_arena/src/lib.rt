@@ -11,3 +11,6 @@ pub use arena::Arena;
 
 /// How many clauses an arena may have.
 pub const MOST_HEADS: u32 = 4_294_967_295;
+
+// How many literals an arena may hold, together with the room for more: where each stands is told in four bytes.
+const MOST_LITS: u32 = 4_294_967_295;

@@ -3,24 +3,24 @@ use Rattle.std.proofs.lemmas.List.{get_or_default}
 use Rattle.lls_arena.specs.declared.edges.Edges.{Edges}
 use Rattle.lls_arena.proofs.Told.{IsTelling-dead, IsTelling-live, IsTelling-start}
 use Rattle.lls_arena.proofs.arena.tell_where_to.Goals as goal
-use Rattle.lls_arena.proofs.arena.tell_where_to.Goals.{then-spans-k, else-spans-k}
+use Rattle.lls_arena.proofs.arena.tell_where_to.Goals.{then-lives-k, else-lives-k}
 
 pub loop-k-init : goal.loop-k-init
-loop-k-init c = IsTelling-start c.args.edges.now c.args.spans.now
+loop-k-init c = IsTelling-start c.args.edges.now c.args.lives.now
 
 pub loop-k-preserved : goal.loop-k-preserved
 loop-k-preserved c =
     let k = c.loop-k.k in
-    let lt : k < length c.args.spans.now = c.loop-k-test.true in
+    let lt : k < length c.args.lives.now = c.loop-k-test.true in
     let among : k < length c.loop-k.edges = omega (arith, c.loop-k.auto.edges, c.requires.each, lt) in
-    elim c.if-spans-k.branch [
-      | then-spans-k w ↦
+    elim c.if-lives-k.branch [
+      | then-lives-k w ↦
           let e = w.index-edges-k.result in
           rw (w.edges-is, w.before-is)
-          (IsTelling-live c.args.edges.now c.loop-k.edges c.args.spans.now k c.loop-k.before e _ c.loop-k.invariant among lt w.if-spans-k.true w.index-edges-k.is w.new.ensures
+          (IsTelling-live c.args.edges.now c.loop-k.edges c.args.lives.now k c.loop-k.before e _ c.loop-k.invariant among lt w.if-lives-k.true w.index-edges-k.is w.new.ensures
           (ap (λ (x : Edges). x.first.lit) (get_or_default c.loop-k.edges k _ e among ∙ sym w.index-edges-k.is))
           (ap (λ (x : Edges). x.second) (get_or_default c.loop-k.edges k _ e among ∙ sym w.index-edges-k.is)))
-      | else-spans-k w ↦ rw (w.edges-is, w.before-is) (IsTelling-dead c.args.edges.now c.loop-k.edges c.args.spans.now k c.loop-k.before c.loop-k.invariant lt w.if-spans-k.false)
+      | else-lives-k w ↦ rw (w.edges-is, w.before-is) (IsTelling-dead c.args.edges.now c.loop-k.edges c.args.lives.now k c.loop-k.before c.loop-k.invariant lt w.if-lives-k.false)
     ]
 
 pub returns : goal.returns

@@ -1,9 +1,17 @@
 use Rattle.std.proofs.Common.{ap, length, arith}
 use Rattle.lls_arena.specs.Arena.{ArenaState}
+use Rattle.lls_arena.specs.Parts.{spans_in}
 use Rattle.lls_arena.proofs.Heads.{length-heads_in}
+use Rattle.lls_arena.proofs.Rows.{length-spans_in}
 use Rattle.lls_arena.proofs.arena.Arena.count.Goals as goal
+
+pub overflow_cast-result : goal.overflow_cast-result
+overflow_cast-result c =
+    let a = c.self.inside in
+    omega (arith, c.len.ensures, length-spans_in a.spans.items a.lives.items a.ids.items c.self.invariant.3, c.self.invariant.0.few)
 
 pub returns : goal.returns
 returns c =
     let a = c.self.inside in
-    omega (arith, c.len.ensures, length-heads_in a.lits.items a.edges.items a.spans.items c.self.invariant.0.watched, ap (λ (x : ArenaState). length x.heads) c.self.view_is)
+    let spans = spans_in a.spans.items a.lives.items a.ids.items in
+    omega (arith, c.len.ensures, length-heads_in a.lits.items a.edges.items spans c.self.invariant.0.watched, length-spans_in a.spans.items a.lives.items a.ids.items c.self.invariant.3, ap (λ (x : ArenaState). length x.heads) c.self.view_is)
