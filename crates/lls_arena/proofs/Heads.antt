@@ -137,14 +137,17 @@ watched_read lits false e s edge watched is lt =
     at.1 ∙ ap Some (ap (λ n. get_or lits n (pos 0)) (omega arith) ∙ sym (ap (λ (x : Edge). x.lit) is ∙ watched.first (omega (arith, at.0))))
 
 -- the literal that an edge watches
-pub watched_literal : (lits : List ℤ) (es : List Edges) (spans : List SpanState) (k : ℕ) (w : Bool) (e : Edges) (edge : Edge) → AreAllWatched lits es spans → k < length spans → e ≡ get_or es k e → edge ≡ cond w e.second e.first
+pub watched_literal : (lits : List ℤ) (es : List Edges) (spans : List SpanState) (k : ℕ) (w : Bool) (e : Edges) (l : ℤ) → AreAllWatched lits es spans → k < length spans → e ≡ get_or es k e → l ≡ cond w e.second.lit e.first.lit
     → ForSome (slice_get (heads_in lits es spans) k) (λ head. place_of w < length head.lits)
-    → IfSome (slice_get (heads_in lits es spans) k) (λ head. slice_get head.lits (place_of w) ≡ Some edge.lit)
-watched_literal lits es spans k w e edge watched lt at is long =
+    → IfSome (slice_get (heads_in lits es spans) k) (λ head. slice_get head.lits (place_of w) ≡ Some l)
+watched_literal lits es spans k w e l watched lt at is long =
     let s = get_or spans k no_span in
     let read = slice_get-heads_in lits es spans k e s watched lt at (get_or_default spans k no_span s lt) in
     let watches : AreWatched lits e s = subst (λ (x : Edges). AreWatched lits x s) (sym at) (watched_at lits es spans k e no_span watched lt) in
-    rw read (watched_read lits w e s edge watches is (long (head_at lits e s) read))
+    rw read (watched_read lits w e s (cond w e.second e.first) watches refl (long (head_at lits e s) read) ∙ ap Some (edge_lit w ∙ sym is)) where
+      edge_lit : (v : Bool) → (cond v e.second e.first).lit ≡ cond v e.second.lit e.first.lit
+      edge_lit true = refl
+      edge_lit false = refl
 
 slice_range-from : (lits : List ℤ) (tail end : ℕ) → end ≡ length lits → slice_range lits tail end ≡ drop tail lits
 slice_range-from lits tail end is = take_all (end - tail) (drop tail lits) (omega (arith, length-drop tail lits, is))

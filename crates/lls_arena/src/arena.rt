@@ -152,7 +152,7 @@ impl Arena {
         requires long { ForSome (slice_get self.now.heads c) (λ head. place_of w < length head.lits) }
         ensures { IfSome (slice_get self.now.heads c) (λ head. slice_get head.lits (place_of w) ≡ Some result) }
     {
-        self.edges[c as usize].edge(w).lit
+        self.edges[c as usize].watched(w)
     }
 
     /// Gives one edge of a clause another link. A dead clause's too, since a list leads through it until it is dropped there.

@@ -72,6 +72,14 @@ impl Edges {
         if w { self.second } else { self.first }
     }
 
+    // The literal that one edge watches. It alone is read, so that reading it right after it was written waits for nothing.
+    #[inline]
+    pub(crate) fn watched(self, w: bool) -> Lit
+        ensures { result ≡ (if w then self.second.lit else self.first.lit) }
+    {
+        if w { self.second.lit } else { self.first.lit }
+    }
+
     // Watches the first two of these literals, as far as they are there.
     #[inline]
     pub(crate) fn watch(&mut self, lits: &[Lit])

@@ -16,4 +16,4 @@ returns c =
     let a = c.self.inside in
     let spans = spans_in a.spans.items a.lives.items a.ids.items in
     rw (← c.self.view_is)
-    (watched_literal a.lits.items a.edges.items spans c.args.c c.args.w c.index.result.now c.edge.result c.self.invariant.0.watched (inside c.args.self.now a.lits.items a.edges.items spans c.args.c (ap (λ (x : ArenaState). x.heads) c.self.view_is) c.self.invariant.0.watched c.requires.count) c.index.ensures c.edge.ensures (rw (← c.self.view_is) at c.requires.long))
+    (watched_literal a.lits.items a.edges.items spans c.args.c c.args.w c.index.result.now c.watched.result c.self.invariant.0.watched (inside c.args.self.now a.lits.items a.edges.items spans c.args.c (ap (λ (x : ArenaState). x.heads) c.self.view_is) c.self.invariant.0.watched c.requires.count) c.index.ensures c.watched.ensures (rw (← c.self.view_is) at c.requires.long))
