@@ -5,7 +5,7 @@ use Rattle.std.specs.List.{slice_range}
 use Rattle.std.proofs.lemmas.List.{drop-take, get_or-take, take-take}
 use Rattle.lls_arena.specs.declared.edges.Edges.{Edges}
 use Rattle.lls_arena.specs.Arena.{HeadState}
-use Rattle.lls_arena.specs.Parts.{SpanState, AreAllWatched, AreInOrder, AreWatched, head_at, heads_in}
+use Rattle.lls_arena.specs.Parts.{AreAllWatched, AreInOrder, AreWatched, SpanState, head_at, heads_in}
 
 slice_range-front : (xs : List ℤ) (s e n : ℕ) → s ≤ e → e ≤ n → slice_range xs s e ≡ drop s (take e (take n xs))
 slice_range-front xs s e n le within =

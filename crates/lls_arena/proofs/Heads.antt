@@ -9,7 +9,7 @@ use Rattle.lls_arena.specs.declared.edges.Edge.{Edge}
 use Rattle.lls_arena.specs.declared.edges.Edges.{Edges}
 use Rattle.lls_arena.specs.Arena.{ArenaState, HeadState, IsLive, link_of, lives_of, place_of}
 use Rattle.lls_arena.specs.Links.{link_in}
-use Rattle.lls_arena.specs.Parts.{SpanState, AreAllWatched, AreInOrder, AreWatched, head_at, heads_in}
+use Rattle.lls_arena.specs.Parts.{AreAllWatched, AreInOrder, AreWatched, SpanState, head_at, heads_in}
 use Rattle.lls_arena.proofs.Buffer.{AreInOrder-le}
 
 pub same_length : (lits : List ℤ) (es : List Edges) (spans : List SpanState) → AreAllWatched lits es spans → length es ≡ length spans

@@ -6,7 +6,7 @@ use Rattle.std.proofs.lemmas.List.{drop-set-add, get_or-drop, get_or-take, lengt
 use Rattle.std.proofs.lemmas.List.Edits.{swap_is}
 use Rattle.lls_arena.specs.declared.edges.Edges.{Edges}
 use Rattle.lls_arena.specs.Arena.{HeadState, changed_at, swapped}
-use Rattle.lls_arena.specs.Parts.{SpanState, AreAllWatched, AreInOrder, AreWatched, DifferWithin, head_at, heads_in}
+use Rattle.lls_arena.specs.Parts.{AreAllWatched, AreInOrder, AreWatched, DifferWithin, SpanState, head_at, heads_in}
 use Rattle.lls_arena.proofs.Buffer.{AreInOrder-le}
 use Rattle.lls_arena.proofs.Heads.{between}
 

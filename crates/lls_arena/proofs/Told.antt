@@ -8,7 +8,7 @@ use Rattle.std.proofs.lemmas.Option.{same_Some}
 use Rattle.lls_arena.specs.declared.edges.Edges.{Edges}
 use Rattle.lls_arena.specs.Arena.{HeadState, IsLive, live_before, unlinked}
 use Rattle.lls_arena.specs.Links.{link_in}
-use Rattle.lls_arena.specs.Parts.{SpanState, AreAllWatched, SayWhereTo, head_at, heads_in, is_live_at, live_among}
+use Rattle.lls_arena.specs.Parts.{AreAllWatched, SayWhereTo, SpanState, head_at, heads_in, is_live_at, live_among}
 use Rattle.lls_arena.proofs.Heads.{no_span, read_span}
 
 -- nothing is said of an arena that isn't planned

@@ -45,7 +45,7 @@ pub struct Arena {
 impl Model for Arena {
     ghost use Rattle.std.specs.Prelude.{◌≡◌, true, length, vec_capacity};
     ghost use Rattle.lls_arena.specs.Arena.{ArenaState};
-    ghost use Rattle.lls_arena.specs.Parts.{arena_in, spans_in, AreParts, HaveRoom, HaveRows, SayWhereTo};
+    ghost use Rattle.lls_arena.specs.Parts.{arena_in, AreParts, HaveRoom, HaveRows, SayWhereTo, spans_in};
 
     ghost Value = { ArenaState };
 

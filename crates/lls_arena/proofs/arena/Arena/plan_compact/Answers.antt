@@ -1,6 +1,6 @@
 use Rattle.std.proofs.Common.{length, ap, ◌∙◌, arith}
 use Rattle.std.proofs.lemmas.List.{with_items_is}
-use Rattle.lls_arena.specs.Parts.{spans_in, AreTold}
+use Rattle.lls_arena.specs.Parts.{AreTold, spans_in}
 use Rattle.lls_arena.proofs.Heads.{same_length}
 use Rattle.lls_arena.proofs.Told.{AreAllWatched-told, unlinked-told}
 use Rattle.lls_arena.proofs.Rows.{length-spans_in}

@@ -4,7 +4,7 @@ use Rattle.std.specs.List.{slice_range}
 use Rattle.std.proofs.lemmas.List.{drop_all, length_push}
 use Rattle.lls_arena.specs.declared.arena.Span.{Span}
 use Rattle.lls_arena.specs.Arena.{ArenaState, HeadState, sealed}
-use Rattle.lls_arena.specs.Parts.{SpanState, span_of, spans_in, arena_in, heads_in}
+use Rattle.lls_arena.specs.Parts.{SpanState, arena_in, heads_in, span_of, spans_in}
 use Rattle.lls_arena.proofs.Heads.{AreAllWatched-push, AreInOrder-push, AreWatched-of, head_at-sealed, heads_in-push, length-heads_in}
 use Rattle.lls_arena.proofs.Told.{no_plan}
 use Rattle.lls_arena.proofs.Rows.{length-spans_in, spans_in-push}

@@ -2,7 +2,7 @@ use Rattle.std.proofs.Common.{◌<◌, List, drop, false, length, ap, ◌∙◌,
 use Rattle.std.specs.Prelude.{Option, ℕ}
 use Rattle.std.proofs.lemmas.List.{length-set}
 use Rattle.lls_arena.specs.Arena.{ArenaState, HeadState, changed_at, with_link}
-use Rattle.lls_arena.specs.Parts.{spans_in, heads_in}
+use Rattle.lls_arena.specs.Parts.{heads_in, spans_in}
 use Rattle.lls_arena.proofs.Heads.{inside, same_length}
 use Rattle.lls_arena.proofs.Changed.{AreAllWatched-linked, heads_in-linked}
 use Rattle.lls_arena.proofs.Told.{no_plan}

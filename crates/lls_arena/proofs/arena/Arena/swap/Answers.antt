@@ -3,7 +3,7 @@ use Rattle.std.specs.Prelude.{ℤ}
 use Rattle.std.specs.List.{slice_range}
 use Rattle.std.proofs.lemmas.List.{length-set}
 use Rattle.lls_arena.specs.Arena.{ArenaState, swapped}
-use Rattle.lls_arena.specs.Parts.{spans_in, AreWatched, DifferWithin, head_at}
+use Rattle.lls_arena.specs.Parts.{AreWatched, DifferWithin, head_at, spans_in}
 use Rattle.lls_arena.proofs.Heads.{literal_inside, live_inside, same_arena, same_length, span_at}
 use Rattle.lls_arena.proofs.Pieces.{AreAllWatched-changed, AreWatched-piece, DifferWithin-swapped, drop-outside, head_at-swapped, heads_in-changed, slice_range-swapped}
 use Rattle.lls_arena.proofs.Told.{SayWhereTo-set}
