@@ -129,7 +129,8 @@ fn random_formula(alloc: Global, vars: u32, clauses: u32, seed: u32) -> Result<F
 #[test]
 fn random_formulas_are_decided_within_budgets(rt: HostRuntime) -> Result<(), Fail> {
     // Variables, clauses and seed, the budget, and the answer. That of the first ten is what a script says that draws the same
-    // clauses and tries all assignments. The last two are MiniSat's, after 258 and 458 conflicts.
+    // clauses and tries all assignments. The last two are MiniSat's, after 258 and 458 conflicts. They take 468 and 864 clauses, and
+    // 737 and 2,626 where no variable is bumped.
     let rows = [
         (3, 10, 1, 10, "satisfiable"),
         (3, 10, 4, 10, "unsatisfiable"),
@@ -141,8 +142,8 @@ fn random_formulas_are_decided_within_budgets(rt: HostRuntime) -> Result<(), Fai
         (10, 45, 2, 60, "unsatisfiable"),
         (12, 54, 1, 80, "satisfiable"),
         (12, 54, 8, 80, "unsatisfiable"),
-        (100, 450, 6, 450, "satisfiable"),
-        (100, 450, 3, 2_000, "unsatisfiable"),
+        (100, 450, 6, 600, "satisfiable"),
+        (100, 450, 3, 1_500, "unsatisfiable"),
     ];
     for (vars, clauses, seed, budget, want) in rows {
         let formula = random_formula(rt.alloc(), vars, clauses, seed)?;
