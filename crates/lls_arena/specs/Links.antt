@@ -1,11 +1,11 @@
--- For private contracts alone: a link is kept as one more than the number that it leads to, and no link as 0.
-use Rattle.std.specs.Prelude.{ℕ, zero, suc, Bool, true, false, Option, Some, None}
+-- What a link is seen as. It is kept as one more than the place of an edge in a table of two edges a clause, and no link as 0.
+use Rattle.std.specs.Prelude.{ℕ, zero, suc, ◌/◌, Bool, true, false, Option, Some, None}
 use Rattle.lls_arena.specs.declared.edges.Link.{Link}
 use Rattle.lls_arena.specs.declared.edges.Edges.{Edges}
 
 abbrev pub linked : ℕ → Option ℕ
 linked zero = None
-linked (suc n) = Some n
+linked (suc place) = Some (place / 2)
 
 abbrev pub link_in : Link → Option ℕ
 link_in link = linked link.after

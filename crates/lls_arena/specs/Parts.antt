@@ -69,13 +69,14 @@ AreAllWatched lits [] (s ∷ spans) = ⊥
 AreAllWatched lits (e ∷ es) [] = ⊥
 AreAllWatched lits (e ∷ es) (s ∷ spans) = AreWatched lits e s × AreAllWatched lits es spans
 
--- the tables have room for so many more, and a place among the literals fits into four bytes
+-- the tables have room for so many more, of which each gets a number, and a place among the literals fits into four bytes
 pub record HaveRoom (edges spans lits spare_heads spare_lits edges_room spans_room lives_room ids_room lits_room : ℕ) : Type 0 where
   pub for_edges : edges + spare_heads ≤ edges_room
   pub for_spans : spans + spare_heads ≤ spans_room
   pub for_lives : spans + spare_heads ≤ lives_room
   pub for_ids : spans + spare_heads ≤ ids_room
   pub for_lits : lits + spare_lits ≤ lits_room
+  pub few_heads : spans + spare_heads ≤ MOST_HEADS
   pub few_lits : lits + spare_lits ≤ MOST_LITS
 
 -- what holds of the parts of an arena

@@ -4,10 +4,11 @@ ghost use Rattle.std.specs.List.{slice_range};
 ghost use Rattle.std.specs.Option.{ForSome};
 ghost use Rattle.lls_arena.specs.declared.TheConstants.{MOST_HEADS, MOST_LITS};
 ghost use Rattle.lls_arena.specs.Arena.{IsLive, changed_at, compacted, empty_arena, killed, link_of, live_before, place_of, sealed, swapped, unlinked, with_link};
+ghost use Rattle.lls_arena.specs.Links.{link_in};
 ghost use Rattle.lls_arena.specs.Parts.{AreAllWatched, AreInOrder, AreSlid, AreTold, DifferWithin, HaveRows, heads_in, spans_in};
 
-use crate::MOST_LITS;
 use crate::edges::{Edges, Link};
+use crate::{MOST_HEADS, MOST_LITS};
 use lls_base::Memory;
 use lls_lit::Lit;
 use std::alloc::Global;
@@ -25,7 +26,7 @@ struct Span {
 /// A clause has two edges, for two lists of watches: each has the first or the second literal, and a link, which is whatever
 /// number was put there. A clause that is dead keeps its number until the arena is compacted.
 ///
-/// It holds at most 4,294,967,295 literals, which take 16 GiB.
+/// It holds at most [`MOST_HEADS`](crate::MOST_HEADS) clauses, and 4,294,967,295 literals, which take 16 GiB.
 #[derive(Debug, Drop)]
 pub struct Arena {
     // These four have a row for each clause. A visit reads no id, so the cache holds more of what it reads.
@@ -45,6 +46,7 @@ pub struct Arena {
 impl Model for Arena {
     ghost use Rattle.std.specs.Prelude.{◌≡◌, true, length, vec_capacity};
     ghost use Rattle.lls_arena.specs.Arena.{ArenaState};
+    ghost use Rattle.lls_arena.specs.Links.{link_in};
     ghost use Rattle.lls_arena.specs.Parts.{arena_in, AreParts, HaveRoom, HaveRows, SayWhereTo, spans_in};
 
     ghost Value = { ArenaState };
@@ -76,8 +78,8 @@ impl Arena {
     }
 
     /// Makes room for at least so many more clauses and literals. No other call takes memory. After `Memory` there may be
-    /// room for more than before. It comes too where the literals, with the room for more, would be more than 4,294,967,295, or
-    /// 16 GiB of them.
+    /// room for more than before. It comes too where the clauses, with the room for more, would be more than [`MOST_HEADS`](crate::MOST_HEADS), or
+    /// the literals more than 4,294,967,295, which are 16 GiB.
     pub fn reserve(&mut self, heads: u32, lits: usize) -> Result<(), Memory>
         ensures ok_heads { OnOk result (heads ≤ self.new.spare_heads) }
         ensures ok_lits { OnOk result (lits ≤ self.new.spare_lits) }
@@ -87,6 +89,9 @@ impl Arena {
     {
         let heads = self.spare_heads.max(heads as usize);
         let lits = self.spare_lits.max(lits);
+        if heads > MOST_HEADS as usize - self.spans.len() {
+            return Err(Memory);
+        }
         if lits > MOST_LITS as usize - self.lits.len() {
             return Err(Memory);
         }
@@ -102,7 +107,8 @@ impl Arena {
 
     /// How many clauses there are, dead ones too.
     pub fn count(&self) -> u32
-        ensures { result ≡ length self.now.heads }
+        ensures count { result ≡ length self.now.heads }
+        ensures most { result ≤ MOST_HEADS }
     {
         self.spans.len() as u32
     }
@@ -136,12 +142,11 @@ impl Arena {
 
     /// The link of a clause's first edge, or of its second where `w`.
     #[inline]
-    pub fn link(&self, c: u32, w: bool) -> Option<u32>
+    pub fn link(&self, c: u32, w: bool) -> Link
         requires { c < length self.now.heads }
-        ensures link { slice_get (map (link_of w) self.now.heads) c ≡ Some result }
-        ensures fits { ForSome result (λ n. n < MOST_HEADS) }
+        ensures { slice_get (map (link_of w) self.now.heads) c ≡ Some (link_in result) }
     {
-        self.edges[c as usize].edge(w).next.next()
+        self.edges[c as usize].edge(w).next
     }
 
     /// The literal of a clause's first edge, or of its second where `w`: the first or second of its literals, read without
@@ -157,12 +162,11 @@ impl Arena {
 
     /// Gives one edge of a clause another link. A dead clause's too, since a list leads through it until it is dropped there.
     #[inline]
-    pub fn set_link(&mut self, c: u32, w: bool, next: Option<u32>)
-        requires clause { c < length self.old.heads }
-        requires next { ForSome next (λ n. n < MOST_HEADS) }
-        ensures { self.new ≡ record self.old { heads = changed_at (with_link w next) c self.old.heads; planned = false } }
+    pub fn set_link(&mut self, c: u32, w: bool, next: Link)
+        requires { c < length self.old.heads }
+        ensures { self.new ≡ record self.old { heads = changed_at (with_link w (link_in next)) c self.old.heads; planned = false } }
     {
-        self.edges[c as usize].set_next(w, Link::new(next));
+        self.edges[c as usize].set_next(w, next);
         self.planned = false;
     }
 
@@ -213,8 +217,7 @@ impl Arena {
 
     /// Makes the tail a live clause with no links, and answers its number.
     pub fn seal(&mut self, id: u64) -> u32
-        requires spare { 0 < self.old.spare_heads }
-        requires most { length self.old.heads < MOST_HEADS }
+        requires { 0 < self.old.spare_heads }
         ensures number { result ≡ length self.old.heads }
         ensures state { self.new ≡ sealed self.old id }
     {
@@ -252,7 +255,7 @@ impl Arena {
         ensures { result ≡ live_before self.now.heads c }
     {
         // A live clause has been told, so its own number is never the answer of want of one.
-        self.edges[c as usize].first.next.next().unwrap_or(c)
+        self.edges[c as usize].first.next.clause().unwrap_or(c)
     }
 
     /// Takes the dead clauses away, and all links: the live ones slide down in place, in their order.
@@ -333,7 +336,7 @@ fn tell_where_to(edges: &mut [Edges], lives: &[bool])
     let mut before = 0;
     for k in 0..lives.len() {
         if lives[k] {
-            edges[k].first.next = Link::new(Some(before));
+            edges[k].first.next = Link::to(before, false);
             before += 1;
         }
     }

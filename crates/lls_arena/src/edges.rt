@@ -1,14 +1,16 @@
 // The hot part of a clause.
-ghost use Rattle.std.specs.Prelude.{◌≡◌, ◌<◌, pos, if◌then◌else◌, length, slice_index_or, None};
-ghost use Rattle.std.specs.Option.{ForSome};
+ghost use Rattle.std.specs.Prelude.{◌≡◌, ◌<◌, pos, if◌then◌else◌, length, slice_index_or, None, Some};
 ghost use Rattle.lls_arena.specs.declared.TheConstants.{MOST_HEADS};
 ghost use Rattle.lls_arena.specs.Links.{link_in, with_next};
 
 use lls_lit::Lit;
 
-// Where an edge leads, if anywhere: one more than the number, so that it takes the room of a number alone.
+/// Where an edge leads: to an edge of a clause, or nowhere.
+///
+/// It is kept in four bytes, as one more than the place of that edge in a table of two edges a clause, or 0. What a link is seen
+/// as is the clause alone: which of its edges was named is a hint, of which no clause speaks, so whoever follows it looks.
 #[derive(Clone, Copy, Debug)]
-pub(crate) struct Link {
+pub struct Link {
     after: u32,
 }
 
@@ -28,26 +30,39 @@ pub(crate) struct Edges {
 
 impl Link {
     #[inline]
-    pub(crate) fn new(next: Option<u32>) -> Link
-        requires { ForSome next (λ n. n < MOST_HEADS) }
-        ensures { link_in result ≡ next }
+    pub fn nowhere() -> Link
+        ensures { link_in result ≡ None }
     {
-        match next {
-            Some(number) => Link { after: number + 1 },
-            None => Link { after: 0 },
+        Link { after: 0 }
+    }
+
+    /// To the first edge of a clause, or to its second one.
+    #[inline]
+    pub fn to(clause: u32, second: bool) -> Link
+        requires { clause < MOST_HEADS }
+        ensures { link_in result ≡ Some clause }
+    {
+        Link {
+            after: 2 * clause + u32::from(second) + 1,
         }
     }
 
+    /// The clause that it leads to, if any.
     #[inline]
-    pub(crate) fn next(self) -> Option<u32>
-        ensures link { result ≡ link_in self }
-        ensures fits { ForSome result (λ n. n < MOST_HEADS) }
+    pub fn clause(self) -> Option<u32>
+        ensures { result ≡ link_in self }
     {
         if self.after == 0 {
             None
         } else {
-            Some(self.after - 1)
+            Some((self.after - 1) / 2)
         }
+    }
+
+    /// Whether the second edge of the clause was named.
+    #[inline]
+    pub fn is_second(self) -> bool {
+        self.after != 0 && self.after % 2 == 0
     }
 }
 
@@ -129,7 +144,7 @@ impl Edge {
         ensures link { link_in result.next ≡ None }
     {
         Edge {
-            next: Link::new(None),
+            next: Link::nowhere(),
             lit: self.lit,
         }
     }
@@ -145,7 +160,7 @@ impl Edge {
             some_literal()
         };
         Edge {
-            next: Link::new(None),
+            next: Link::nowhere(),
             lit,
         }
     }

@@ -8,9 +8,10 @@ mod arena;
 mod edges;
 
 pub use arena::Arena;
+pub use edges::Link;
 
 /// How many clauses an arena may have.
-pub const MOST_HEADS: u32 = 4_294_967_295;
+pub const MOST_HEADS: u32 = 2_147_483_647;
 
 // How many literals an arena may hold, together with the room for more: where each stands is told in four bytes.
 const MOST_LITS: u32 = 4_294_967_295;

@@ -5,7 +5,7 @@ ghost use Rattle.lls_arena.specs.Arena.{IsLive};
 
 mod random;
 
-use lls_arena::{Arena, MOST_HEADS};
+use lls_arena::{Arena, Link, MOST_HEADS};
 use lls_lit::Lit;
 use std::alloc::Global;
 use std::process::Abort;
@@ -161,9 +161,6 @@ fn sealed(arena: &mut Arena, numbers: &[i32], keep: usize, id: u64) -> Result<()
     }
     arena.cut(keep);
     arena.reserve(1, 0)?;
-    if arena.count() == MOST_HEADS {
-        return Err(Fail::from("a number that is left"));
-    }
     arena.seal(id);
     Ok(())
 }
@@ -186,12 +183,12 @@ fn linked(arena: &mut Arena, c: u32, w: bool, next: Option<u32>) -> Result<(), F
     }
     match next {
         Some(n) => {
-            if n == MOST_HEADS {
+            if n >= MOST_HEADS {
                 return Err(Fail::from("a number that a clause can have"));
             }
-            arena.set_link(c, w, Some(n));
+            arena.set_link(c, w, Link::to(n, w));
         }
-        None => arena.set_link(c, w, None),
+        None => arena.set_link(c, w, Link::nowhere()),
     }
     Ok(())
 }
@@ -267,8 +264,8 @@ fn assert_head(
         arena.id(c),
         arena.live(c),
         lits.as_slice(),
-        arena.link(c, false),
-        arena.link(c, true),
+        arena.link(c, false).clause(),
+        arena.link(c, true).clause(),
     );
     assert_eq!(rt; shown, *head);
     assert!(rt; watches_its_first(arena, c));

@@ -35,3 +35,4 @@ pub mod Slid
 pub mod Moves
 pub mod CompactedStore
 pub mod Places
+pub mod Starts

@@ -1,8 +1,7 @@
 -- The clause that a walk meets next, and that a walk ends.
 use Rattle.std.proofs.Common.{◌≡◌, ◌<◌, ℕ, ℤ, Bool, true, false, ◌||◌, List, [], ◌∷◌, ◌++◌, Option, Some, None, refl, sym, ap, ◌∙◌, subst, arith, length, map}
-use Rattle.std.specs.Prelude.{slice_get, slice_index_or, IfSome, ◌==◌}
+use Rattle.std.specs.Prelude.{slice_get, slice_index_or, ◌==◌}
 use Rattle.std.specs.Option.{option_map}
-use Rattle.std.specs.Ordering.{int_eq}
 use Rattle.std.proofs.lemmas.Bool.{eqb-true}
 use Rattle.std.proofs.lemmas.Option.{slice_get_within, slice_get-map}
 use Rattle.lls_lit.specs.Literal.{IsLiteral, index_of}
@@ -11,13 +10,13 @@ use Rattle.lls_lit.specs.Formula.{is_within}
 use Rattle.lls_store.specs.Trail.{TrailState}
 use Rattle.lls_arena.specs.Arena.{HeadState, link_of}
 use Rattle.lls_watch.specs.declared.progress.Progress.{Progress}
-use Rattle.lls_watch.specs.Watches.{WatchState, IsOnce, IsSegment, LeadsOn, has, side_of, watched}
+use Rattle.lls_watch.specs.Watches.{WatchState, HasEdgeOf, IsOnce, IsSegment, LeadsOn, has, side_of, watched}
 use Rattle.lls_watch.specs.Visit.{CanBeVisited}
 use Rattle.lls_watch.specs.Visiting.{HasEdge, IsLast}
 use Rattle.lls_watch.specs.Propagating.{IsOnItsWay}
 use Rattle.lls_watch.proofs.Chains.{has_append, has_first, leads_to_one}
 use Rattle.lls_watch.proofs.Changed.{some_same}
-use Rattle.lls_watch.proofs.Changes.{mapped_some, read_some}
+use Rattle.lls_watch.proofs.Changes.{mapped_some}
 use Rattle.lls_watch.proofs.Followed.{followed, followed_is, led_few}
 use Rattle.lls_watch.proofs.Steps.{ahead, leads_here}
 
@@ -46,12 +45,9 @@ met_long now vars lit c it x found =
 pub met_visitable : (now : WatchState) (vars : ℕ) (lit : ℤ) (c : ℕ) → IsMet now vars lit c → CanBeVisited now.arena.heads vars c
 met_visitable now vars lit c it = record { head = it.leads.head; is_head = it.leads.is_head; watching = it.leads.watching; within = it.within }
 
--- which of its edges has the literal
-pub met_side : (now : WatchState) (vars : ℕ) (lit : ℤ) (c : ℕ) (second : ℤ) → (it : IsMet now vars lit c) → IfSome (slice_get now.arena.heads c) (λ (h : HeadState). slice_get h.lits 1 ≡ Some second)
-    → side_of it.leads.head lit ≡ int_eq second lit
-met_side now vars lit c second it read =
-    let here : slice_get it.leads.head.lits 1 ≡ Some second = subst (λ o. IfSome o (λ (h : HeadState). slice_get h.lits 1 ≡ Some second)) it.leads.is_head read in
-    ap (λ l. int_eq l lit) (read_some it.leads.head.lits 1 second here)
+-- it watches the literal
+pub met_edge : (now : WatchState) (vars : ℕ) (lit : ℤ) (c : ℕ) → IsMet now vars lit c → HasEdgeOf now.arena.heads lit c
+met_edge now vars lit c it = record { head = it.leads.head; is_head = it.leads.is_head; watching = it.leads.watching; has = it.leads.has }
 
 pub met_watches : (now : WatchState) (vars : ℕ) (lit : ℤ) (c : ℕ) (w : Bool) → (it : IsMet now vars lit c) → side_of it.leads.head lit ≡ w → watched w it.leads.head ≡ lit
 met_watches now vars lit c w it side = ap (λ b. watched b it.leads.head) (sym side) ∙ it.leads.has
@@ -71,10 +67,10 @@ pub record HasCome (now : WatchState) (vars : ℕ) (lit : ℤ) (c : ℕ) (w : Bo
   pub watches : watched w leads.head ≡ lit
   pub within : is_within vars leads.head.lits ≡ true
 
-pub comes : (now : WatchState) (vars : ℕ) (lit : ℤ) (c : ℕ) (w : Bool) (next : Option ℕ) (second : ℤ) → IsMet now vars lit c → IfSome (slice_get now.arena.heads c) (λ (h : HeadState). slice_get h.lits 1 ≡ Some second)
-    → w ≡ int_eq second lit → slice_get (map (link_of w) now.arena.heads) c ≡ Some next → HasCome now vars lit c w next
-comes now vars lit c w next second it read is link =
-    let side : side_of it.leads.head lit ≡ w = met_side now vars lit c second it read ∙ sym is in
+pub comes : (now : WatchState) (vars : ℕ) (lit : ℤ) (c : ℕ) (w : Bool) (next : Option ℕ) → IsMet now vars lit c → ((head : HeadState) → slice_get now.arena.heads c ≡ Some head → w ≡ side_of head lit)
+    → slice_get (map (link_of w) now.arena.heads) c ≡ Some next → HasCome now vars lit c w next
+comes now vars lit c w next it is link =
+    let side : side_of it.leads.head lit ≡ w = sym (is it.leads.head it.leads.is_head) in
     record {
       leads = record { head = it.leads.head; is_head = it.leads.is_head; watching = it.leads.watching; has = it.leads.has; next_is = it.leads.next_is ∙ met_leads now vars lit c w next it side link };
       side = side;

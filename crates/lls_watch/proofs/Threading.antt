@@ -256,18 +256,6 @@ none_begins (x ∷ xs) (suc i) = none_begins xs i
 pub relinked_length : (old new : WatchState) → IsRelinked old new → length new.arena.heads ≡ length old.arena.heads
 relinked_length old new it = sym (length-map new.arena.heads unlinked) ∙ ap length it.heads ∙ length-map old.arena.heads unlinked
 
-none_fits : (first : List (Option ℕ)) (k : ℕ) (d : Option ℕ) → k < length (map no_start first) → slice_index_or (map no_start first) k d ≡ None
-none_fits [] k d within = absurd (omega (arith, within))
-none_fits (x ∷ xs) zero d within = refl
-none_fits (x ∷ xs) (suc k) d within = none_fits xs k d (omega (arith, within))
-
--- so none begins with a number that isn't given
-pub none_given : (now old : List (Option ℕ)) (most k : ℕ) (d : Option ℕ) → now ≡ map no_start old → k < length now → (n : ℕ) → slice_index_or now k d ≡ Some n → n < most
-none_given now old most k d same within n some =
-    let none : slice_index_or now k d ≡ None = ap (λ os. slice_index_or os k d) same ∙ none_fits old k d (subst (λ (os : List (Option ℕ)). k < length os) same within) in
-    let both : None ≡ Some n = sym none ∙ some in
-    absurd cc
-
 -- the arena's clauses are the live ones, so they can be listed where those could
 pub compacted_listable : (state : WatchState) (first : List (Option ℕ)) → length first ≡ length state.first → CanBeListed state → CanBeListed (record { arena = compacted state.arena; first = first })
 compacted_listable state first same can c head w found watching =

@@ -36,6 +36,13 @@ pub record LeadsOn (heads : List HeadState) (lit : ℤ) (c : ℕ) (next : Option
   pub has : watched (side_of head lit) head ≡ lit
   pub next_is : link_of (side_of head lit) head ≡ next
 
+-- the clause of that number watches the literal by one of its edges
+pub record HasEdgeOf (heads : List HeadState) (lit : ℤ) (c : ℕ) : Type 0 where
+  pub head : HeadState
+  pub is_head : slice_get heads c ≡ Some head
+  pub watching : IsWatching head
+  pub has : watched (side_of head lit) head ≡ lit
+
 -- the links from a start on lead through these clauses, by their edges with this literal, and then to an end
 abbrev pub IsSegment : List HeadState → ℤ → Option ℕ → List ℕ → Option ℕ → Type 0
 IsSegment heads lit start [] end = start ≡ end

@@ -1,7 +1,6 @@
 // A clause that becomes live.
 ghost use Rattle.std.specs.Prelude.{◌≡◌, ◌≢◌, ◌<◌, ◌≤◌, ℤ, pos, true, length, slice_index_or, vec_capacity, IfNone, IfSome};
 ghost use Rattle.std.specs.FinSet as set;
-ghost use Rattle.lls_arena.specs.declared.TheConstants.{MOST_HEADS};
 ghost use Rattle.lls_lit.specs.Formula.{is_within};
 ghost use Rattle.lls_store.specs.Clauses.{IsIn};
 ghost use Rattle.lls_watch.specs.Propagating.{ArePropagating};
@@ -23,7 +22,6 @@ pub(crate) fn seal(
 ) -> u32
     requires vars { trail.now.vars ≤ Var.MOST }
     requires spare { 0 < watches.old.arena.spare_heads }
-    requires most { length watches.old.arena.heads < MOST_HEADS }
     requires room { length short.old.items < vec_capacity short.old }
     requires within { is_within trail.now.vars watches.old.arena.tail ≡ true }
     requires ready { ArePropagating watches.old trail.now progress.old }

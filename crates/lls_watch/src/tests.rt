@@ -3,6 +3,7 @@ ghost use Rattle.std.specs.Prelude.{IsTrue};
 ghost use Rattle.lls_watch.specs.Watches.{WatchesAt};
 
 use crate::watches::Watches;
+use lls_arena::Link;
 use lls_lit::Lit;
 use std::alloc::Global;
 use std::test::Fail;
@@ -70,7 +71,7 @@ fn list(alloc: Global, watches: &Watches, number: i32) -> Result<String, Fail> {
     let mut text = String::new(alloc);
     let mut next = watches.first(lit);
     for _ in 0..1000 {
-        let Some(c) = next else {
+        let Some(c) = next.clause() else {
             return Ok(text);
         };
         write!(text, "{c} ")?;
@@ -80,7 +81,7 @@ fn list(alloc: Global, watches: &Watches, number: i32) -> Result<String, Fail> {
 }
 
 // Where the clause's edge with that literal leads.
-fn link_behind(watches: &Watches, c: u32, lit: Lit) -> Result<Option<u32>, Fail> {
+fn link_behind(watches: &Watches, c: u32, lit: Lit) -> Result<Link, Fail> {
     if c >= watches.arena().count() {
         return Err(Fail::from("a clause"));
     }

@@ -1,11 +1,11 @@
 // A walk along the list of a literal.
 ghost use Rattle.std.specs.Prelude.{◌≡◌, ◌≤◌, ◌<◌, ◌+◌, ◌∷◌, ◌++◌, ℕ, List, length, slice_get, IfNone, IfSome, Some};
-ghost use Rattle.std.specs.Option.{ForSome};
 ghost use Rattle.lls_lit.specs.Literal.{index_of, negation};
 ghost use Rattle.lls_store.specs.Trail.{literals_of};
 ghost use Rattle.lls_store.specs.Store.{GoesOn, IsConflict};
-ghost use Rattle.lls_arena.specs.declared.TheConstants.{MOST_HEADS};
-ghost use Rattle.lls_watch.specs.Watches.{IsThreaded, LeadsOn, Lists, with_list};
+ghost use Rattle.lls_arena.specs.Arena.{HeadState};
+ghost use Rattle.lls_arena.specs.Links.{link_in};
+ghost use Rattle.lls_watch.specs.Watches.{HasEdgeOf, IsThreaded, LeadsOn, Lists, side_of, with_list};
 ghost use Rattle.lls_watch.specs.Passed.{live_from};
 ghost use Rattle.lls_watch.specs.Propagating.{ArePropagating, LookAlike};
 ghost use Rattle.lls_watch.specs.Visiting.{HasEdge, IsLast, leading_on};
@@ -13,22 +13,44 @@ ghost use Rattle.lls_watch.specs.Visiting.{HasEdge, IsLast, leading_on};
 use crate::Watches;
 use crate::progress::Progress;
 use crate::visit::{Visit, visit_clause};
+use lls_arena::{Arena, Link};
 use lls_lit::Lit;
 use lls_store::Trail;
 
+// Which edge of a clause watches the literal, where a link named one of them. The link names the right one, but no clause says so.
+#[inline]
+fn side_at(arena: &Arena, c: u32, is_second: bool, lit: Lit) -> bool
+    requires { HasEdgeOf arena.now.heads lit c }
+    ensures { (head : HeadState) → slice_get arena.now.heads c ≡ Some head → result ≡ side_of head lit }
+{
+    if arena.watched(c, is_second) == lit {
+        is_second
+    } else {
+        looked_at_side(arena, c, lit)
+    }
+}
+
+// It stands apart, so that a processor foresees the way on without knowing the clause.
+#[cold]
+fn looked_at_side(arena: &Arena, c: u32, lit: Lit) -> bool
+    requires { HasEdgeOf arena.now.heads lit c }
+    ensures { (head : HeadState) → slice_get arena.now.heads c ≡ Some head → result ≡ side_of head lit }
+{
+    arena.watched(c, true) == lit
+}
+
 // Has the last clause that was kept lead on, or the list begin, behind the clause that is taken out.
 #[inline]
-pub(crate) fn lead_on(watches: &mut Watches, lit: Lit, last: Option<u32>, next: Option<u32>)
+pub(crate) fn lead_on(watches: &mut Watches, lit: Lit, last: Link, next: Link)
     requires within { index_of lit < length watches.old.first }
-    requires fits { ForSome next (λ n. n < MOST_HEADS) }
-    requires edge { HasEdge watches.old lit last }
-    ensures state { watches.new ≡ leading_on last lit next watches.old }
-    ensures threaded { (lists : Lists) (c : ℕ) (kept rest : List ℕ) → IsThreaded watches.old lists → lists (index_of lit) ≡ kept ++ c ∷ rest → IsLast kept last
-        → LeadsOn watches.old.arena.heads lit c next → IsThreaded watches.new (with_list (index_of lit) (kept ++ rest) lists) }
+    requires edge { HasEdge watches.old lit (link_in last) }
+    ensures state { watches.new ≡ leading_on (link_in last) lit (link_in next) watches.old }
+    ensures threaded { (lists : Lists) (c : ℕ) (kept rest : List ℕ) → IsThreaded watches.old lists → lists (index_of lit) ≡ kept ++ c ∷ rest → IsLast kept (link_in last)
+        → LeadsOn watches.old.arena.heads lit c (link_in next) → IsThreaded watches.new (with_list (index_of lit) (kept ++ rest) lists) }
 {
-    match last {
+    match last.clause() {
         Some(p) => {
-            let w = watches.arena().watched(p, true) == lit;
+            let w = side_at(watches.arena(), p, last.is_second(), lit);
             watches.drop_next(p, w, next);
         }
         None => watches.drop_first(lit, next),
@@ -55,19 +77,20 @@ pub(crate) fn visit_list(
     // What holds of every trail is known from here on.
     let current = trail.current();
     let late = trail.known_level(lit.var()) < current;
-    let mut last = None;
+    let mut last = Link::nowhere();
     let mut next = watches.first(lit);
-    while let Some(c) = next {
+    while let Some(c) = next.clause() {
         // So it is of the trail as it has grown.
         let _len = trail.len();
-        let w = watches.arena().watched(c, true) == lit;
+        let here = next;
+        let w = side_at(watches.arena(), c, next.is_second(), lit);
         next = watches.arena().link(c, w);
         match visit_clause(watches.arena(), trail, c, w) {
             Visit::Kept => {
                 if late {
                     progress.lower();
                 }
-                last = Some(c);
+                last = here;
             }
             Visit::Dead => lead_on(watches, lit, last, next),
             Visit::Moves(n) => {
@@ -79,7 +102,7 @@ pub(crate) fn visit_list(
                 if late {
                     progress.lower();
                 }
-                last = Some(c);
+                last = here;
             }
             Visit::Falsified => return Some(c),
         }

@@ -1,12 +1,12 @@
 // Lists of the clauses that watch each literal.
 ghost use Rattle.std.specs.Prelude.{OnOk, take, ◌+◌, ◌-◌, ◌≡◌, ◌≢◌, ◌<◌, ◌≤◌, ◌*◌, ◌∷◌, ◌++◌, ℕ, ℤ, Bool, not, true, false, map, List, [], length, replicate, slice_get, slice_index_or, IfOk, IfSome, Option, None, Some};
-ghost use Rattle.std.specs.Option.{ForSome};
 ghost use Rattle.lls_lit.specs.Literal.{index_of, literal_at};
+ghost use Rattle.lls_arena.specs.Links.{link_in};
 ghost use Rattle.lls_arena.specs.Arena.{IsLive, changed_at, compacted, empty_arena, killed, place_of, sealed, unlinked};
 ghost use Rattle.lls_watch.specs.Anew.{AreLonger, BeginApart, CanBeListed, HasLists, IsRelinked};
 ghost use Rattle.lls_watch.specs.Watches.{AttachedAt, BeginsWith, CanBegin, CanRewatch, ComesAfter, HasLiteral, IsInNone, IsNotIn, IsThreaded, Lists, WatchesAt, begun, swapped_at, with_attached, with_begun, with_first, with_link_at, with_list};
 
-use lls_arena::{Arena, MOST_HEADS};
+use lls_arena::{Arena, Link};
 use lls_base::Memory;
 use lls_lit::{Lit, Var};
 use std::alloc::Global;
@@ -16,21 +16,18 @@ use std::marker::Model;
 #[derive(Debug, Drop)]
 pub struct Watches {
     arena: Arena,
-    // By literal, the first clause of its list.
-    first: Vec<Option<u32>>,
+    // By literal, where its list begins.
+    first: Vec<Link>,
 }
 
 impl Model for Watches {
-    ghost use Rattle.std.specs.Prelude.{◌<◌, All};
-    ghost use Rattle.std.specs.Option.{ForSome};
-    ghost use Rattle.lls_arena.specs.declared.TheConstants.{MOST_HEADS};
+    ghost use Rattle.std.specs.Prelude.{map};
+    ghost use Rattle.lls_arena.specs.Links.{link_in};
     ghost use Rattle.lls_watch.specs.Watches.{WatchState};
 
     ghost Value = { WatchState };
 
-    ghost view = { λ w. record { arena = w.arena; first = w.first.items } };
-
-    ghost invariant = { λ w. All (λ o. ForSome o (λ n. n < MOST_HEADS)) w.first.items };
+    ghost view = { λ w. record { arena = w.arena; first = map link_in w.first.items } };
 }
 
 impl Watches {
@@ -41,7 +38,7 @@ impl Watches {
         ensures first { IfOk result (λ w. w.first ≡ replicate (2 * vars) None) }
         ensures threaded { IfOk result (λ w. IsThreaded w (λ _. [])) }
     {
-        let first = vec![in alloc; None; 2 * vars as usize]?;
+        let first = vec![in alloc; Link::nowhere(); 2 * vars as usize]?;
         Ok(Watches {
             arena: Arena::new(alloc),
             first,
@@ -63,11 +60,11 @@ impl Watches {
         self.first.len()
     }
 
-    /// The first clause of a literal's list.
+    /// Where a literal's list begins.
     #[inline]
-    pub fn first(&self, lit: Lit) -> Option<u32>
+    pub fn first(&self, lit: Lit) -> Link
         requires { index_of lit < length self.now.first }
-        ensures { slice_get self.now.first (index_of lit) ≡ Some result }
+        ensures { slice_get self.now.first (index_of lit) ≡ Some (link_in result) }
     {
         self.first[lit.index()]
     }
@@ -111,8 +108,7 @@ impl Watches {
 
     /// Makes the clause that is being built a live one, which is in no list yet, and answers its number.
     pub fn seal(&mut self, id: u64) -> u32
-        requires spare { 0 < self.old.arena.spare_heads }
-        requires most { length self.old.arena.heads < MOST_HEADS }
+        requires { 0 < self.old.arena.spare_heads }
         ensures number { result ≡ length self.old.arena.heads }
         ensures state { self.new ≡ record self.old { arena = sealed self.old.arena id } }
         ensures threaded { (lists : Lists) → IsThreaded self.old lists → IsThreaded self.new lists }
@@ -189,7 +185,7 @@ impl Watches {
         let _count = self.arena.count();
         let i = self.arena.watched(c, w).index();
         self.arena.set_link(c, w, self.first[i]);
-        self.first[i] = Some(c);
+        self.first[i] = Link::to(c, w);
     }
 
     /// Has a live clause that is in no list watch its first literal and the one at place n behind it, which becomes its second, and
@@ -207,11 +203,10 @@ impl Watches {
 
     /// Takes the first clause out of a literal's list: the list begins with the next one.
     #[inline]
-    pub fn drop_first(&mut self, lit: Lit, next: Option<u32>)
-        requires within { index_of lit < length self.old.first }
-        requires fits { ForSome next (λ n. n < MOST_HEADS) }
-        ensures state { self.new ≡ with_first (index_of lit) next self.old }
-        ensures threaded { (lists : Lists) (c : ℕ) (cs : List ℕ) → IsThreaded self.old lists → BeginsWith self.old lists lit c next cs
+    pub fn drop_first(&mut self, lit: Lit, next: Link)
+        requires { index_of lit < length self.old.first }
+        ensures state { self.new ≡ with_first (index_of lit) (link_in next) self.old }
+        ensures threaded { (lists : Lists) (c : ℕ) (cs : List ℕ) → IsThreaded self.old lists → BeginsWith self.old lists lit c (link_in next) cs
             → IsThreaded self.new (with_list (index_of lit) cs lists) }
     {
         self.first[lit.index()] = next;
@@ -220,12 +215,11 @@ impl Watches {
     /// Takes the clause behind another one out of the list of that one's first literal, or of its second where `w`: the other one
     /// leads to the next.
     #[inline]
-    pub fn drop_next(&mut self, p: u32, w: bool, next: Option<u32>)
-        requires clause { WatchesAt self.old p w }
-        requires fits { ForSome next (λ n. n < MOST_HEADS) }
-        ensures state { self.new ≡ with_link_at p w next self.old }
+    pub fn drop_next(&mut self, p: u32, w: bool, next: Link)
+        requires { WatchesAt self.old p w }
+        ensures state { self.new ≡ with_link_at p w (link_in next) self.old }
         ensures threaded { (lists : Lists) (lit : ℤ) (c : ℕ) (before cs : List ℕ) → IsThreaded self.old lists → HasLiteral self.old p w lit
-            → ComesAfter self.old lists lit p c next before cs → IsThreaded self.new (with_list (index_of lit) (before ++ p ∷ cs) lists) }
+            → ComesAfter self.old lists lit p c (link_in next) before cs → IsThreaded self.new (with_list (index_of lit) (before ++ p ∷ cs) lists) }
     {
         self.arena.set_link(p, w, next);
     }
@@ -255,11 +249,12 @@ fn begin_apart(lits: &[Lit]) -> bool
 }
 
 // Has every list begin with no clause.
-fn empty_lists(first: &mut [Option<u32>])
-    ensures { first.new ≡ map (λ _. None) first.old }
+fn empty_lists(first: &mut [Link])
+    ensures { map link_in first.new ≡ map (λ _. None) (map link_in first.old) }
 {
+    let nowhere = Link::nowhere();
     for start in first.iter_mut() {
-        *start = None;
+        *start = nowhere;
     }
 }
 

@@ -17,7 +17,7 @@ loop-k-preserved c =
       | then-lives-k w ↦
           let e = w.index-edges-k.result in
           rw (w.edges-is, w.before-is)
-          (IsTelling-live c.args.edges.now c.loop-k.edges c.args.lives.now k c.loop-k.before e _ c.loop-k.invariant among lt w.if-lives-k.true w.index-edges-k.is w.new.ensures
+          (IsTelling-live c.args.edges.now c.loop-k.edges c.args.lives.now k c.loop-k.before e _ c.loop-k.invariant among lt w.if-lives-k.true w.index-edges-k.is w.to.ensures
           (ap (λ (x : Edges). x.first.lit) (get_or_default c.loop-k.edges k _ e among ∙ sym w.index-edges-k.is))
           (ap (λ (x : Edges). x.second) (get_or_default c.loop-k.edges k _ e among ∙ sym w.index-edges-k.is)))
       | else-lives-k w ↦ rw (w.edges-is, w.before-is) (IsTelling-dead c.args.edges.now c.loop-k.edges c.args.lives.now k c.loop-k.before c.loop-k.invariant lt w.if-lives-k.false)

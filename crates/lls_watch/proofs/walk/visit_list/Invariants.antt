@@ -2,15 +2,16 @@
 use Rattle.std.proofs.Common.{◌≡◌, ◌≤◌, false, length, Some}
 use Rattle.std.specs.Prelude.{slice_get}
 use Rattle.lls_store.specs.Trail.{Entry}
+use Rattle.lls_arena.specs.Links.{link_in}
 use Rattle.lls_watch.specs.Propagating.{IsOnItsWay}
 use Rattle.lls_watch.proofs.Followed.{followed}
 use Rattle.lls_watch.proofs.walk.visit_list.Given as goal
 
-abbrev pub invariant-loop-next : goal.invariant-loop-next
-invariant-loop-next l =
-    IsOnItsWay l.fn.watches l.watches l.fn.trail l.trail l.progress l.lit l.last l.next
+abbrev pub invariant-loop-c : goal.invariant-loop-c
+invariant-loop-c l =
+    IsOnItsWay l.fn.watches l.watches l.fn.trail l.trail l.progress l.lit (link_in l.last) (link_in l.next)
     × (l.progress.passed ≡ l.fn.progress.passed)
     × ((e : Entry) → l.late ≡ false → slice_get l.trail.entries l.progress.passed ≡ Some e → l.trail.current ≤ e.level)
 
-abbrev pub decreases-loop-next : goal.decreases-loop-next
-decreases-loop-next l = length (followed (length l.watches.arena.heads) l.watches.arena.heads l.lit l.next)
+abbrev pub decreases-loop-c : goal.decreases-loop-c
+decreases-loop-c l = length (followed (length l.watches.arena.heads) l.watches.arena.heads l.lit (link_in l.next))

@@ -24,6 +24,7 @@ invariant_of-self c =
         for_lives = c.self.invariant.1.for_lives;
         for_ids = c.self.invariant.1.for_ids;
         for_lits = omega (arith, longer, grown, c.self.invariant.1.for_lits, c.push_reserved.ensures.capacity, ap (λ (x : ArenaState). x.spare_lits) c.self.view_is, c.requires);
+        few_heads = c.self.invariant.1.few_heads;
         few_lits = omega (arith, longer, grown, c.self.invariant.1.few_lits, ap (λ (x : ArenaState). x.spare_lits) c.self.view_is, c.requires);
       },
       c.self.invariant.2,

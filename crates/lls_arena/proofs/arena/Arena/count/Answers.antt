@@ -10,8 +10,13 @@ overflow_cast-result c =
     let a = c.self.inside in
     omega (arith, c.len.ensures, length-spans_in a.spans.items a.lives.items a.ids.items c.self.invariant.3, c.self.invariant.0.few)
 
-pub returns : goal.returns
-returns c =
+pub returns-clause-count : goal.returns-clause-count
+returns-clause-count c =
     let a = c.self.inside in
     let spans = spans_in a.spans.items a.lives.items a.ids.items in
     omega (arith, c.len.ensures, length-heads_in a.lits.items a.edges.items spans c.self.invariant.0.watched, length-spans_in a.spans.items a.lives.items a.ids.items c.self.invariant.3, ap (λ (x : ArenaState). length x.heads) c.self.view_is)
+
+pub returns-clause-most : goal.returns-clause-most
+returns-clause-most c =
+    let a = c.self.inside in
+    omega (arith, c.len.ensures, length-spans_in a.spans.items a.lives.items a.ids.items c.self.invariant.3, c.self.invariant.0.few)

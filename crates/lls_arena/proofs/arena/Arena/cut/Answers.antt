@@ -23,6 +23,7 @@ invariant_of-self c =
         for_lives = c.self.invariant.1.for_lives;
         for_ids = c.self.invariant.1.for_ids;
         for_lits = omega (arith, shorter, cut, c.len-end.ensures, c.if-keep-end.true, c.self.invariant.1.for_lits, c.truncate.ensures.capacity);
+        few_heads = c.self.invariant.1.few_heads;
         few_lits = omega (arith, shorter, cut, c.len-end.ensures, c.if-keep-end.true, c.self.invariant.1.few_lits);
       },
       c.self.invariant.2,

@@ -65,6 +65,7 @@ invariant_of-self c =
         for_lives = omega (arith, counted, fewer, old_places, c.truncate-3.ensures.capacity, c.self.invariant.1.for_lives);
         for_ids = omega (arith, counted, fewer, old_places, c.truncate-4.ensures.capacity, c.self.invariant.1.for_ids);
         for_lits = omega (arith, counted_lits, shorter, old_lits, c.truncate-5.ensures.capacity, c.self.invariant.1.for_lits);
+        few_heads = omega (arith, counted, fewer, old_places, c.self.invariant.1.few_heads);
         few_lits = omega (arith, counted_lits, shorter, old_lits, c.self.invariant.1.few_lits);
       },
       no_plan _,

@@ -22,4 +22,4 @@ returns c =
     let planned : a.planned ≡ true = ap (λ (x : ArenaState). x.planned) c.self.view_is ∙ c.requires.planned in
     rw (← c.self.view_is)
     (told_at a.lits.items a.edges.items spans a.lives.items c.args.c c.unwrap_or.result c.index.result.now c.self.invariant.0.watched (lives-spans_in a.spans.items a.lives.items a.ids.items c.self.invariant.3) lt (rw (← c.self.view_is) at c.requires.live) (c.self.invariant.2 planned) c.index.ensures
-    (c.unwrap_or.ensures ∙ ap (λ (o : Option ℕ). unwrap_or o c.args.c) c.next.ensures.link))
+    (c.unwrap_or.ensures ∙ ap (λ (o : Option ℕ). unwrap_or o c.args.c) c.clause.ensures))

@@ -36,6 +36,7 @@ invariant_of-self c =
         for_lives = c.self.invariant.1.for_lives;
         for_ids = c.self.invariant.1.for_ids;
         for_lits = c.self.invariant.1.for_lits;
+        few_heads = c.self.invariant.1.few_heads;
         few_lits = c.self.invariant.1.few_lits;
       },
       λ planned. told.told,

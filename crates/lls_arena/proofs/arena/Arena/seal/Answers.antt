@@ -39,17 +39,18 @@ invariant_of-self c =
     let edges_pushed = length_push a.edges.items c.of.result in
     let spare = ap (λ (x : ArenaState). x.spare_heads) c.self.view_is in (
       record {
-        few = rw (c.push_reserved-2.ensures.items, c.push_reserved-3.ensures.items, c.push_reserved-4.ensures.items, pushed) (omega (arith, longer, known, counted, c.requires.most));
+        few = rw (c.push_reserved-2.ensures.items, c.push_reserved-3.ensures.items, c.push_reserved-4.ensures.items, pushed) (omega (arith, longer, known, counted, rows, spare, c.requires, c.self.invariant.1.few_heads));
         in_order = rw (c.push_reserved-2.ensures.items, c.push_reserved-3.ensures.items, c.push_reserved-4.ensures.items, pushed) (AreInOrder-push 0 spans a.tail c.len-end.result span c.self.invariant.0.in_order (omega arith) (omega (arith, end, c.self.invariant.0.tail_begins)) (omega arith));
         tail_begins = omega (arith, end);
         watched = rw (c.push_reserved.ensures.items, c.push_reserved-2.ensures.items, c.push_reserved-3.ensures.items, c.push_reserved-4.ensures.items, pushed) (AreAllWatched-push a.lits.items a.edges.items spans c.of.result span c.self.invariant.0.watched watches);
       },
       record {
-        for_edges = omega (arith, more_edges, edges_pushed, spare, c.requires.spare, c.push_reserved.ensures.capacity, c.self.invariant.1.for_edges);
-        for_spans = omega (arith, more_spans, span_pushed, spare, c.requires.spare, c.push_reserved-2.ensures.capacity, c.self.invariant.1.for_spans);
-        for_lives = omega (arith, more_spans, span_pushed, spare, c.requires.spare, c.push_reserved-3.ensures.capacity, c.self.invariant.1.for_lives);
-        for_ids = omega (arith, more_spans, span_pushed, spare, c.requires.spare, c.push_reserved-4.ensures.capacity, c.self.invariant.1.for_ids);
+        for_edges = omega (arith, more_edges, edges_pushed, spare, c.requires, c.push_reserved.ensures.capacity, c.self.invariant.1.for_edges);
+        for_spans = omega (arith, more_spans, span_pushed, spare, c.requires, c.push_reserved-2.ensures.capacity, c.self.invariant.1.for_spans);
+        for_lives = omega (arith, more_spans, span_pushed, spare, c.requires, c.push_reserved-3.ensures.capacity, c.self.invariant.1.for_lives);
+        for_ids = omega (arith, more_spans, span_pushed, spare, c.requires, c.push_reserved-4.ensures.capacity, c.self.invariant.1.for_ids);
         for_lits = c.self.invariant.1.for_lits;
+        few_heads = omega (arith, more_spans, span_pushed, spare, c.requires, c.self.invariant.1.few_heads);
         few_lits = c.self.invariant.1.few_lits;
       },
       no_plan _,

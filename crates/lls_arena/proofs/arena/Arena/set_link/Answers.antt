@@ -1,8 +1,7 @@
-use Rattle.std.proofs.Common.{◌<◌, List, drop, false, length, ap, ◌∙◌, arith}
-use Rattle.std.specs.Prelude.{Option, ℕ}
+use Rattle.std.proofs.Common.{◌<◌, List, drop, false, length, ap, arith}
 use Rattle.std.proofs.lemmas.List.{length-set}
-use Rattle.lls_arena.specs.Arena.{ArenaState, HeadState, changed_at, with_link}
-use Rattle.lls_arena.specs.Parts.{heads_in, spans_in}
+use Rattle.lls_arena.specs.Arena.{ArenaState, HeadState}
+use Rattle.lls_arena.specs.Parts.{spans_in}
 use Rattle.lls_arena.proofs.Heads.{inside, same_length}
 use Rattle.lls_arena.proofs.Changed.{AreAllWatched-linked, heads_in-linked}
 use Rattle.lls_arena.proofs.Told.{no_plan}
@@ -12,7 +11,7 @@ pub index_mut-requires : goal.index_mut-requires
 index_mut-requires c =
     let a = c.self.inside in
     let spans = spans_in a.spans.items a.lives.items a.ids.items in
-    let lt : c.args.c < length spans = inside c.args.self.now a.lits.items a.edges.items spans c.args.c (ap (λ (x : ArenaState). x.heads) c.self.view_is) c.self.invariant.0.watched c.requires.clause in
+    let lt : c.args.c < length spans = inside c.args.self.now a.lits.items a.edges.items spans c.args.c (ap (λ (x : ArenaState). x.heads) c.self.view_is) c.self.invariant.0.watched c.requires in
     omega (arith, lt, same_length a.lits.items a.edges.items spans c.self.invariant.0.watched)
 
 pub invariant_of-self : goal.invariant_of-self
@@ -24,7 +23,7 @@ invariant_of-self c =
         few = c.self.invariant.0.few;
         in_order = c.self.invariant.0.in_order;
         tail_begins = c.self.invariant.0.tail_begins;
-        watched = rw c.set_next.ensures (AreAllWatched-linked a.lits.items a.edges.items spans c.args.c c.args.w c.new.result c.index_mut.result.now c.index_mut.ensures.value c.self.invariant.0.watched);
+        watched = rw c.set_next.ensures (AreAllWatched-linked a.lits.items a.edges.items spans c.args.c c.args.w c.args.next c.index_mut.result.now c.index_mut.ensures.value c.self.invariant.0.watched);
       },
       record {
         for_edges = omega (arith, longer, c.self.invariant.1.for_edges);
@@ -32,6 +31,7 @@ invariant_of-self c =
         for_lives = c.self.invariant.1.for_lives;
         for_ids = c.self.invariant.1.for_ids;
         for_lits = c.self.invariant.1.for_lits;
+        few_heads = c.self.invariant.1.few_heads;
         few_lits = c.self.invariant.1.few_lits;
       },
       no_plan _,
@@ -42,9 +42,8 @@ pub returns : goal.returns
 returns c =
     let a = c.self.inside in
     let spans = spans_in a.spans.items a.lives.items a.ids.items in
-    let lt : c.args.c < length spans = inside c.args.self.now a.lits.items a.edges.items spans c.args.c (ap (λ (x : ArenaState). x.heads) c.self.view_is) c.self.invariant.0.watched c.requires.clause in
+    let lt : c.args.c < length spans = inside c.args.self.now a.lits.items a.edges.items spans c.args.c (ap (λ (x : ArenaState). x.heads) c.self.view_is) c.self.invariant.0.watched c.requires in
     let known : c.args.c < length a.edges.items = omega (arith, lt, same_length a.lits.items a.edges.items spans c.self.invariant.0.watched) in
     rw (← c.self.view_is, c.set_next.ensures)
     (ap (λ (heads : List HeadState). record { heads = heads; tail = drop a.tail a.lits.items; spare_heads = a.spare_heads; spare_lits = a.spare_lits; planned = false })
-    (heads_in-linked a.lits.items a.edges.items spans c.args.c c.args.w c.new.result c.index_mut.result.now c.index_mut.ensures.value known
-    ∙ ap (λ (next : Option ℕ). changed_at (with_link c.args.w next) c.args.c (heads_in a.lits.items a.edges.items spans)) c.new.ensures))
+    (heads_in-linked a.lits.items a.edges.items spans c.args.c c.args.w c.args.next c.index_mut.result.now c.index_mut.ensures.value known))

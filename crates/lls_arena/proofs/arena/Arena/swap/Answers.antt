@@ -126,6 +126,7 @@ invariant_of-self c =
         for_lives = c.self.invariant.1.for_lives;
         for_ids = c.self.invariant.1.for_ids;
         for_lits = omega (arith, same, c.swap.ensures.capacity, c.self.invariant.1.for_lits);
+        few_heads = c.self.invariant.1.few_heads;
         few_lits = omega (arith, same, c.self.invariant.1.few_lits);
       },
       λ planned. SayWhereTo-set a.edges.items a.lives.items c.args.c c.index_mut.result.now c.watch.new.self (omega (arith, lt, same_length a.lits.items a.edges.items spans parts.watched)) c.index_mut.ensures.value c.watch.ensures.first_link (c.self.invariant.2 planned),
