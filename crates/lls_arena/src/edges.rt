@@ -62,7 +62,7 @@ impl Link {
     /// Whether the second edge of the clause was named.
     #[inline]
     pub fn is_second(self) -> bool {
-        self.after != 0 && self.after % 2 == 0
+        self.after.wrapping_sub(1) % 2 == 1
     }
 }
 

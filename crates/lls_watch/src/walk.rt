@@ -32,6 +32,7 @@ fn side_at(arena: &Arena, c: u32, is_second: bool, lit: Lit) -> bool
 
 // It stands apart, so that a processor foresees the way on without knowing the clause.
 #[cold]
+#[inline(never)]
 fn looked_at_side(arena: &Arena, c: u32, lit: Lit) -> bool
     requires { HasEdgeOf arena.now.heads lit c }
     ensures { (head : HeadState) → slice_get arena.now.heads c ≡ Some head → result ≡ side_of head lit }
