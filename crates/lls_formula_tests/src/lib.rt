@@ -29,6 +29,8 @@ mod prooflog;
 #[cfg(test)]
 mod prooflog_lines;
 #[cfg(test)]
+mod prooflog_pieces;
+#[cfg(test)]
 mod prooflog_spent;
 #[cfg(test)]
 mod text;
