@@ -21,6 +21,8 @@ mod lrat;
 #[cfg(test)]
 mod lrat_logs;
 #[cfg(test)]
+mod lrat_pieces;
+#[cfg(test)]
 mod lrat_walks;
 #[cfg(test)]
 mod marks;

@@ -8,3 +8,5 @@ pub mod Within
 pub mod Checks
 pub mod Verdicts
 pub mod Logs
+pub mod Feedings
+pub mod LineChecks

@@ -106,6 +106,17 @@ impl<'f> Checker<'f> {
         }
     }
 
+    // How far the proof has come.
+    pub(crate) fn progress(&self) -> Progress
+        ensures { result ≡ progress_of self.now.done }
+    {
+        if self.done {
+            Progress::Done
+        } else {
+            Progress::Going
+        }
+    }
+
     /// What the steps prove: Some exactly after `Done`.
     pub fn finish(self) -> Option<Checked<'f>>
         ensures { result ≡ (if self.entry.done then Some self.entry.formula else None) }
