@@ -19,6 +19,8 @@ mod encode;
 #[cfg(test)]
 mod lrat;
 #[cfg(test)]
+mod lrat_held;
+#[cfg(test)]
 mod lrat_logs;
 #[cfg(test)]
 mod lrat_pieces;

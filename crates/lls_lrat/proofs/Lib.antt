@@ -10,3 +10,4 @@ pub mod Verdicts
 pub mod Logs
 pub mod Feedings
 pub mod LineChecks
+pub mod Emptied

@@ -2,6 +2,7 @@
 #![tactic(auto)]
 
 mod added;
+mod buffer;
 mod bytes;
 mod checked;
 mod checker;
