@@ -19,7 +19,11 @@ mod encode;
 #[cfg(test)]
 mod lrat;
 #[cfg(test)]
+mod lrat_held;
+#[cfg(test)]
 mod lrat_logs;
+#[cfg(test)]
+mod lrat_pieces;
 #[cfg(test)]
 mod lrat_walks;
 #[cfg(test)]
@@ -28,6 +32,8 @@ mod marks;
 mod prooflog;
 #[cfg(test)]
 mod prooflog_lines;
+#[cfg(test)]
+mod prooflog_pieces;
 #[cfg(test)]
 mod prooflog_spent;
 #[cfg(test)]

@@ -126,12 +126,16 @@ fn a_million_hints(rt: HostRuntime) -> Result<(), Fail> {
     compare(&rt, rt.alloc(), &text, "NoConflict 1")
 }
 
-// A thousand clauses `1` under the ids from 5, of which those whose ids are multiples of 100 aren't taken out again, and
-// a last line.
-fn with_deletions(alloc: Global, last: &str) -> Result<String, Fail> {
+// A thousand clauses under the ids from 5, each with the literal 1 so many times, of which those whose ids aren't multiples
+// of 100 are taken out again, and a last line.
+fn with_deletions(alloc: Global, times: u32, last: &str) -> Result<String, Fail> {
+    let mut lits = String::new(alloc);
+    for _ in 0..times {
+        lits.push_str("1 ")?;
+    }
     let mut text = String::new(alloc);
     for id in 5..1005 {
-        text.push_str(&format!(in alloc; "{id} 1 0 1 0\n")?)?;
+        text.push_str(&format!(in alloc; "{id} {lits}0 1 0\n")?)?;
         if id % 100 != 0 {
             text.push_str(&format!(in alloc; "{id} d {id} 0\n")?)?;
         }
@@ -150,8 +154,10 @@ fn room_is_used_again(rt: HostRuntime) -> Result<(), Fail> {
         ("501 0 1 2 4 0", "accepted"),
     ];
     for (last, want) in rows {
-        let text = with_deletions(rt.alloc(), last)?;
-        compare(&rt, rt.alloc(), text.as_bytes(), want)?;
+        for times in [1, 50] {
+            let text = with_deletions(rt.alloc(), times, last)?;
+            compare(&rt, rt.alloc(), text.as_bytes(), want)?;
+        }
     }
     Ok(())
 }

@@ -8,3 +8,6 @@ pub mod Within
 pub mod Checks
 pub mod Verdicts
 pub mod Logs
+pub mod Feedings
+pub mod LineChecks
+pub mod Emptied

@@ -1,4 +1,4 @@
--- For private contracts alone: the clause of a hint, and the variables of all clauses.
+-- For private contracts alone: live clauses, their variables, and the clause of a hint.
 use Rattle.std.specs.Prelude.{ℕ, ℤ, pos, negsuc, Bool, Option, Some, None, Result, Ok, Err}
 use Rattle.std.specs.List.{list_all}
 use Rattle.lls_lit.specs.Formula.{Clause, is_within}
@@ -18,3 +18,8 @@ hinted_clause live (negsuc n) = Err (RatHint (negsuc n))
 -- no clause has a literal beyond the variables
 abbrev pub are_within : ℕ → Live → Bool
 are_within vars live = list_all (λ pair. is_within vars pair.1) live
+
+-- live clauses, and those of them that were added
+pub record LiveParts : Type 0 where
+  pub all : Live
+  pub added : Live

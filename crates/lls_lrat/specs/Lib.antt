@@ -7,3 +7,4 @@ pub mod Assumed
 pub mod Checking
 pub mod Verdict
 pub mod UnderWay
+pub mod Feeding

@@ -1,36 +1,39 @@
 // The live clauses that steps added.
-ghost use Rattle.std.specs.Prelude.{◌≡◌, ℕ, ◌+◌, ◌<◌, true, not, [], ◌∷◌, ◌++◌, length, OnOk, OnErr, IfOk, Some, None, filter, is_ok, if◌then◌else◌, ◌==◌};
+ghost use Rattle.std.specs.Prelude.{◌≡◌, ◌≤◌, ℕ, ◌+◌, ◌*◌, ◌/◌, ◌<◌, true, not, [], ◌∷◌, ◌++◌, length, OnOk, OnErr, IfOk, Some, None, filter, is_ok, if◌then◌else◌, ◌==◌};
+ghost use Rattle.std.specs.List.{zip};
 ghost use Rattle.std.specs.Option.{option_copied};
 ghost use Rattle.lls_prooflog.specs.UnitWalk.{find_clause};
 ghost use Rattle.lls_lrat.specs.Placed.{place_of};
-ghost use Rattle.lls_lrat.specs.Stored.{is_at};
+ghost use Rattle.lls_lrat.specs.Checking.{literals_of};
+ghost use Rattle.lls_lrat.specs.Stored.{kept, literals_in};
 
+use crate::buffer::{Buffer, leads_to};
 use crate::places::Places;
 use lls_base::Memory;
-use lls_cnf::Clauses;
 use lls_lit::Lit;
 use std::alloc::Global;
 use std::marker::Model;
 
-/// How much more room than half of all dead clauses may take.
-const SPARE_ROOM: usize = 256;
+/// How many more than half of all literals in the buffer may be dead.
+const SPARE_LITERALS: usize = 2048;
+
+/// How many more than half of all stored clauses may be dead.
+const SPARE_CLAUSES: usize = 128;
 
 /// Clauses with ids, in the order in which they were put in.
 ///
 /// A clause that is taken out is dead, and stays stored for a while: a clause is live where its id leads to its place.
-/// `tidy` makes the store anew once dead clauses have more than half of the room, where a clause has one unit for itself
-/// and one for each literal. So the store takes memory by the clauses that are live. It is full at 2^32 stored clauses,
-/// and then answers `Memory`.
+/// Once dead literals are more than half of the buffer's, it is closed up in place, and dead clauses are empty from then on.
+/// `tidy` makes the store anew, without the dead clauses, once they are more than half of all. So it takes memory by the
+/// clauses that are live. It is full at 2^32 stored clauses, and then answers `Memory`.
 #[derive(Drop)]
 pub(crate) struct Added {
     alloc: Global,
     /// The number of live clauses.
     live: usize,
-    /// The room of all stored clauses.
-    room: usize,
-    /// The room of those that are dead.
+    /// No fewer than the literals of dead clauses that are in the buffer.
     dead: usize,
-    clauses: Clauses,
+    clauses: Buffer,
     ids: Vec<u64>,
     places: Places,
 }
@@ -39,14 +42,14 @@ impl Model for Added {
     ghost use Rattle.std.specs.Prelude.{List, ℕ};
     ghost use Rattle.std.specs.List.{zip};
     ghost use Rattle.lls_lit.specs.Formula.{Clause};
-    ghost use Rattle.lls_lrat.specs.Stored.{kept, IsIndexed};
+    ghost use Rattle.lls_lrat.specs.Stored.{kept, IsStored};
     ghost use Rattle.lls_lrat.specs.Placed.{place_of};
 
     ghost Value = { List (ℕ × Clause) };
 
     ghost view = { λ a. kept (place_of a.places) 0 (zip a.ids.items a.clauses) };
 
-    ghost invariant = { λ a. IsIndexed (place_of a.places) a.ids.items a.clauses };
+    ghost invariant = { λ a. IsStored (place_of a.places) a.ids.items a.clauses a.dead };
 }
 
 impl Added {
@@ -65,9 +68,8 @@ impl Added {
         Added {
             alloc,
             live: 0,
-            room: 0,
             dead: 0,
-            clauses: Clauses::new(alloc),
+            clauses: Buffer::new(alloc),
             ids: Vec::new(alloc),
             places,
         }
@@ -88,7 +90,6 @@ impl Added {
     {
         store(&mut self.ids, &mut self.places, &mut self.clauses, id, lits)?;
         self.live = self.live.saturating_add(1);
-        self.room = self.room.saturating_add(room_of(lits));
         Ok(())
     }
 
@@ -96,18 +97,27 @@ impl Added {
     pub(crate) fn remove(&mut self, id: u64)
         ensures { self.new ≡ filter (λ pair. not (id == pair.0)) self.old }
     {
-        if let Some(place) = self.places.take(id) {
-            let clause = self.clauses.clause(place as usize);
-            self.live = self.live.saturating_sub(1);
-            self.dead = self.dead.saturating_add(room_of(clause));
-        }
+        let Some(place) = self.places.take(id) else {
+            return;
+        };
+        let len = self.clauses.clause(place as usize).len();
+        self.live = self.live.saturating_sub(1);
+        self.dead = bury(&mut self.clauses, &self.ids, &self.places, self.dead, len);
     }
 
-    /// Gives the room of dead clauses back where it is more than half of all. Where memory lacks, that waits.
+    /// The length of the buffer.
+    pub(crate) fn held(&self) -> usize
+        ensures least { literals_of self.now ≤ result }
+        ensures most { result ≤ 2 * literals_of self.now + 4096 }
+    {
+        self.clauses.held()
+    }
+
+    /// Makes the store anew where more than half of its clauses are dead. Where memory lacks, that waits.
     pub(crate) fn tidy(&mut self)
         ensures { self.new ≡ self.old }
     {
-        if self.dead <= SPARE_ROOM + self.room / 2 {
+        if self.ids.len() / 2 <= self.live.saturating_add(SPARE_CLAUSES) {
             return;
         }
         if let Ok(fresh) = self.compacted() {
@@ -131,17 +141,24 @@ impl Added {
     }
 }
 
-fn room_of(lits: &[Lit]) -> usize {
-    lits.len().saturating_add(1)
-}
-
-fn leads_to(found: Option<u32>, place: usize) -> bool
-    ensures { result ≡ is_at found place }
+// Counts so many more dead literals, and closes the buffer up where they are many. The count is answered.
+fn bury(clauses: &mut Buffer, ids: &[u64], places: &Places, dead: usize, more: usize) -> usize
+    requires same_many { length ids.now ≡ length clauses.old }
+    requires dead { literals_in clauses.old
+        ≤ literals_of (kept (place_of places.now) 0 (zip ids.now clauses.old)) + dead + more }
+    ensures same_many { length clauses.new ≡ length clauses.old }
+    ensures live { kept (place_of places.now) 0 (zip ids.now clauses.new)
+        ≡ kept (place_of places.now) 0 (zip ids.now clauses.old) }
+    ensures dead_at_most { literals_in clauses.new
+        ≤ literals_of (kept (place_of places.now) 0 (zip ids.now clauses.old)) + result }
+    ensures few_dead { result ≤ literals_in clauses.new / 2 + 2048 }
 {
-    match found {
-        Some(there) => there as usize == place,
-        None => false,
+    let dead = dead.saturating_add(more);
+    if dead <= clauses.held() / 2 + SPARE_LITERALS {
+        return dead;
     }
+    clauses.empty_dead(ids, places);
+    0
 }
 
 // Puts a live clause at the end, and no other.
@@ -159,7 +176,7 @@ fn push_live(added: &mut Added, is_live: bool, id: u64, lits: &[Lit]) -> Result<
 fn store(
     ids: &mut Vec<u64>,
     places: &mut Places,
-    clauses: &mut Clauses,
+    clauses: &mut Buffer,
     id: u64,
     lits: &[Lit],
 ) -> Result<(), Memory>
@@ -181,7 +198,7 @@ fn store(
 
 fn store_at(
     places: &mut Places,
-    clauses: &mut Clauses,
+    clauses: &mut Buffer,
     id: u64,
     place: usize,
     lits: &[Lit],

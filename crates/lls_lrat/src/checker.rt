@@ -1,5 +1,5 @@
 // The checker of proof steps.
-ghost use Rattle.std.specs.Prelude.{◌≡◌, ◌≤◌, true, false, Some, None, Ok, Err, IfOk, OnOk, OnErr, if◌then◌else◌};
+ghost use Rattle.std.specs.Prelude.{◌≡◌, ◌≤◌, ◌+◌, ◌*◌, [], true, false, Some, None, Ok, Err, IfOk, OnOk, OnErr, if◌then◌else◌};
 ghost use Rattle.lls_lit.specs.Formula.{is_within, IsUnsatisfiable};
 ghost use Rattle.lls_prooflog.specs.Range.{IsInRange};
 ghost use Rattle.lls_prooflog.specs.Steps.{numbered};
@@ -33,7 +33,7 @@ pub enum Progress {
 ///
 /// It borrows the formula, whose clauses have the ids from 1. An addition takes time by its literals and hints and by the
 /// literals of the hints' clauses, and not by the number of live clauses. So does a deletion on average: now and then the
-/// store of added clauses is made anew.
+/// store of added clauses is closed up or made anew.
 #[derive(Drop)]
 pub struct Checker<'f> {
     alloc: Global,
@@ -48,19 +48,20 @@ impl<'f> Model for Checker<'f> {
 
     ghost Value = { Checking };
 
-    ghost view = { λ c. record { formula = c.formula.now; live = c.live; done = c.done } };
+    ghost view = { λ c. record { formula = c.formula.now; live = c.live.all; added = c.live.added; done = c.done } };
 
-    ghost invariant = { λ c. IsChecking c.formula.now c.live c.marks.vars c.done };
+    ghost invariant = { λ c. IsChecking c.formula.now c.live.all c.marks.vars c.done };
 }
 
 impl<'f> Checker<'f> {
-    ghost use Rattle.lls_lrat.specs.Checking.{stepped, progress_of};
+    ghost use Rattle.lls_lrat.specs.Checking.{stepped, progress_of, literals_of};
 
     /// A checker at the start of a proof.
     pub fn new(alloc: Global, formula: &'f Formula) -> Result<Checker<'f>, Memory>
         ensures { IfOk result (λ c. c ≡ record {
           formula = formula.now;
           live = numbered formula.now.clauses;
+          added = [];
           done = false;
         }) }
     {
@@ -103,6 +104,26 @@ impl<'f> Checker<'f> {
                 self.live.delete(ids);
                 Ok(Progress::Going)
             }
+        }
+    }
+
+    /// The length of the buffer that holds the literals of added clauses. It stays near what the live ones of them have, whatever
+    /// memory there is, since the buffer is closed up in place. The formula's clauses are borrowed.
+    pub fn held(&self) -> usize
+        ensures least { literals_of self.now.added ≤ result }
+        ensures most { result ≤ 2 * literals_of self.now.added + 4096 }
+    {
+        self.live.held()
+    }
+
+    // How far the proof has come.
+    pub(crate) fn progress(&self) -> Progress
+        ensures { result ≡ progress_of self.now.done }
+    {
+        if self.done {
+            Progress::Done
+        } else {
+            Progress::Going
         }
     }
 

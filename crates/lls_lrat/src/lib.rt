@@ -2,11 +2,14 @@
 #![tactic(auto)]
 
 mod added;
+mod buffer;
 mod bytes;
 mod checked;
 mod checker;
 mod error;
+mod feed;
 mod given;
+mod line_checker;
 mod live;
 mod log;
 mod places;
@@ -17,5 +20,6 @@ pub use bytes::check_bytes;
 pub use checked::Checked;
 pub use checker::{Checker, Progress};
 pub use error::CheckError;
+pub use feed::Feed;
 pub use log::check;
 pub use refusal::Refusal;

@@ -1,9 +1,10 @@
 // The live clauses with their ids.
-ghost use Rattle.std.specs.Prelude.{◌≡◌, not, [], ◌∷◌, ◌++◌, OnOk, OnErr, IfOk, None, filter, ◌==◌};
+ghost use Rattle.std.specs.Prelude.{◌≡◌, ◌≤◌, ◌+◌, ◌*◌, not, [], ◌∷◌, ◌++◌, OnOk, OnErr, IfOk, None, filter, ◌==◌};
 ghost use Rattle.std.specs.List.{list_any};
 ghost use Rattle.std.specs.Option.{option_copied};
 ghost use Rattle.lls_prooflog.specs.Lent.{ids_of};
 ghost use Rattle.lls_prooflog.specs.UnitWalk.{numbered, find_clause};
+ghost use Rattle.lls_lrat.specs.Checking.{literals_of};
 
 use crate::added::Added;
 use crate::given::Given;
@@ -14,7 +15,7 @@ use lls_prooflog::IdsRef;
 use std::alloc::Global;
 use std::marker::Model;
 
-/// A list of clauses with ids, which begins as a formula's clauses under the ids from 1.
+/// A list of clauses with ids, which begins as a formula's clauses under the ids from 1. It is seen with those that were added.
 #[derive(Drop)]
 pub(crate) struct LiveClauses<'f> {
     given: Given<'f>,
@@ -22,17 +23,17 @@ pub(crate) struct LiveClauses<'f> {
 }
 
 impl<'f> Model for LiveClauses<'f> {
-    ghost use Rattle.std.specs.Prelude.{List, ℕ, ◌++◌};
-    ghost use Rattle.lls_lit.specs.Formula.{Clause};
+    ghost use Rattle.std.specs.Prelude.{◌++◌};
+    ghost use Rattle.lls_lrat.specs.Hinted.{LiveParts};
 
-    ghost Value = { List (ℕ × Clause) };
+    ghost Value = { LiveParts };
 
-    ghost view = { λ l. l.given ++ l.added };
+    ghost view = { λ l. record { all = l.given ++ l.added; added = l.added } };
 }
 
 impl<'f> LiveClauses<'f> {
     pub(crate) fn new(alloc: Global, formula: &'f Formula) -> Result<LiveClauses<'f>, Memory>
-        ensures { IfOk result (λ l. l ≡ numbered formula.now.clauses) }
+        ensures { IfOk result (λ l. l ≡ record { all = numbered formula.now.clauses; added = [] }) }
     {
         let given = Given::new(alloc, formula)?;
         let added = Added::new(alloc, formula.len() as u64 + 1);
@@ -40,7 +41,7 @@ impl<'f> LiveClauses<'f> {
     }
 
     pub(crate) fn find(&self, id: u64) -> Option<&[Lit]>
-        ensures { option_copied result ≡ find_clause self.now id }
+        ensures { option_copied result ≡ find_clause self.now.all id }
     {
         match self.given.find(id) {
             Some(clause) => Some(clause),
@@ -50,8 +51,11 @@ impl<'f> LiveClauses<'f> {
 
     /// Puts a clause at the end. After `Memory` the clauses are as before.
     pub(crate) fn push(&mut self, id: u64, lits: &[Lit]) -> Result<(), Memory>
-        requires { find_clause self.old id ≡ None }
-        ensures ok { OnOk result (self.new ≡ self.old ++ (id, lits.now) ∷ []) }
+        requires { find_clause self.old.all id ≡ None }
+        ensures ok { OnOk result (self.new ≡ record {
+          all = self.old.all ++ (id, lits.now) ∷ [];
+          added = self.old.added ++ (id, lits.now) ∷ [];
+        }) }
         ensures err { OnErr result (self.new ≡ self.old) }
     {
         self.added.push(id, lits)?;
@@ -60,10 +64,21 @@ impl<'f> LiveClauses<'f> {
 
     /// Takes the clauses of these ids out.
     pub(crate) fn delete(&mut self, ids: IdsRef)
-        ensures { self.new ≡ filter (λ pair. not (list_any (λ id. id == pair.0) (ids_of ids.entry))) self.old }
+        ensures { self.new ≡ record {
+          all = filter (λ pair. not (list_any (λ id. id == pair.0) (ids_of ids.entry))) self.old.all;
+          added = filter (λ pair. not (list_any (λ id. id == pair.0) (ids_of ids.entry))) self.old.added;
+        } }
     {
         remove_all(&mut self.given, &mut self.added, ids);
         self.added.tidy();
+    }
+
+    /// The length of the buffer that the literals of added clauses are in.
+    pub(crate) fn held(&self) -> usize
+        ensures least { literals_of self.now.added ≤ result }
+        ensures most { result ≤ 2 * literals_of self.now.added + 4096 }
+    {
+        self.added.held()
     }
 }
 

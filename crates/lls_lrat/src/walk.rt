@@ -31,10 +31,10 @@ pub(crate) fn follow_hints(
     hints: HintsRef,
 ) -> Result<usize, StepFault>
     requires lits { is_within marks.old.vars lits.now ≡ true }
-    requires live { are_within marks.old.vars live.now ≡ true }
-    ensures exact { result_err result ≡ unit_walk live.now lits.now (hints_of hints.entry) }
-    ensures count { IfOk result (IsConflictAt live.now lits.now (hints_of hints.entry)) }
-    ensures lits { marks.new.lits ≡ set.from_list (assumed_after live.now lits.now (hints_of hints.entry)) }
+    requires live { are_within marks.old.vars live.now.all ≡ true }
+    ensures exact { result_err result ≡ unit_walk live.now.all lits.now (hints_of hints.entry) }
+    ensures count { IfOk result (IsConflictAt live.now.all lits.now (hints_of hints.entry)) }
+    ensures lits { marks.new.lits ≡ set.from_list (assumed_after live.now.all lits.now (hints_of hints.entry)) }
     ensures vars { marks.new.vars ≡ marks.old.vars }
 {
     mark_all(marks, lits);
@@ -63,8 +63,8 @@ fn mark_all(marks: &mut Marks, lits: &[Lit])
 
 // The clause of a hint. A negative hint has none.
 fn hinted<'a>(live: &'a LiveClauses, hint: &i64) -> Result<&'a [Lit], StepFault>
-    ensures clause { IfOk result (λ clause. hinted_clause live.now hint.now ≡ Ok clause.now) }
-    ensures fault { IfErr result (λ fault. hinted_clause live.now hint.now ≡ Err fault) }
+    ensures clause { IfOk result (λ clause. hinted_clause live.now.all hint.now ≡ Ok clause.now) }
+    ensures fault { IfErr result (λ fault. hinted_clause live.now.all hint.now ≡ Err fault) }
 {
     if *hint < 0 {
         return Err(StepFault::RatHint(*hint));

@@ -15,3 +15,4 @@ pub mod StepLines
 pub mod Pieces
 pub mod Logged
 pub mod PrintedLogs
+pub mod FirstLines

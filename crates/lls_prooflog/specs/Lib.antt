@@ -14,3 +14,4 @@ pub mod Lent
 pub mod Log
 pub mod Pieces
 pub mod Heads
+pub mod FirstLine

@@ -6,4 +6,4 @@ use Rattle.lls_lrat.proofs.walk.follow_hints.Given as goal
 
 abbrev pub invariant-loop-k : goal.invariant-loop-k
 invariant-loop-k l =
-    (l.marks.vars ≡ l.initial.marks.vars) × ((assumed : List ℤ) × Walked l.live l.lits (take l.k (hints_of l.hints)) l.marks assumed)
+    (l.marks.vars ≡ l.initial.marks.vars) × ((assumed : List ℤ) × Walked l.live.all l.lits (take l.k (hints_of l.hints)) l.marks assumed)

@@ -15,7 +15,7 @@ push_live-requires c =
     let all = zip a.ids.items a.clauses in
     let id = c.index-id.result.now in
     let place = c.loop-place.place in
-    let within : place ≤ length all = omega (arith, c.loop-place-test.true, c.len-place-end.ensures, a.ids.ok.0, length-zip a.ids.items a.clauses c.self.invariant.same_many) in
+    let within : place ≤ length all = omega (arith, c.loop-place-test.true, c.len-place-end.ensures, a.ids.ok.0, length-zip a.ids.items a.clauses c.self.invariant.indexed.same_many) in
     let before : 0 + length (take place all) ≤ place = omega (arith, length-take-le place all within) in
     λ live.
     rw c.loop-place.invariant (find-kept_later (place_of a.places) 0 (take place all) id place (is_at-true (place_of a.places id) place (sym live ∙ c.leads_to-is_live.ensures ∙ ap (λ o. is_at o place) c.get.ensures)) before)
@@ -34,5 +34,5 @@ pub returns : goal.returns
 returns c =
     let a = c.self.inside in
     let all = zip a.ids.items a.clauses in
-    let beyond : length all ≤ c.loop-place.place = omega (arith, c.loop-place-test.false, c.len-place-end.ensures, a.ids.ok.0, length-zip a.ids.items a.clauses c.self.invariant.same_many) in
+    let beyond : length all ≤ c.loop-place.place = omega (arith, c.loop-place-test.false, c.len-place-end.ensures, a.ids.ok.0, length-zip a.ids.items a.clauses c.self.invariant.indexed.same_many) in
     rw (← c.self.view_is) (c.loop-place.invariant ∙ ap (kept (place_of a.places) 0) (take_all c.loop-place.place all beyond))

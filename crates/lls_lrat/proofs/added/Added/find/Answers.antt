@@ -14,10 +14,10 @@ returns-in_err-place c =
 pub clause-requires : goal.clause-requires
 clause-requires c =
     let a = c.self.inside in
-    place_within (place_of a.places) a.ids.items a.clauses c.args.id c.in_ok-place.place c.self.invariant (sym c.get.ensures ∙ c.in_ok-place.was)
+    place_within (place_of a.places) a.ids.items a.clauses c.args.id c.in_ok-place.place c.self.invariant.indexed (sym c.get.ensures ∙ c.in_ok-place.was)
 
 pub returns : goal.returns
 returns c =
     let a = c.self.inside in
     rw (← c.self.view_is)
-    (sym (find-stored (place_of a.places) a.ids.items a.clauses c.args.id c.in_ok-place.place c.clause.result.now c.self.invariant (sym c.get.ensures ∙ c.in_ok-place.was) c.clause.ensures))
+    (sym (find-stored (place_of a.places) a.ids.items a.clauses c.args.id c.in_ok-place.place c.clause.result.now c.self.invariant.indexed (sym c.get.ensures ∙ c.in_ok-place.was) c.clause.ensures))

@@ -1,0 +1,77 @@
+// How long the checker's buffer is, against the formula 1, 2, 1 -2, -1 -2.
+use crate::lrat::formula;
+use lls_lit::Lit;
+use lls_lrat::{Checker, Progress};
+use lls_prooflog::{Hints, Ids, Lits, Step};
+use std::alloc::Global;
+use std::process::Abort;
+use std::test::Fail;
+
+// Adds a clause that has the literal 1 so many times.
+fn add(
+    rt: &impl Abort,
+    alloc: Global,
+    checker: &mut Checker,
+    id: u64,
+    times: usize,
+) -> Result<(), Fail> {
+    let one = Lit::from_number(1).ok_or("a literal")?;
+    let lits = vec![in alloc; one; times]?;
+    let step = Step::Add {
+        id,
+        lits: Lits::new(lits),
+        hints: Hints::new(Vec::from_slice(alloc, &[2, 3])?),
+    };
+    assert!(rt; step.is_in_range());
+    assert_eq!(rt; checker.step(&step), Ok(Progress::Going));
+    Ok(())
+}
+
+fn delete(rt: &impl Abort, alloc: Global, checker: &mut Checker, ids: &[u64]) -> Result<(), Fail> {
+    let step = Step::Del {
+        ids: Ids::new(Vec::from_slice(alloc, ids)?),
+    };
+    assert!(rt; step.is_in_range());
+    assert_eq!(rt; checker.step(&step), Ok(Progress::Going));
+    Ok(())
+}
+
+fn compare(rt: &impl Abort, checker: &Checker, live: usize) {
+    let held = checker.held();
+    assert!(rt; live <= held, "{held} for {live}");
+    assert!(rt; held / 2 <= live.saturating_add(2048), "{held} for {live}");
+}
+
+#[test]
+fn the_buffer_follows_the_live_clauses(rt: HostRuntime) -> Result<(), Fail> {
+    let alloc = rt.alloc();
+    let formula = formula(&rt, alloc)?;
+    let mut checker = Checker::new(alloc, &formula)?;
+    compare(&rt, &checker, 0);
+    // clauses that are deleted before the next is added
+    for id in 5..1005 {
+        add(&rt, alloc, &mut checker, id, 100)?;
+        compare(&rt, &checker, 100);
+        delete(&rt, alloc, &mut checker, &[id])?;
+        compare(&rt, &checker, 0);
+    }
+    // those that stay, and one under an id of the formula
+    let mut live = 0;
+    for id in 1005..1205 {
+        add(&rt, alloc, &mut checker, id, 100)?;
+        live += 100;
+        compare(&rt, &checker, live);
+    }
+    delete(&rt, alloc, &mut checker, &[1])?;
+    add(&rt, alloc, &mut checker, 1, 9000)?;
+    compare(&rt, &checker, 29_000);
+    for (ids, left) in [
+        ([1005, 1006], 28_800),
+        ([1, 1007], 19_700),
+        ([3, 9], 19_700),
+    ] {
+        delete(&rt, alloc, &mut checker, &ids)?;
+        compare(&rt, &checker, left);
+    }
+    Ok(())
+}
