@@ -6,8 +6,8 @@ use Rattle.std.proofs.Math.Seq.{take-append_seam, drop-append_seam}
 use Rattle.std.proofs.lemmas.List.{drop-drop}
 use Rattle.lls_base.specs.Results.{and_then}
 use Rattle.lls_text.specs.Words.{is_blank}
-use Rattle.lls_search_file.specs.declared.error.PosedError.{PosedError}
-use Rattle.lls_search_file.specs.declared.error.PosedError.TheVariants.{BadCell}
+use Rattle.lls_search_file.specs.declared.posed_fault.PosedFault.{PosedFault}
+use Rattle.lls_search_file.specs.declared.posed_fault.PosedFault.TheVariants.{BadCell}
 use Rattle.lls_search_file.specs.Words.{Word, word, pieces_of, before_word, begins_solid, is_solid, is_comma, cells_read, cell_before, word_of}
 
 none_solid : (bytes : List ℕ) → begins_solid bytes ≡ false → prefix_len is_solid bytes ≡ 0
@@ -44,7 +44,7 @@ first_word column (b ∷ rest) e =
     rw (parts.0, parts.1) step
 
 -- what is read from a place on
-abbrev pub read_from : ℕ → Bool → ℕ → List ℕ → Result (List Word) PosedError
+abbrev pub read_from : ℕ → Bool → ℕ → List ℕ → Result (List Word) PosedFault
 read_from line after_comma at bytes = cells_read line after_comma (pieces_of (at + 1) (drop at bytes))
 
 at_place : (at : ℕ) (bytes : List ℕ) → at < length bytes → drop at bytes ≡ get_or bytes at 0 ∷ drop (at + 1) bytes
@@ -74,15 +74,15 @@ read_solid line at after_comma bytes solid =
     ap (cells_read line after_comma) (first_word (at + 1) (drop at bytes) solid) ∙ rw (drop-drop n at bytes, place) refl
 
 -- what was read, put before what is left
-abbrev pub after_front : List Word → Result (List Word) PosedError → Result (List Word) PosedError
+abbrev pub after_front : List Word → Result (List Word) PosedFault → Result (List Word) PosedFault
 after_front front read = and_then read (λ rest. Ok (front ++ rest))
 
-pub after_front-cell_before : (front : List Word) (line column : ℕ) (cell : Word) (read : Result (List Word) PosedError)
+pub after_front-cell_before : (front : List Word) (line column : ℕ) (cell : Word) (read : Result (List Word) PosedFault)
     → after_front front (cell_before line column (Some cell) read) ≡ after_front (front ++ cell ∷ []) read
 after_front-cell_before front line column cell (Ok rest) = ap Ok (sym (append_assoc front (cell ∷ []) rest))
 after_front-cell_before front line column cell (Err fault) = refl
 
-pub after_front-none : (read : Result (List Word) PosedError) → after_front [] read ≡ read
+pub after_front-none : (read : Result (List Word) PosedFault) → after_front [] read ≡ read
 after_front-none (Ok rest) = refl
 after_front-none (Err fault) = refl
 

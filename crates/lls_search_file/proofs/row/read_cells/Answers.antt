@@ -23,7 +23,9 @@ returns-in_default c =
     let end : (at + c.word_len.result) - at ≡ prefix_len is_solid (drop at bytes) = omega (arith, len) in
     let none : word_of (take (prefix_len is_solid (drop at bytes)) (drop at bytes)) ≡ None =
     ap (λ n. word_of (take n (drop at bytes))) (sym end) ∙ (sym c.read_word.ensures ∙ ap (option_map seen_word) c.in_default.is) in
-    λ _. sym c.loop-at.invariant.reads ∙ bad_word (map seen_word c.loop-at.cells.items) c.args.line at c.loop-at.after_comma bytes solid none
+    λ fault is.
+        let bad = sym c.loop-at.invariant.reads ∙ bad_word (map seen_word c.loop-at.cells.items) c.args.line at c.loop-at.after_comma bytes solid none in
+        cc
 
 pub loop-at-preserved : goal.loop-at-preserved
 loop-at-preserved c =
