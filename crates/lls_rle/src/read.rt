@@ -1,4 +1,4 @@
-//! The reading of RLE texts.
+// The reading of RLE texts.
 ghost use Rattle.std.specs.Prelude.{◌≡◌, ◌≤◌, ◌<◌, ◌+◌, ◌^◌, None, Some, length, IfSome, IfNone};
 ghost use Rattle.lls_base.specs.Results.{GivesWrapped};
 ghost use Rattle.lls_rle.specs.Reading.{body_of, rle_of, tokens_of_lines};

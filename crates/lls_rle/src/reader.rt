@@ -1,4 +1,4 @@
-//! The reader of a pattern: where it stands in the grid, and which cells are live so far.
+// The reader of a pattern: where it stands in the grid, and which cells are live so far.
 ghost use Rattle.std.specs.Prelude.{◌≡◌, ◌≤◌, ◌<◌, ◌+◌, ◌*◌, ◌^◌, ◌∷◌, ◌++◌, ◌||◌, [], ℕ, List, length, false, slice_index_or, Err, IfErr, OnOk};
 ghost use Rattle.std.specs.Result.{result_err};
 ghost use Rattle.lls_rle.specs.Items.{Items, before_items};
@@ -53,7 +53,7 @@ impl Reader {
         Err(RleFault::NoEnd)
     }
 
-    /// Takes one more line, and answers whether the pattern ended.
+    // Takes one more line, and answers whether the pattern ended.
     fn take_line(&mut self, number: u64, line: &[u8]) -> Result<bool, RleFault>
         requires kept { IsReader self.old }
         requires line { length line.now < 2 ^ 62 }
@@ -70,7 +70,7 @@ impl Reader {
         self.take_tokens(number, line)
     }
 
-    /// Takes the tokens of a line.
+    // Takes the tokens of a line.
     fn take_tokens(&mut self, number: u64, line: &[u8]) -> Result<bool, RleFault>
         requires kept { IsReader self.old }
         requires line { length line.now < 2 ^ 62 }
@@ -90,7 +90,7 @@ impl Reader {
         Ok(false)
     }
 
-    /// Takes one more token, and answers whether the pattern ended.
+    // Takes one more token, and answers whether the pattern ended.
     fn take(&mut self, token: Token) -> Result<bool, RleFault>
         requires kept { IsReader self.old }
         requires token { token.column + length token.text.now < 2 ^ 64 }
@@ -118,7 +118,7 @@ impl Reader {
         }
     }
 
-    /// Takes a run of so many.
+    // Takes a run of so many.
     fn take_run(&mut self, tag: Tag, count: u32) -> Result<(), RleFault>
         requires kept { IsReader self.old }
         requires count { count ≤ MOST_COUNT }
@@ -146,7 +146,7 @@ impl Reader {
         Ok(())
     }
 
-    /// Makes so many cells live.
+    // Makes so many cells live.
     fn paint(&mut self, count: u64) -> Result<(), RleFault>
         requires kept { IsReader self.old }
         requires count { count ≤ MOST_COUNT }

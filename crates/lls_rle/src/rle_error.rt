@@ -1,4 +1,4 @@
-//! Why a pattern wasn't read.
+// Why a pattern wasn't read.
 use crate::RleFault;
 use std::alloc::AllocError;
 use std::error::Error;

@@ -1,4 +1,4 @@
-//! Why a text is no pattern of a grid.
+// Why a text is no pattern of a grid.
 use std::error::Error;
 use std::fmt;
 

@@ -9,7 +9,7 @@ use Rattle.lls_text.specs.Lines.{is_blank_line}
 use Rattle.lls_text.specs.Words.{is_blank}
 use Rattle.lls_search_file.specs.declared.posed_fault.PosedFault.{PosedFault}
 use Rattle.lls_search_file.specs.Posed.{is_name, same_text}
-use Rattle.lls_search_file.specs.Words.{minus_byte, Said, dead, live, free, named, negated, Word, Piece, word, comma, said_of, name_said_of, negated_name, word_of, has_mark, marked, pieces_of, before_word, begins_solid, is_comma, cells_read, cell_before, row_of, ascii_or}
+use Rattle.lls_search_file.specs.Words.{minus_byte, Said, dead, live, free, named, negated, Word, Piece, word, comma, said_of, name_said_of, negated_name, word_of, has_mark, marked, pieces_of, before_word, begins_in_word, is_comma, cells_read, cell_before, row_of, ascii_or}
 use Rattle.lls_search_file.specs.Kept.{is_spelled, is_said_spelled}
 
 spelled_said : Option Said → Bool
@@ -89,12 +89,12 @@ cells_read-some line column [] e = cc
 cells_read-some line column (b ∷ bytes) e =
     let rest = pieces_of (column + 1) bytes in
     (elim (is_blank b) as (λ v. (v && list_all is_blank bytes) ≡ false
-    → some_read (cells_read line true (cond v rest (cond (is_comma b) (comma column ∷ rest) (cond (begins_solid bytes) (before_word column b rest) (word column (b ∷ []) ∷ rest))))) ≡ true) [
+    → some_read (cells_read line true (cond v rest (cond (is_comma b) (comma column ∷ rest) (cond (begins_in_word bytes) (before_word column b rest) (word column (b ∷ []) ∷ rest))))) ≡ true) [
       | true ↦ λ e. cells_read-some line (column + 1) bytes e
       | false ↦ λ e.
-          elim (is_comma b) as (λ v. some_read (cells_read line true (cond v (comma column ∷ rest) (cond (begins_solid bytes) (before_word column b rest) (word column (b ∷ []) ∷ rest)))) ≡ true) [
+          elim (is_comma b) as (λ v. some_read (cells_read line true (cond v (comma column ∷ rest) (cond (begins_in_word bytes) (before_word column b rest) (word column (b ∷ []) ∷ rest)))) ≡ true) [
             | true ↦ refl
-            | false ↦ elim (begins_solid bytes) as (λ v. some_read (cells_read line true (cond v (before_word column b rest) (word column (b ∷ []) ∷ rest))) ≡ true) [
+            | false ↦ elim (begins_in_word bytes) as (λ v. some_read (cells_read line true (cond v (before_word column b rest) (word column (b ∷ []) ∷ rest))) ≡ true) [
               | true ↦ before_word-some line column b rest
               | false ↦ cell_before-some line column (word_of (b ∷ [])) (cells_read line false rest)
             ]

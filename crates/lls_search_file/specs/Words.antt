@@ -70,12 +70,12 @@ abbrev pub is_comma : ℕ → Bool
 is_comma b = b == comma_byte
 
 -- a byte that belongs to a word
-abbrev pub is_solid : ℕ → Bool
-is_solid b = not (is_blank b || is_comma b)
+abbrev pub is_of_word : ℕ → Bool
+is_of_word b = not (is_blank b || is_comma b)
 
-abbrev pub begins_solid : List ℕ → Bool
-begins_solid [] = false
-begins_solid (b ∷ bs) = is_solid b
+abbrev pub begins_in_word : List ℕ → Bool
+begins_in_word [] = false
+begins_in_word (b ∷ bs) = is_of_word b
 
 -- a byte of a word before the pieces behind it: it begins a word of its own, unless a word follows at once
 abbrev pub before_word : ℕ → ℕ → List Piece → List Piece
@@ -92,7 +92,7 @@ before_pieces column b joined pieces =
 -- the pieces of a row whose first byte has a column
 abbrev pub pieces_of : ℕ → List ℕ → List Piece
 pieces_of column [] = []
-pieces_of column (b ∷ bs) = before_pieces column b (begins_solid bs) (pieces_of (column + 1) bs)
+pieces_of column (b ∷ bs) = before_pieces column b (begins_in_word bs) (pieces_of (column + 1) bs)
 
 -- a cell before the cells behind it
 abbrev pub cell_before : ℕ → ℕ → Option Word → Result (List Word) PosedFault → Result (List Word) PosedFault

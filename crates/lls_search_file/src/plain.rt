@@ -21,7 +21,7 @@ pub fn read_history(alloc: Global, bytes: &[u8]) -> Result<History, HistoryError
     history_of(alloc, &posed)
 }
 
-/// The history of a file whose cells are all plain.
+// The history of a file whose cells are all plain.
 fn history_of(alloc: Global, posed: &Posed) -> Result<History, HistoryError>
     ensures { GivesWrapped HistoryError.Fault (λ history. history) result (plain_file posed.now) }
 {
@@ -35,7 +35,7 @@ fn history_of(alloc: Global, posed: &Posed) -> Result<History, HistoryError>
     }
 }
 
-/// The place of a cell in the order of cells, told as what refuses it.
+// The place of a cell in the order of cells, told as what refuses it.
 fn not_plain(posed: &Posed, index: u64) -> HistoryFault
     ensures { result ≡ not_plain posed.now index }
 {
@@ -47,28 +47,28 @@ fn not_plain(posed: &Posed, index: u64) -> HistoryFault
     )
 }
 
-/// Where the first cell stands that has a mark, or is neither dead nor live.
+// Where the first cell stands that has a mark, or is neither dead nor live.
 fn first_not_plain(cells: &[Cell]) -> Option<usize>
     ensures { result ≡ position (λ cell. not (is_plain cell)) cells.now }
 {
     cells.iter().position(|cell| !is_plain(*cell))
 }
 
-/// Which cells are live.
+// Which cells are live.
 fn lives(alloc: Global, cells: &[Cell]) -> Result<Vec<bool>, AllocError>
     ensures { IfOk result (λ live. live.items ≡ map (λ cell. is_live cell.kind) cells.now) }
 {
     cells.iter().map(|cell| is_live(cell.kind)).collect(alloc)
 }
 
-/// Whether a cell has no mark and is dead or live.
+// Whether a cell has no mark and is dead or live.
 fn is_plain(cell: Cell) -> bool
     ensures { result ≡ is_plain cell }
 {
     !cell.mark && matches!(cell.kind, Kind::Dead | Kind::Live)
 }
 
-/// Whether a cell is live.
+// Whether a cell is live.
 fn is_live(kind: Kind) -> bool
     ensures { result ≡ is_live kind }
 {

@@ -34,7 +34,7 @@ pub fn read_posed(alloc: Global, bytes: &[u8]) -> Result<Posed, PosedError>
     reader.finish(alloc)
 }
 
-/// What the lines so far have given.
+// What the lines so far have given.
 #[derive(Drop)]
 struct Reader<'t> {
     shape: Shape,
@@ -43,7 +43,7 @@ struct Reader<'t> {
 }
 
 impl<'t> Reader<'t> {
-    /// Reads one more line.
+    // Reads one more line.
     fn take_line(&mut self, alloc: Global, number: u64, line: &'t [u8]) -> Result<(), PosedError>
         requires kept { IsReader self.old }
         ensures counts { GivesWrapped PosedError.Fault (λ _. counts_of self.new) result (line_taken number line.entry.now (counts_of self.old)) }
@@ -60,7 +60,7 @@ impl<'t> Reader<'t> {
         self.take_row(number, &words)
     }
 
-    /// Takes the cells of one more row.
+    // Takes the cells of one more row.
     fn take_row(&mut self, number: u64, words: &[Word<'t>]) -> Result<(), PosedError>
         requires kept { IsReader self.old }
         requires some { 1 ≤ length words.now }
@@ -74,7 +74,7 @@ impl<'t> Reader<'t> {
         Ok(())
     }
 
-    /// The file, where the text ends here.
+    // The file, where the text ends here.
     fn finish(self, alloc: Global) -> Result<Posed, PosedError>
         requires kept { IsReader self }
         ensures { GivesWrapped PosedError.Fault (λ posed. posed) result (at_end (counts_of self.entry)) }

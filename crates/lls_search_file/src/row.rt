@@ -20,7 +20,7 @@ pub(crate) fn read_row(alloc: Global, line: u64, bytes: &[u8]) -> Result<Vec<Wor
     }
 }
 
-/// Where the first byte stands that isn't ASCII.
+// Where the first byte stands that isn't ASCII.
 fn first_beyond_ascii(bytes: &[u8]) -> Option<usize>
     ensures place { result ≡ position (λ b. not (is_ascii b)) bytes.now }
     ensures within { IfSome result (λ index. index < 2 ^ 63) }
@@ -28,7 +28,7 @@ fn first_beyond_ascii(bytes: &[u8]) -> Option<usize>
     bytes.iter().position(|byte| !byte.is_ascii())
 }
 
-/// The cells of a row of ASCII bytes.
+// The cells of a row of ASCII bytes.
 fn read_cells(alloc: Global, line: u64, bytes: &[u8]) -> Result<Vec<Word<'_>>, PosedError>
     ensures { GivesWrapped PosedError.Fault (λ cells. map seen_word cells.items) result (cells_read line true (pieces_of 1 bytes.now)) }
 {

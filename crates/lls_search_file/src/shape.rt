@@ -65,7 +65,7 @@ impl Shape {
         })
     }
 
-    /// Why a row of that many cells doesn't go with the first.
+    // Why a row of that many cells doesn't go with the first.
     fn ragged(self, line: u64, found: u32) -> Option<PosedFault>
         ensures { result ≡ ragged line found self.width }
     {
@@ -77,7 +77,7 @@ impl Shape {
         }
     }
 
-    /// Why the generation that goes on has no room for a row.
+    // Why the generation that goes on has no room for a row.
     fn too_high(self) -> Option<PosedFault>
         ensures { result ≡ too_high self.rows self.ended self.height }
     {
@@ -115,7 +115,7 @@ impl Shape {
         })
     }
 
-    /// Why the generation that goes on can't end.
+    // Why the generation that goes on can't end.
     fn too_low(self) -> Option<PosedFault>
         ensures { result ≡ too_low self.rows self.ended self.height }
     {
