@@ -3,12 +3,10 @@ use Rattle.std.proofs.Common.{◌≡◌, ◌≤◌, ℕ, Option, None, Some, Res
 use Rattle.std.specs.Prelude.{IsErr}
 use Rattle.lls_base.specs.Faults.{Rose}
 use Rattle.lls_base.specs.Shelf.{Files}
-use Rattle.lls_search_file.specs.declared.error.PosedError.{PosedError}
-use Rattle.lls_search_file.specs.declared.error.PosedError.TheVariants as posed
-use Rattle.lls_cnf.specs.declared.dimacs_error.DimacsError.{DimacsError}
-use Rattle.lls_cnf.specs.declared.dimacs_error.DimacsError.TheVariants as dimacs
-use Rattle.lls_rle.specs.declared.rle_error.RleError.{RleError}
-use Rattle.lls_rle.specs.declared.rle_error.RleError.TheVariants as pictures
+use Rattle.lls_search_file.specs.declared.posed_fault.PosedFault.{PosedFault}
+use Rattle.lls_search_file.specs.declared.posed_fault.PosedFault.TheVariants as posed
+use Rattle.lls_cnf.specs.declared.dimacs_fault.DimacsFault.{DimacsFault}
+use Rattle.lls_cnf.specs.declared.dimacs_fault.DimacsFault.TheVariants as dimacs
 use Rattle.lls_problem.specs.declared.demands.DemandError.{DemandError}
 use Rattle.lls_problem.specs.declared.demands.DemandError.TheVariants as demands
 use Rattle.lls_words.specs.declared.error.WordsError.{WordsError}
@@ -19,7 +17,7 @@ use Rattle.lls_cli.specs.declared.fault.Fault.TheVariants as faults
 use Rattle.lls_cli.specs.declared.fault.OutsideFault.TheVariants as outside
 use Rattle.lls_cli.specs.declared.status.Status.{Status}
 use Rattle.lls_cli.specs.declared.status.Status.TheVariants as statuses
-use Rattle.lls_cli.specs.Fault.{status_of, words_status, posed_status, demand_status, dimacs_status, rle_status}
+use Rattle.lls_cli.specs.Fault.{status_of, words_status, posed_status, demand_status, dimacs_status}
 use Rattle.lls_cli.specs.Evidence.{NamedFile}
 use Rattle.lls_cli.specs.Answer.{GivenAnswer, IsAnswer, Holds, YesHolds, NoHolds, SomeHolds, NoneHolds, HasShortBudget}
 use Rattle.lls_cli.specs.Question.{Question, Asking, of_none, of_one, of_two, asking_of, question_by, question_of, AsksBy, Asks, input_of}
@@ -58,12 +56,10 @@ words_status-cases (words.SameName place) = inl refl
 -- the status of a fault of a search file, of demands or of a formula's file
 abbrev IsPosedStatus : Status → Type 0
 IsPosedStatus statuses.Content = Unit {0}
-IsPosedStatus statuses.Memory = Unit {0}
 IsPosedStatus statuses.Limit = Unit {0}
 IsPosedStatus status = ⊥
 
-posed_status-is : (error : PosedError) → IsPosedStatus (posed_status error)
-posed_status-is posed.Memory = tt
+posed_status-is : (fault : PosedFault) → IsPosedStatus (posed_status fault)
 posed_status-is posed.Empty = tt
 posed_status-is (posed.BadCell line column) = tt
 posed_status-is (posed.Ragged line expected found) = tt
@@ -81,8 +77,7 @@ demand_status-is (demands.BoundsCross t) = tt
 demand_status-is (demands.PeriodTooLong length) = tt
 demand_status-is (demands.Counters n) = tt
 
-dimacs_status-is : (error : DimacsError) → IsPosedStatus (dimacs_status error)
-dimacs_status-is dimacs.Memory = tt
+dimacs_status-is : (fault : DimacsFault) → IsPosedStatus (dimacs_status fault)
 dimacs_status-is dimacs.NoHeader = tt
 dimacs_status-is (dimacs.BadHeader line) = tt
 dimacs_status-is (dimacs.BadWord line) = tt
@@ -92,17 +87,9 @@ dimacs_status-is (dimacs.ClauseCount expected found) = tt
 dimacs_status-is (dimacs.TooManyVariables n) = tt
 dimacs_status-is (dimacs.Percent line) = tt
 
-rle_status-is : (error : RleError) → IsPosedStatus (rle_status error)
-rle_status-is pictures.Memory = tt
-rle_status-is pictures.NoHeader = tt
-rle_status-is (pictures.BadTag line column) = tt
-rle_status-is (pictures.TooWide row) = tt
-rle_status-is (pictures.TooHigh row) = tt
-rle_status-is pictures.NoEnd = tt
-
 posed_fault : (status : Status) → IsPosedStatus status → IsFaultStatus status
 posed_fault statuses.Content is = tt
-posed_fault statuses.Memory is = tt
+posed_fault statuses.Memory is = absurd is
 posed_fault statuses.Limit is = tt
 posed_fault statuses.Done is = absurd is
 posed_fault statuses.Refused is = absurd is
@@ -114,11 +101,11 @@ posed_fault statuses.Undecided is = absurd is
 
 status_of-is : (fault : Fault) → IsFaultStatus (status_of fault)
 status_of-is (faults.Words error) = words_status-is error
-status_of-is (faults.Posed error) = posed_fault (posed_status error) (posed_status-is error)
+status_of-is (faults.Posed fault) = posed_fault (posed_status fault) (posed_status-is fault)
 status_of-is (faults.Demands error) = posed_fault (demand_status error) (demand_status-is error)
-status_of-is (faults.Dimacs error) = posed_fault (dimacs_status error) (dimacs_status-is error)
+status_of-is (faults.Dimacs fault) = posed_fault (dimacs_status fault) (dimacs_status-is fault)
 status_of-is (faults.NotPlain t y x) = tt
-status_of-is (faults.Rle error) = posed_fault (rle_status error) (rle_status-is error)
+status_of-is (faults.Rle fault) = tt
 status_of-is (faults.Outside fault) = tt
 status_of-is (faults.TooLong limit) = tt
 status_of-is faults.Memory = tt
@@ -144,7 +131,7 @@ decided_words (faults.Posed error) decided is = subst IsPosedStatus is (posed_st
 decided_words (faults.Demands error) decided is = subst IsPosedStatus is (demand_status-is error)
 decided_words (faults.Dimacs error) decided is = subst IsPosedStatus is (dimacs_status-is error)
 decided_words (faults.NotPlain t y x) decided is = cc
-decided_words (faults.Rle error) decided is = subst IsPosedStatus is (rle_status-is error)
+decided_words (faults.Rle fault) decided is = cc
 decided_words (faults.Outside fault) decided is = cc
 decided_words (faults.TooLong limit) decided is = cc
 
@@ -156,7 +143,7 @@ decided_outside (faults.Posed error) decided is = absurd (subst IsPosedStatus is
 decided_outside (faults.Demands error) decided is = absurd (subst IsPosedStatus is (demand_status-is error))
 decided_outside (faults.Dimacs error) decided is = absurd (subst IsPosedStatus is (dimacs_status-is error))
 decided_outside (faults.NotPlain t y x) decided is = absurd cc
-decided_outside (faults.Rle error) decided is = absurd (subst IsPosedStatus is (rle_status-is error))
+decided_outside (faults.Rle fault) decided is = absurd cc
 decided_outside (faults.TooLong limit) decided is = absurd cc
 decided_outside (faults.Outside outside.NoFile) decided is = refl
 decided_outside (faults.Outside outside.OpenFailed) decided is = absurd decided

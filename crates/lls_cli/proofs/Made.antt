@@ -3,7 +3,7 @@ use Rattle.std.proofs.Common.{◌≡◌, ◌≢◌, ℕ, Bool, List, Option, Non
 use Rattle.lls_base.specs.Results.{and_then, Gives}
 use Rattle.lls_base.specs.Faults.{Counts}
 use Rattle.lls_base.specs.Shelf.{Files}
-use Rattle.lls_search_file.specs.declared.error.PosedError.{PosedError}
+use Rattle.lls_search_file.specs.declared.posed_fault.PosedFault.{PosedFault}
 use Rattle.lls_search_file.specs.Posed.{PosedFile}
 use Rattle.lls_search_file.specs.Reading.{posed_of}
 use Rattle.lls_problem.specs.declared.demands.Demands.{Demands}
@@ -26,7 +26,7 @@ demanded_fault : (made : Result PosedProblem DemandError) (fault : Fault) → de
 demanded_fault (Ok problem) fault is = absurd cc
 demanded_fault (Err error) fault is = let same : faults.Demands error ≡ fault = cc in subst IsOfProblem same tt
 
-posed_fault : (posed : Result PosedFile PosedError) (make : PosedFile → Result PosedProblem DemandError) (fault : Fault)
+posed_fault : (posed : Result PosedFile PosedFault) (make : PosedFile → Result PosedProblem DemandError) (fault : Fault)
     → and_then (posed_in posed) (λ file. demanded (make file)) ≡ Err fault → IsOfProblem fault
 posed_fault (Ok file) make fault is = demanded_fault (make file) fault is
 posed_fault (Err error) make fault is = let same : faults.Posed error ≡ fault = cc in subst IsOfProblem same tt

@@ -5,15 +5,15 @@ use Rattle.std.specs.FinMap as map
 use Rattle.lls_base.specs.Results.{and_then}
 use Rattle.lls_base.specs.Shelf.{Files}
 use Rattle.lls_lit.specs.Formula.{Cnf}
-use Rattle.lls_cnf.specs.declared.dimacs_error.DimacsError.{DimacsError}
+use Rattle.lls_cnf.specs.declared.dimacs_fault.DimacsFault.{DimacsFault}
 use Rattle.lls_cnf.specs.Dimacs.{dimacs}
 use Rattle.lls_grid.specs.History.{History}
 use Rattle.lls_grid.specs.Evolution.{evolution}
-use Rattle.lls_rle.specs.declared.rle_error.RleError.{RleError}
+use Rattle.lls_rle.specs.declared.rle_fault.RleFault.{RleFault}
 use Rattle.lls_rle.specs.Reading.{rle_of}
-use Rattle.lls_search_file.specs.declared.error.PosedError.{PosedError}
-use Rattle.lls_search_file.specs.declared.plain.HistoryError.{HistoryError}
-use Rattle.lls_search_file.specs.declared.plain.HistoryError.TheVariants as plain
+use Rattle.lls_search_file.specs.declared.posed_fault.PosedFault.{PosedFault}
+use Rattle.lls_search_file.specs.declared.history_fault.HistoryFault.{HistoryFault}
+use Rattle.lls_search_file.specs.declared.history_fault.HistoryFault.TheVariants as plain
 use Rattle.lls_search_file.specs.Posed.{PosedFile}
 use Rattle.lls_search_file.specs.Reading.{posed_of}
 use Rattle.lls_search_file.specs.Plain.{plain_of}
@@ -77,9 +77,9 @@ abbrev pub input_of : Files → List ℕ → ℕ → Result (List ℕ) Fault
 input_of files name limit = input_from limit (map.get files name)
 
 -- the file that is posed
-abbrev pub posed_in : Result PosedFile PosedError → Result PosedFile Fault
+abbrev pub posed_in : Result PosedFile PosedFault → Result PosedFile Fault
 posed_in (Ok posed) = Ok posed
-posed_in (Err error) = Err (faults.Posed error)
+posed_in (Err fault) = Err (faults.Posed fault)
 
 -- the problem that the demands make of it
 abbrev pub demanded : Result PosedProblem DemandError → Result PosedProblem Fault
@@ -91,19 +91,18 @@ abbrev pub problem_in : List Bool → Demands → List ℕ → Result PosedProbl
 problem_in rule demands bytes = and_then (posed_in (posed_of bytes)) (λ posed. demanded (problem_made posed rule demands))
 
 -- the history of a pattern's bytes
-abbrev pub plain_in : Result History HistoryError → Result History Fault
+abbrev pub plain_in : Result History HistoryFault → Result History Fault
 plain_in (Ok history) = Ok history
-plain_in (Err (plain.Text error)) = Err (faults.Posed error)
+plain_in (Err (plain.Text fault)) = Err (faults.Posed fault)
 plain_in (Err (plain.NotPlain t y x)) = Err (faults.NotPlain t y x)
-plain_in (Err plain.Memory) = Err faults.Memory
 
 abbrev pub history_in : List ℕ → Result History Fault
 history_in bytes = plain_in (plain_of bytes)
 
 -- the first generation that a picture says
-abbrev pub picture_read : Result History RleError → Result History Fault
+abbrev pub picture_read : Result History RleFault → Result History Fault
 picture_read (Ok first) = Ok first
-picture_read (Err error) = Err (faults.Rle error)
+picture_read (Err fault) = Err (faults.Rle fault)
 
 -- the history of a problem's sizes that a picture begins, and that goes on by the problem's rule
 abbrev pub pictured_in : PosedProblem → List ℕ → Result History Fault
@@ -116,9 +115,9 @@ pattern_in true problem bytes = pictured_in problem bytes
 pattern_in false problem bytes = history_in bytes
 
 -- the formula that the bytes of a formula's file write
-abbrev pub formula_read : Result Cnf DimacsError → Result Cnf Fault
+abbrev pub formula_read : Result Cnf DimacsFault → Result Cnf Fault
 formula_read (Ok formula) = Ok formula
-formula_read (Err error) = Err (faults.Dimacs error)
+formula_read (Err fault) = Err (faults.Dimacs fault)
 
 abbrev pub formula_in : List ℕ → Result Cnf Fault
 formula_in bytes = formula_read (dimacs bytes)

@@ -4,10 +4,10 @@ ghost use Rattle.lls_cli.specs.Fault.{status_of, fault_line};
 
 use crate::status::Status;
 use lls_base::Memory;
-use lls_cnf::DimacsError;
+use lls_cnf::DimacsFault;
 use lls_problem::DemandError;
-use lls_rle::RleError;
-use lls_search_file::PosedError;
+use lls_rle::RleFault;
+use lls_search_file::PosedFault;
 use lls_words::WordsError;
 use std::alloc::{AllocError, AllocFailed, Global};
 use std::error::Error;
@@ -73,16 +73,16 @@ pub enum Fault {
     /// The words are no command line.
     Words(WordsError),
     /// The search file isn't in its grammar, or is too large.
-    Posed(PosedError),
+    Posed(PosedFault),
     /// The demands don't fit the search file, or need too many counters.
     Demands(DemandError),
     /// The file of a formula isn't in its grammar, or declares too many variables.
-    Dimacs(DimacsError),
+    Dimacs(DimacsFault),
     /// The cell of this generation, row and column of the pattern is the first that is marked, or neither
     /// dead nor live.
     NotPlain(u64, u64, u64),
     /// The picture isn't in its grammar, or doesn't fit the grid.
-    Rle(RleError),
+    Rle(RleFault),
     Outside(OutsideFault),
     /// An input has more bytes than this limit.
     TooLong(u64),
@@ -99,11 +99,11 @@ impl fmt::Display for Fault {
     fn fmt<W: fmt::Write>(&self, f: &mut fmt::Formatter<W>) -> fmt::Result {
         match self {
             Fault::Words(error) => write!(f, "words: {error}"),
-            Fault::Posed(error) => {
-                if error.is_limit() {
-                    write!(f, "limit: {error}")
+            Fault::Posed(fault) => {
+                if fault.is_limit() {
+                    write!(f, "limit: {fault}")
                 } else {
-                    write!(f, "content: {error}")
+                    write!(f, "content: {fault}")
                 }
             }
             Fault::Demands(error) => {
@@ -113,15 +113,15 @@ impl fmt::Display for Fault {
                     write!(f, "content: {error}")
                 }
             }
-            Fault::Dimacs(error) => {
-                if let DimacsError::TooManyVariables(_) = error {
-                    write!(f, "limit: {error}")
+            Fault::Dimacs(fault) => {
+                if let DimacsFault::TooManyVariables(_) = fault {
+                    write!(f, "limit: {fault}")
                 } else {
-                    write!(f, "content: {error}")
+                    write!(f, "content: {fault}")
                 }
             }
             Fault::NotPlain(t, y, x) => write!(f, "content: NotPlain {t} {y} {x}"),
-            Fault::Rle(error) => write!(f, "content: {error}"),
+            Fault::Rle(fault) => write!(f, "content: {fault}"),
             Fault::Outside(fault) => write!(f, "outside: {fault}"),
             Fault::TooLong(limit) => write!(f, "limit: TooLong {limit}"),
             Fault::Memory => write!(f, "memory"),
@@ -138,9 +138,8 @@ impl Fault {
         match self {
             Fault::Words(WordsError::Memory) => Status::Memory,
             Fault::Words(_) => Status::Words,
-            Fault::Posed(PosedError::Memory) => Status::Memory,
-            Fault::Posed(error) => {
-                if error.is_limit() {
+            Fault::Posed(fault) => {
+                if fault.is_limit() {
                     Status::Limit
                 } else {
                     Status::Content
@@ -148,11 +147,9 @@ impl Fault {
             }
             Fault::Demands(DemandError::Counters(_)) => Status::Limit,
             Fault::Demands(_) => Status::Content,
-            Fault::Dimacs(DimacsError::Memory) => Status::Memory,
-            Fault::Dimacs(DimacsError::TooManyVariables(_)) => Status::Limit,
+            Fault::Dimacs(DimacsFault::TooManyVariables(_)) => Status::Limit,
             Fault::Dimacs(_) => Status::Content,
             Fault::NotPlain(_, _, _) => Status::Content,
-            Fault::Rle(RleError::Memory) => Status::Memory,
             Fault::Rle(_) => Status::Content,
             Fault::Outside(_) => Status::Outside,
             Fault::TooLong(_) => Status::Limit,

@@ -14,7 +14,7 @@ use lls_grid::History;
 use lls_problem::{Demands, Problem, make_problem};
 use lls_rle::{RleError, read_rle};
 use lls_rule::Rule;
-use lls_search_file::{HistoryError, Posed, PosedError, read_history, read_posed};
+use lls_search_file::{HistoryError, HistoryFault, Posed, PosedError, read_history, read_posed};
 use std::alloc::Global;
 
 /// The longest search file, and the longest pattern file, in bytes.
@@ -61,8 +61,8 @@ fn posed_input(alloc: Global, bytes: &[u8]) -> Result<Posed, Fault>
 {
     match read_posed(alloc, bytes) {
         Ok(posed) => Ok(posed),
+        Err(PosedError::Fault(fault)) => Err(Fault::Posed(fault)),
         Err(PosedError::Memory) => Err(Fault::Memory),
-        Err(error) => Err(Fault::Posed(error)),
     }
 }
 
@@ -107,8 +107,8 @@ fn formula_input(alloc: Global, bytes: &[u8]) -> Result<Formula, Fault>
 {
     match read_dimacs(alloc, bytes) {
         Ok(formula) => Ok(formula),
+        Err(DimacsError::Fault(fault)) => Err(Fault::Dimacs(fault)),
         Err(DimacsError::Memory) => Err(Fault::Memory),
-        Err(error) => Err(Fault::Dimacs(error)),
     }
 }
 
@@ -133,9 +133,9 @@ fn history_input(alloc: Global, bytes: &[u8]) -> Result<History, Fault>
 {
     match read_history(alloc, bytes) {
         Ok(history) => Ok(history),
-        Err(HistoryError::Text(PosedError::Memory) | HistoryError::Memory) => Err(Fault::Memory),
-        Err(HistoryError::Text(error)) => Err(Fault::Posed(error)),
-        Err(HistoryError::NotPlain(t, y, x)) => Err(Fault::NotPlain(t, y, x)),
+        Err(HistoryError::Fault(HistoryFault::Text(fault))) => Err(Fault::Posed(fault)),
+        Err(HistoryError::Fault(HistoryFault::NotPlain(t, y, x))) => Err(Fault::NotPlain(t, y, x)),
+        Err(HistoryError::Memory) => Err(Fault::Memory),
     }
 }
 
@@ -147,8 +147,8 @@ fn picture_input(alloc: Global, bytes: &[u8], problem: &Problem) -> Result<Histo
     let posed = problem.posed();
     let first = match read_rle(alloc, bytes, posed.height, posed.width) {
         Ok(first) => first,
+        Err(RleError::Fault(fault)) => return Err(Fault::Rle(fault)),
         Err(RleError::Memory) => return Err(Fault::Memory),
-        Err(error) => return Err(Fault::Rle(error)),
     };
     Ok(History::evolve(alloc, problem.rule(), &first, posed.generations)?)
 }

@@ -5,7 +5,7 @@ use Rattle.std.specs.List.{list_all, flat_map, onto_first}
 use Rattle.std.proofs.lemmas.Bool.{and_parts}
 use Rattle.std.proofs.lemmas.List.{append-nil, nil_from_length}
 use Rattle.lls_lit.specs.Formula.{Clause, is_literal_of, is_within}
-use Rattle.lls_cnf.specs.declared.dimacs_error.DimacsError.TheVariants.{Unended}
+use Rattle.lls_cnf.specs.declared.dimacs_fault.DimacsFault.TheVariants.{Unended}
 use Rattle.lls_cnf.specs.Dimacs.{Numbered, is_zero, is_ended, cut_at_zeros, ended_clauses, first_fault, numbers_of, clauses_in}
 use Rattle.lls_cnf.specs.Reading.{written}
 

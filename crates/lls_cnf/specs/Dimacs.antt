@@ -8,8 +8,8 @@ use Rattle.lls_text.specs.Words.{words_of}
 use Rattle.lls_lit.specs.Literal.{variable_of}
 use Rattle.lls_lit.specs.Formula.{Clause, Cnf}
 use Rattle.lls_lit.specs.declared.var.TheConstants.Var.{MOST}
-use Rattle.lls_cnf.specs.declared.dimacs_error.DimacsError.{DimacsError}
-use Rattle.lls_cnf.specs.declared.dimacs_error.DimacsError.TheVariants.{NoHeader, BadHeader, BadWord, LiteralRange, Unended, ClauseCount, TooManyVariables, Percent}
+use Rattle.lls_cnf.specs.declared.dimacs_fault.DimacsFault.{DimacsFault}
+use Rattle.lls_cnf.specs.declared.dimacs_fault.DimacsFault.TheVariants.{NoHeader, BadHeader, BadWord, LiteralRange, Unended, ClauseCount, TooManyVariables, Percent}
 use Rattle.lls_cnf.specs.declared.header.Header.{Header}
 use Rattle.lls_cnf.specs.Number.{natural_number, whole_number}
 
@@ -53,31 +53,31 @@ declared (cnf ∷ vars ∷ clauses ∷ []) =
     if bytes_eq cnf (codes "cnf") then both_numbers (natural_number vars) (natural_number clauses) else None
 declared words = None
 
-abbrev pub fitting : ℕ → Option Header → Result Header DimacsError
+abbrev pub fitting : ℕ → Option Header → Result Header DimacsFault
 fitting line None = Err (BadHeader line)
 fitting line (Some header) = if nat_le header.vars MOST then Ok header else Err (TooManyVariables header.vars)
 
-abbrev pub header_of_texts : ℕ → List (List ℕ) → Result Header DimacsError
+abbrev pub header_of_texts : ℕ → List (List ℕ) → Result Header DimacsFault
 header_of_texts line [] = Err NoHeader
 header_of_texts line (word ∷ words) = if bytes_eq word (codes "p") then fitting line (declared words) else Err NoHeader
 
-abbrev pub header_of : Numbered → Result Header DimacsError
+abbrev pub header_of : Numbered → Result Header DimacsFault
 header_of line = header_of_texts line.0 (texts_of line.1)
 
 abbrev pub begins_percent : List ℕ → Bool
 begins_percent [] = false
 begins_percent (b ∷ bs) = b == percent
 
-abbrev pub number_fault : ℕ → ℕ → Option ℤ → Option DimacsError
+abbrev pub number_fault : ℕ → ℕ → Option ℤ → Option DimacsFault
 number_fault vars line None = Some (BadWord line)
 number_fault vars line (Some number) = if nat_le (variable_of number) vars then None else Some (LiteralRange line number)
 
 -- what is wrong with a word behind the header
-abbrev pub word_fault : ℕ → Numbered → Option DimacsError
+abbrev pub word_fault : ℕ → Numbered → Option DimacsFault
 word_fault vars word = if begins_percent word.1 then Some (Percent word.0) else number_fault vars word.0 (whole_number word.1)
 
 -- what is wrong with the first word with a fault
-abbrev pub first_fault : ℕ → List Numbered → Option DimacsError
+abbrev pub first_fault : ℕ → List Numbered → Option DimacsFault
 first_fault vars words = slice_get (filter_map (word_fault vars) words) 0
 
 abbrev pub numbers_of : List Numbered → List ℤ
@@ -99,28 +99,28 @@ abbrev pub cut_at_zeros : List ℤ → List Clause
 cut_at_zeros [] = []
 cut_at_zeros (number ∷ numbers) = if is_zero number then [] ∷ cut_at_zeros numbers else onto_first number (cut_at_zeros numbers)
 
-abbrev pub ended_clauses : List ℤ → Result (List Clause) DimacsError
+abbrev pub ended_clauses : List ℤ → Result (List Clause) DimacsFault
 ended_clauses numbers = if is_ended numbers then Ok (cut_at_zeros numbers) else Err Unended
 
-abbrev pub unless_fault : Option DimacsError → Result (List Clause) DimacsError → Result (List Clause) DimacsError
+abbrev pub unless_fault : Option DimacsFault → Result (List Clause) DimacsFault → Result (List Clause) DimacsFault
 unless_fault (Some fault) clauses = Err fault
 unless_fault None clauses = clauses
 
 -- the clauses that the words behind the header write
-abbrev pub clauses_in : ℕ → List Numbered → Result (List Clause) DimacsError
+abbrev pub clauses_in : ℕ → List Numbered → Result (List Clause) DimacsFault
 clauses_in vars words = unless_fault (first_fault vars words) (ended_clauses (numbers_of words))
 
-abbrev pub as_declared : Header → List Clause → Result Cnf DimacsError
+abbrev pub as_declared : Header → List Clause → Result Cnf DimacsFault
 as_declared header clauses =
     if length clauses == header.clauses
     then Ok (record { vars = header.vars; clauses = clauses })
     else Err (ClauseCount header.clauses (length clauses))
 
-abbrev pub formula_of_lines : List Numbered → Result Cnf DimacsError
+abbrev pub formula_of_lines : List Numbered → Result Cnf DimacsFault
 formula_of_lines [] = Err NoHeader
 formula_of_lines (line ∷ lines) =
     and_then (header_of line) (λ header. and_then (clauses_in header.vars (flat_map words_on lines)) (as_declared header))
 
 -- the formula that a text writes, or the text's first fault
-abbrev pub dimacs : List ℕ → Result Cnf DimacsError
+abbrev pub dimacs : List ℕ → Result Cnf DimacsFault
 dimacs text = formula_of_lines (counted_lines text)

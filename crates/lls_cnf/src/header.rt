@@ -2,7 +2,7 @@
 ghost use Rattle.std.specs.Prelude.{◌≡◌, ◌≤◌, map, IfOk};
 ghost use Rattle.lls_cnf.specs.Dimacs.{declared, header_of};
 
-use crate::dimacs_error::DimacsError;
+use crate::dimacs_fault::DimacsFault;
 use crate::number::natural_number;
 use crate::numbered::NumberedPiece;
 use lls_lit::Var;
@@ -16,22 +16,22 @@ pub(crate) struct Header {
 }
 
 /// The header that a line writes: `p cnf` and two numbers.
-pub(crate) fn read_header(line: &NumberedPiece) -> Result<Header, DimacsError>
+pub(crate) fn read_header(line: &NumberedPiece) -> Result<Header, DimacsFault>
     ensures exact { result ≡ header_of line.now }
     ensures fits { IfOk result (λ header. header.vars ≤ Var.MOST) }
 {
     let mut words = Words::new(line.text);
     let Some(first) = words.next() else {
-        return Err(DimacsError::NoHeader);
+        return Err(DimacsFault::NoHeader);
     };
     if first.text != b"p".as_slice() {
-        return Err(DimacsError::NoHeader);
+        return Err(DimacsFault::NoHeader);
     }
     let Some(header) = declared(&mut words) else {
-        return Err(DimacsError::BadHeader(line.line));
+        return Err(DimacsFault::BadHeader(line.line));
     };
     if header.vars > u64::from(Var::MOST) {
-        return Err(DimacsError::TooManyVariables(header.vars));
+        return Err(DimacsFault::TooManyVariables(header.vars));
     }
     Ok(header)
 }

@@ -1,6 +1,6 @@
 // A formula read from its text in DIMACS CNF.
 ghost use Rattle.std.specs.Prelude.{◌≡◌, ◌+◌, ◌<◌, ◌≤◌, ◌∷◌, [], ◌++◌, true, IfOk, IfErr, IfSome, OnOk, length};
-ghost use Rattle.lls_base.specs.Results.{Gives};
+ghost use Rattle.lls_base.specs.Results.{GivesWrapped};
 ghost use Rattle.lls_lit.specs.Formula.{is_literal_of, is_within};
 ghost use Rattle.lls_cnf.specs.Number.{whole_number};
 ghost use Rattle.lls_cnf.specs.Dimacs.{begins_percent, word_fault, clauses_in, dimacs};
@@ -8,6 +8,7 @@ ghost use Rattle.lls_cnf.specs.Reading.{written, number_of};
 
 use crate::counted_lines::CountedLines;
 use crate::dimacs_error::DimacsError;
+use crate::dimacs_fault::DimacsFault;
 use crate::formula::Formula;
 use crate::header::read_header;
 use crate::number::whole_number;
@@ -26,17 +27,18 @@ pub const MOST_DIMACS_BYTES: usize = 536_870_912;
 /// header `p cnf`, variables and clauses; what follows are numbers, of which each zero ends a clause.
 pub fn read_dimacs(alloc: Global, bytes: &[u8]) -> Result<Formula, DimacsError>
     requires { length bytes.now ≤ MOST_DIMACS_BYTES }
-    ensures { Gives DimacsError.Memory (λ formula. formula) result (dimacs bytes.now) }
+    ensures { GivesWrapped DimacsError.Fault (λ formula. formula) result (dimacs bytes.now) }
 {
     let mut lines = CountedLines::new(bytes);
     let Some(first) = lines.next() else {
-        return Err(DimacsError::NoHeader);
+        return Err(DimacsError::Fault(DimacsFault::NoHeader));
     };
     let header = read_header(&first)?;
     let formula = read_clauses(alloc, header.vars as u32, NumberedWords::new(lines))?;
     let found = formula.len() as u64;
     if found != header.clauses {
-        return Err(DimacsError::ClauseCount(header.clauses, found));
+        let fault = DimacsFault::ClauseCount(header.clauses, found);
+        return Err(DimacsError::Fault(fault));
     }
     Ok(formula)
 }
@@ -45,7 +47,7 @@ pub fn read_dimacs(alloc: Global, bytes: &[u8]) -> Result<Formula, DimacsError>
 fn read_clauses(alloc: Global, vars: u32, words: NumberedWords) -> Result<Formula, DimacsError>
     requires vars { vars ≤ Var.MOST }
     requires room { length words ≤ Formula.MOST_CLAUSES }
-    ensures clauses { Gives DimacsError.Memory (λ formula. formula.clauses) result
+    ensures clauses { GivesWrapped DimacsError.Fault (λ formula. formula.clauses) result
         (clauses_in vars words.entry) }
     ensures vars { IfOk result (λ formula. formula.vars ≡ vars) }
 {
@@ -57,7 +59,7 @@ fn read_clauses(alloc: Global, vars: u32, words: NumberedWords) -> Result<Formul
         put_number(&mut formula, &mut clause, lit)?;
     }
     if !clause.is_empty() {
-        return Err(DimacsError::Unended);
+        return Err(DimacsError::Fault(DimacsFault::Unended));
     }
     Ok(formula)
 }
@@ -84,7 +86,7 @@ fn put_number(formula: &mut Formula, clause: &mut Vec<Lit>, lit: Option<Lit>) ->
 }
 
 // The literal that a word writes, or None at zero.
-fn read_word(vars: u32, word: &NumberedPiece) -> Result<Option<Lit>, DimacsError>
+fn read_word(vars: u32, word: &NumberedPiece) -> Result<Option<Lit>, DimacsFault>
     requires { vars ≤ Var.MOST }
     ensures number { IfOk result (λ lit. whole_number word.now.1 ≡ Some (number_of lit)) }
     ensures within { IfOk result (λ lit. IfSome lit (λ l. is_literal_of vars l ≡ true)) }
@@ -92,13 +94,13 @@ fn read_word(vars: u32, word: &NumberedPiece) -> Result<Option<Lit>, DimacsError
     ensures fault { IfErr result (λ fault. word_fault vars word.now ≡ Some fault) }
 {
     if begins_percent(word.text) {
-        return Err(DimacsError::Percent(word.line));
+        return Err(DimacsFault::Percent(word.line));
     }
     let Some(number) = whole_number(word.text) else {
-        return Err(DimacsError::BadWord(word.line));
+        return Err(DimacsFault::BadWord(word.line));
     };
     if number.unsigned_abs() > u64::from(vars) {
-        return Err(DimacsError::LiteralRange(word.line, number));
+        return Err(DimacsFault::LiteralRange(word.line, number));
     }
     Ok(Lit::from_number(number as i32))
 }

@@ -1,7 +1,7 @@
 //! Patterns read and printed.
 use lls_grid::{History, print_history};
 use lls_hensel::PrintRuleError;
-use lls_rle::{MOST_BYTES, RleError, print_rle, read_rle};
+use lls_rle::{MOST_BYTES, RleError, RleFault, print_rle, read_rle};
 use lls_rule::Rule;
 use std::alloc::Global;
 use std::test::Fail;
@@ -35,30 +35,30 @@ const PATTERNS: [(&[u8], u32, u32, &[u8]); 7] = [
 ];
 
 // A text and its fault in a grid of 3 by 3.
-const FAULTS: [(&[u8], RleError); 22] = [
-    (b"", RleError::NoHeader),
-    (b"#\n \n", RleError::NoHeader),
-    (b"bob$2bo$3o!", RleError::NoHeader),
-    (b" x = 1, y = 1\no!", RleError::NoHeader),
-    (b"x = 1, y = 1 \no!", RleError::NoHeader),
-    (b"x = 1234567, y = 1\no!", RleError::NoHeader),
-    (b"x = , y = 1\no!", RleError::NoHeader),
-    (b"x = 1, y = 1", RleError::NoEnd),
-    (b"x = 1, y = 1\n3o$\n#!\n", RleError::NoEnd),
-    (b"x = 1, y = 1\n4o!", RleError::TooWide(0)),
-    (b"x = 1, y = 1\n2$3bo!", RleError::TooWide(2)),
-    (b"x = 1, y = 1\n3$o!", RleError::TooHigh(3)),
-    (b"x = 1, y = 1\n3$4o!", RleError::TooHigh(3)),
-    (b"x = 1, y = 1\nbB!", RleError::BadTag(2, 2)),
-    (b"x = 1, y = 1\n\n 0o!", RleError::BadTag(3, 2)),
-    (b"x = 1, y = 1\n000 o!", RleError::BadTag(2, 3)),
-    (b"x = 1, y = 1\n0000001o!", RleError::BadTag(2, 7)),
-    (b"x = 1, y = 1\n1 2o!", RleError::BadTag(2, 3)),
-    (b"x = 1, y = 1\n1\n2o!", RleError::BadTag(3, 1)),
-    (b"x = 1, y = 1\no2!", RleError::BadTag(2, 3)),
+const FAULTS: [(&[u8], RleFault); 22] = [
+    (b"", RleFault::NoHeader),
+    (b"#\n \n", RleFault::NoHeader),
+    (b"bob$2bo$3o!", RleFault::NoHeader),
+    (b" x = 1, y = 1\no!", RleFault::NoHeader),
+    (b"x = 1, y = 1 \no!", RleFault::NoHeader),
+    (b"x = 1234567, y = 1\no!", RleFault::NoHeader),
+    (b"x = , y = 1\no!", RleFault::NoHeader),
+    (b"x = 1, y = 1", RleFault::NoEnd),
+    (b"x = 1, y = 1\n3o$\n#!\n", RleFault::NoEnd),
+    (b"x = 1, y = 1\n4o!", RleFault::TooWide(0)),
+    (b"x = 1, y = 1\n2$3bo!", RleFault::TooWide(2)),
+    (b"x = 1, y = 1\n3$o!", RleFault::TooHigh(3)),
+    (b"x = 1, y = 1\n3$4o!", RleFault::TooHigh(3)),
+    (b"x = 1, y = 1\nbB!", RleFault::BadTag(2, 2)),
+    (b"x = 1, y = 1\n\n 0o!", RleFault::BadTag(3, 2)),
+    (b"x = 1, y = 1\n000 o!", RleFault::BadTag(2, 3)),
+    (b"x = 1, y = 1\n0000001o!", RleFault::BadTag(2, 7)),
+    (b"x = 1, y = 1\n1 2o!", RleFault::BadTag(2, 3)),
+    (b"x = 1, y = 1\n1\n2o!", RleFault::BadTag(3, 1)),
+    (b"x = 1, y = 1\no2!", RleFault::BadTag(2, 3)),
     // The first in the text counts.
-    (b"x = 1, y = 1\n4oz!", RleError::TooWide(0)),
-    (b"x = 1, y = 1\nz4o!", RleError::BadTag(2, 1)),
+    (b"x = 1, y = 1\n4oz!", RleFault::TooWide(0)),
+    (b"x = 1, y = 1\nz4o!", RleFault::BadTag(2, 1)),
 ];
 
 // A text, a height and a width, and what is printed of its generation with Life's rule.
@@ -159,7 +159,7 @@ fn faults_are_told(rt: HostRuntime) -> Result<(), Fail> {
     for (text, expected) in FAULTS {
         match read(rt.alloc(), text, 3, 3)? {
             Ok(_) => return Err(Fail::from("a fault")),
-            Err(fault) => assert_eq!(rt; fault, expected, "at {text:?}"),
+            Err(error) => assert_eq!(rt; error, RleError::Fault(expected), "at {text:?}"),
         }
     }
     Ok(())

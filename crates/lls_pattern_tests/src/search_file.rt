@@ -3,7 +3,8 @@ ghost use Rattle.std.specs.Prelude.{◌≡◌, IfOk};
 
 use lls_grid::{History, print_history};
 use lls_search_file::{
-    Cell, HistoryError, Kind, PosedError, print_posed, read_history, read_posed,
+    Cell, HistoryError, HistoryFault, Kind, PosedError, PosedFault, print_posed, read_history,
+    read_posed,
 };
 use std::alloc::{AllocError, Global};
 use std::test::Fail;
@@ -30,37 +31,40 @@ fn sought(alloc: Global, generations: u32, height: u32, width: u32) -> Result<Ve
 #[test]
 fn texts_refused(rt: HostRuntime) -> Result<(), Fail> {
     let alloc = rt.alloc();
-    let rows: [(&[u8], PosedError); 24] = [
-        (b"", PosedError::Empty),
-        (b" \n# 1\n\t\r\n", PosedError::Empty),
-        (b"1 0\n1\n", PosedError::Ragged(2, 2, 1)),
-        (b"1 0\n\n# wide\n1 1 0\n", PosedError::Ragged(4, 2, 3)),
-        (b"1\n\n1\n1\n", PosedError::Sizes(1, 1, 2)),
-        (b"1\n1\n\n0\n\n", PosedError::Sizes(1, 2, 1)),
-        (b"1\n1\n\n0", PosedError::Sizes(1, 2, 1)),
-        (b"1 2\n", PosedError::BadCell(1, 3)),
-        (b"1 \xc3\xa9", PosedError::NotAscii(1, 3)),
-        (b"2 \xc3\xa9", PosedError::NotAscii(1, 3)),
-        (b"\x80", PosedError::NotAscii(1, 1)),
-        (b"1 , , 0", PosedError::BadCell(1, 5)),
-        (b"1,,0", PosedError::BadCell(1, 3)),
-        (b" ,1", PosedError::BadCell(1, 2)),
-        (b"1 0,,", PosedError::BadCell(1, 5)),
-        (b"# a\n\n1 0\r\n01 0\r\n", PosedError::BadCell(4, 1)),
-        (b"0''", PosedError::BadCell(1, 1)),
-        (b"'", PosedError::BadCell(1, 1)),
-        (b"-0", PosedError::BadCell(1, 1)),
-        (b"a-b", PosedError::BadCell(1, 1)),
-        (b"--a", PosedError::BadCell(1, 1)),
-        (b"1\r\r\n", PosedError::BadCell(1, 1)),
-        (b"1 #", PosedError::BadCell(1, 3)),
+    let rows: [(&[u8], PosedFault); 24] = [
+        (b"", PosedFault::Empty),
+        (b" \n# 1\n\t\r\n", PosedFault::Empty),
+        (b"1 0\n1\n", PosedFault::Ragged(2, 2, 1)),
+        (b"1 0\n\n# wide\n1 1 0\n", PosedFault::Ragged(4, 2, 3)),
+        (b"1\n\n1\n1\n", PosedFault::Sizes(1, 1, 2)),
+        (b"1\n1\n\n0\n\n", PosedFault::Sizes(1, 2, 1)),
+        (b"1\n1\n\n0", PosedFault::Sizes(1, 2, 1)),
+        (b"1 2\n", PosedFault::BadCell(1, 3)),
+        (b"1 \xc3\xa9", PosedFault::NotAscii(1, 3)),
+        (b"2 \xc3\xa9", PosedFault::NotAscii(1, 3)),
+        (b"\x80", PosedFault::NotAscii(1, 1)),
+        (b"1 , , 0", PosedFault::BadCell(1, 5)),
+        (b"1,,0", PosedFault::BadCell(1, 3)),
+        (b" ,1", PosedFault::BadCell(1, 2)),
+        (b"1 0,,", PosedFault::BadCell(1, 5)),
+        (b"# a\n\n1 0\r\n01 0\r\n", PosedFault::BadCell(4, 1)),
+        (b"0''", PosedFault::BadCell(1, 1)),
+        (b"'", PosedFault::BadCell(1, 1)),
+        (b"-0", PosedFault::BadCell(1, 1)),
+        (b"a-b", PosedFault::BadCell(1, 1)),
+        (b"--a", PosedFault::BadCell(1, 1)),
+        (b"1\r\r\n", PosedFault::BadCell(1, 1)),
+        (b"1 #", PosedFault::BadCell(1, 3)),
         (
             b"0 a23456789012345678901234567890123",
-            PosedError::BadCell(1, 3),
+            PosedFault::BadCell(1, 3),
         ),
     ];
     for (text, fault) in rows {
-        assert_eq!(rt; read_posed(alloc, text).err(), Some(fault));
+        assert_eq!(rt;
+            read_posed(alloc, text).err(),
+            Some(PosedError::Fault(fault))
+        );
     }
     Ok(())
 }
@@ -68,15 +72,15 @@ fn texts_refused(rt: HostRuntime) -> Result<(), Fail> {
 #[test]
 fn sizes_at_their_limits(rt: HostRuntime) -> Result<(), Fail> {
     let alloc = rt.alloc();
-    let rows: [(u32, u32, u32, Option<PosedError>); 8] = [
+    let rows: [(u32, u32, u32, Option<PosedFault>); 8] = [
         (1, 1, 64, None),
         (1, 64, 1, None),
         (64, 1, 1, None),
         (2, 64, 64, None),
-        (1, 1, 65, Some(PosedError::TooWide(65))),
-        (1, 65, 1, Some(PosedError::TooHigh(65))),
-        (65, 1, 1, Some(PosedError::TooMany(65))),
-        (3, 64, 64, Some(PosedError::TooManyCells(8256))),
+        (1, 1, 65, Some(PosedFault::TooWide(65))),
+        (1, 65, 1, Some(PosedFault::TooHigh(65))),
+        (65, 1, 1, Some(PosedFault::TooMany(65))),
+        (3, 64, 64, Some(PosedFault::TooManyCells(8256))),
     ];
     for (generations, height, width, fault) in rows {
         let text = sought(alloc, generations, height, width)?;
@@ -88,7 +92,7 @@ fn sizes_at_their_limits(rt: HostRuntime) -> Result<(), Fail> {
                     (generations, height, width)
                 );
             }
-            Err(found) => assert_eq!(rt; Some(found), fault),
+            Err(found) => assert_eq!(rt; Some(found), fault.map(PosedError::Fault)),
         }
     }
     Ok(())
@@ -189,23 +193,26 @@ fn a_printed_history_is_read_back(rt: HostRuntime) -> Result<(), Fail> {
 #[test]
 fn texts_that_are_no_histories(rt: HostRuntime) -> Result<(), Fail> {
     let alloc = rt.alloc();
-    let rows: [(&[u8], HistoryError); 7] = [
-        (b"", HistoryError::Text(PosedError::Empty)),
-        (b"* 2", HistoryError::Text(PosedError::BadCell(1, 3))),
-        (b"*", HistoryError::NotPlain(0, 0, 0)),
-        (b"a", HistoryError::NotPlain(0, 0, 0)),
-        (b"0 1\n1 0\n\n0 1\n1 1'", HistoryError::NotPlain(1, 1, 1)),
+    let rows: [(&[u8], HistoryFault); 7] = [
+        (b"", HistoryFault::Text(PosedFault::Empty)),
+        (b"* 2", HistoryFault::Text(PosedFault::BadCell(1, 3))),
+        (b"*", HistoryFault::NotPlain(0, 0, 0)),
+        (b"a", HistoryFault::NotPlain(0, 0, 0)),
+        (b"0 1\n1 0\n\n0 1\n1 1'", HistoryFault::NotPlain(1, 1, 1)),
         (
             b"0 0 -a\n* 0 0\n\n0 0 0\n0 0 0\n",
-            HistoryError::NotPlain(0, 0, 2),
+            HistoryFault::NotPlain(0, 0, 2),
         ),
         (
             b"0 1 0\n\n0 1 0\n\n1 * 1\n",
-            HistoryError::NotPlain(2, 0, 1),
+            HistoryFault::NotPlain(2, 0, 1),
         ),
     ];
     for (text, fault) in rows {
-        assert_eq!(rt; read_history(alloc, text).err(), Some(fault));
+        assert_eq!(rt;
+            read_history(alloc, text).err(),
+            Some(HistoryError::Fault(fault))
+        );
     }
     Ok(())
 }
@@ -213,25 +220,32 @@ fn texts_that_are_no_histories(rt: HostRuntime) -> Result<(), Fail> {
 #[test]
 fn faults_by_their_texts(rt: HostRuntime) -> Result<(), Fail> {
     let alloc = rt.alloc();
-    let rows: [(PosedError, &str, bool); 10] = [
-        (PosedError::Empty, "Empty", false),
-        (PosedError::BadCell(1, 3), "BadCell 1 3", false),
-        (PosedError::Ragged(2, 2, 1), "Ragged 2 2 1", false),
-        (PosedError::Sizes(1, 1, 2), "Sizes 1 1 2", false),
-        (PosedError::TooWide(65), "TooWide 65", true),
-        (PosedError::TooHigh(65), "TooHigh 65", true),
-        (PosedError::TooMany(65), "TooMany 65", true),
-        (PosedError::TooManyCells(8256), "TooManyCells 8256", true),
-        (PosedError::NotAscii(1, 3), "NotAscii 1 3", false),
-        (PosedError::Memory, "Memory", false),
+    let rows: [(PosedFault, &str, bool); 9] = [
+        (PosedFault::Empty, "Empty", false),
+        (PosedFault::BadCell(1, 3), "BadCell 1 3", false),
+        (PosedFault::Ragged(2, 2, 1), "Ragged 2 2 1", false),
+        (PosedFault::Sizes(1, 1, 2), "Sizes 1 1 2", false),
+        (PosedFault::TooWide(65), "TooWide 65", true),
+        (PosedFault::TooHigh(65), "TooHigh 65", true),
+        (PosedFault::TooMany(65), "TooMany 65", true),
+        (PosedFault::TooManyCells(8256), "TooManyCells 8256", true),
+        (PosedFault::NotAscii(1, 3), "NotAscii 1 3", false),
     ];
     for (fault, text, limit) in rows {
-        let inner = HistoryError::Text(fault);
-        let (outer, inner) = (format!(in alloc; "{fault}")?, format!(in alloc; "{inner}")?);
-        let found = (outer.as_str(), inner.as_str(), fault.is_limit());
+        let history = HistoryError::Fault(HistoryFault::Text(fault));
+        let posed = PosedError::Fault(fault);
+        let (posed, history) = (
+            format!(in alloc; "{posed}")?,
+            format!(in alloc; "{history}")?,
+        );
+        let found = (posed.as_str(), history.as_str(), fault.is_limit());
         assert_eq!(rt; found, (text, text, limit));
     }
-    let place = HistoryError::NotPlain(1, 2, 3);
+    assert_eq!(rt;
+        format!(in alloc; "{}", PosedError::Memory)?.as_str(),
+        "Memory"
+    );
+    let place = HistoryFault::NotPlain(1, 2, 3);
     assert_eq!(rt; format!(in alloc; "{place}")?.as_str(), "NotPlain 1 2 3");
     Ok(())
 }

@@ -1,11 +1,11 @@
 -- A picture has the sizes of its grid.
-use Rattle.std.proofs.Common.{◌≡◌, ◌<◌, ℕ, List, Option, None, Some, Result, Ok, Err, refl, ap, sym, subst, ◌∙◌}
-use Rattle.std.specs.Prelude.{length, slice_index_or, [], map}
+use Rattle.std.proofs.Common.{◌≡◌, ◌<◌, ℕ, List, Option, None, Some, Result, Ok, refl, ap, subst, ◌∙◌}
+use Rattle.std.specs.Prelude.{length, [], map}
 use Rattle.std.specs.List.{list_any, range_with_len}
 use Rattle.std.proofs.lemmas.List.FromFn.{length-map-range_with_len, get_or-map-range_with_len}
 use Rattle.lls_text.specs.Lines.{lines_of}
 use Rattle.lls_grid.specs.History.{History, height_of, width_of}
-use Rattle.lls_rle.specs.declared.rle_error.RleError.{RleError}
+use Rattle.lls_rle.specs.declared.rle_fault.RleFault.{RleFault}
 use Rattle.lls_rle.specs.Tokens.{PlacedToken}
 use Rattle.lls_rle.specs.Items.{Ending, ended, unended, stray, items_of}
 use Rattle.lls_rle.specs.Picture.{Run, picture, covers, at_ending, unless_misfit, first_misfit, runs_from}
@@ -29,7 +29,7 @@ of_ending made history ended is = cc
 of_ending made history unended is = absurd cc
 of_ending made history (stray line column) is = absurd cc
 
-unless-ok : (fault : Option RleError) (answer : Result History RleError) (history : History) → unless_misfit fault answer ≡ Ok history → answer ≡ Ok history
+unless-ok : (fault : Option RleFault) (answer : Result History RleFault) (history : History) → unless_misfit fault answer ≡ Ok history → answer ≡ Ok history
 unless-ok None answer history is = is
 unless-ok (Some fault) answer history is = absurd cc
 

@@ -7,8 +7,8 @@ use Rattle.std.proofs.lemmas.Bool.{cases_lt}
 use Rattle.std.proofs.lemmas.Bool.Decides.{nat_tests}
 use Rattle.std.proofs.Math.Nat.{mul-le-mul_left}
 use Rattle.lls_grid.specs.History.{folded}
-use Rattle.lls_rle.specs.declared.rle_error.RleError.{RleError}
-use Rattle.lls_rle.specs.declared.rle_error.RleError.TheVariants.{TooHigh, TooWide}
+use Rattle.lls_rle.specs.declared.rle_fault.RleFault.{RleFault}
+use Rattle.lls_rle.specs.declared.rle_fault.RleFault.TheVariants.{TooHigh, TooWide}
 use Rattle.lls_rle.specs.declared.item.Tag.TheVariants as tag
 use Rattle.lls_rle.specs.declared.reader.Reader.{Reader}
 use Rattle.lls_rle.specs.Items.{Items, before_items}
@@ -83,7 +83,7 @@ painted-run h w old new row column count runs fits is =
     )
     ))
 
-no_misfit : (low wide : Bool) (high far : RleError) → None ≡ cond low (Some high) (cond wide (Some far) None) → wide ≡ false
+no_misfit : (low wide : Bool) (high far : RleFault) → None ≡ cond low (Some high) (cond wide (Some far) None) → wide ≡ false
 no_misfit true wide high far e = absurd cc
 no_misfit false true high far e = absurd cc
 no_misfit false false high far e = refl

@@ -4,7 +4,7 @@ use Rattle.std.specs.Prelude.{Option, nat_le, nat_lt, ◌==◌, ◌&&◌, ◌||�
 use Rattle.std.specs.List.{list_any, list_all, range_with_len}
 use Rattle.std.proofs.lemmas.Bool.{and_parts, eqb-true}
 use Rattle.std.proofs.lemmas.Bool.Decides.{nat_tests}
-use Rattle.lls_rle.specs.declared.rle_error.RleError.{RleError}
+use Rattle.lls_rle.specs.declared.rle_fault.RleFault.{RleFault}
 use Rattle.lls_rle.specs.declared.item.Tag.{Tag}
 use Rattle.lls_rle.specs.declared.item.Tag.TheVariants.{Dead, Live, RowEnd}
 use Rattle.lls_rle.specs.declared.item.Item.{Item}
@@ -165,11 +165,11 @@ picture-items_of_rows height width rows count even =
     )))
 
 -- runs that fit
-no_fault : (a b : Option RleError) → or_else a b ≡ None → (a ≡ None) × (b ≡ None)
+no_fault : (a b : Option RleFault) → or_else a b ≡ None → (a ≡ None) × (b ≡ None)
 no_fault None b e = (refl, e)
 no_fault (Some fault) b e = absurd cc
 
-both_fit : (a b : Option RleError) → a ≡ None → b ≡ None → or_else a b ≡ None
+both_fit : (a b : Option RleFault) → a ≡ None → b ≡ None → or_else a b ≡ None
 both_fit a b first rest = ap (λ o. or_else o b) first ∙ rest
 
 run-fits : (height width row column count : ℕ) → row < height → column + count ≤ width → misfit height width (record { row = row; column = column; count = count }) ≡ None
@@ -180,7 +180,7 @@ run-fits height width row column count row_in fits = rw (not_le height row row_i
   not_lt : (a b : ℕ) → b ≤ a → nat_lt a b ≡ false
   not_lt a b le = grind (arith, nat_tests)
 
-abbrev faults : ℕ → ℕ → ℕ → ℕ → List Item → Option RleError
+abbrev faults : ℕ → ℕ → ℕ → ℕ → List Item → Option RleFault
 faults height width row column items = first_misfit height width (runs_from row column items)
 
 module _ (height width row column : ℕ) (row_in : row < height) (column_in : column + 1 ≤ width) where

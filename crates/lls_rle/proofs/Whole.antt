@@ -1,13 +1,11 @@
 -- A text that is read from its begin.
-use Rattle.std.proofs.Common.{◌≡◌, ℕ, Bool, false, List, get_or, replicate, Some, refl, sym, ap, subst, ◌∙◌, inl, inr, arith}
-use Rattle.std.specs.Prelude.{Result, Ok, Err}
+use Rattle.std.proofs.Common.{◌≡◌, ℕ, Bool, false, List, get_or, replicate, Some, sym, ap, ◌∙◌, inl, inr, arith}
+use Rattle.std.specs.Prelude.{Result}
 use Rattle.std.proofs.lemmas.Bool.{cases_lt}
 use Rattle.std.proofs.lemmas.List.{get_or-replicate, get_or_past, length-replicate}
-use Rattle.lls_base.specs.Results.{Gives}
 use Rattle.lls_grid.specs.History.{History}
 use Rattle.lls_text.specs.Lines.{lines_of}
-use Rattle.lls_rle.specs.declared.rle_error.RleError.{RleError}
-use Rattle.lls_rle.specs.declared.rle_error.RleError.TheVariants.{Memory}
+use Rattle.lls_rle.specs.declared.rle_fault.RleFault.{RleFault}
 use Rattle.lls_rle.specs.Tokens.{PlacedToken}
 use Rattle.lls_rle.specs.Items.{Items, items_of}
 use Rattle.lls_rle.specs.Picture.{runs_from, first_misfit, unless_misfit, at_ending, pictured}
@@ -26,12 +24,7 @@ painted-first height width n cells all dead =
     let runs = runs_from 0 0 all.items in
     ap (λ p. unless_misfit (first_misfit height width runs) (at_ending p all.ending)) (painted-dead height width cells runs (λ k. ap (λ cs. get_or cs k false) dead ∙ dead_cell n k))
 
-gives_itself : (answer : Result History RleError) → Gives Memory (λ history. history) answer answer
-gives_itself (Ok history) = refl
-gives_itself (Err fault) = λ other. refl
-
-pub read_whole : (height width n : ℕ) (cells : List Bool) (bytes : List ℕ) (tokens : List PlacedToken) (answer : Result History RleError) → cells ≡ replicate n false
-    → body_of 1 (lines_of bytes) ≡ Some tokens → answer ≡ painted_items height width cells 0 0 (items_of tokens) → Gives Memory (λ history. history) answer (rle_of height width bytes)
+pub read_whole : (height width n : ℕ) (cells : List Bool) (bytes : List ℕ) (tokens : List PlacedToken) (answer : Result History RleFault) → cells ≡ replicate n false
+    → body_of 1 (lines_of bytes) ≡ Some tokens → answer ≡ painted_items height width cells 0 0 (items_of tokens) → rle_of height width bytes ≡ answer
 read_whole height width n cells bytes tokens answer dead body is =
-    let P : Result History RleError → Type 0 = λ d. Gives Memory (λ history. history) answer d in
-    subst P (is ∙ painted-first height width n cells (items_of tokens) dead ∙ ap (read_body height width) (sym body)) (gives_itself answer)
+    ap (read_body height width) body ∙ sym (is ∙ painted-first height width n cells (items_of tokens) dead)

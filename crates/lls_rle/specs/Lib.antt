@@ -1,4 +1,4 @@
-pub mod Faults
+pub mod FaultText
 pub mod Tokens
 pub mod Seen
 pub mod Header

@@ -3,7 +3,7 @@ use Rattle.std.specs.Prelude.{◌≡◌, ◌≤◌, ℕ, ◌+◌, ◌*◌, ◌||
 use Rattle.std.specs.List.{list_any, range_with_len}
 use Rattle.lls_grid.specs.History.{History}
 use Rattle.lls_grid.specs.declared.history.TheConstants.History.{MOST_HEIGHT, MOST_WIDTH}
-use Rattle.lls_rle.specs.declared.rle_error.RleError.{RleError}
+use Rattle.lls_rle.specs.declared.rle_fault.RleFault.{RleFault}
 use Rattle.lls_rle.specs.declared.reader.Reader.{Reader}
 use Rattle.lls_rle.specs.Tokens.{PlacedToken}
 use Rattle.lls_rle.specs.Items.{Items, items_behind}
@@ -15,20 +15,20 @@ painted height width cells runs =
     map (λ y. map (λ x. slice_index_or cells (x + width * y) false || list_any (covers y x) runs) (range_with_len 0 width)) (range_with_len 0 height) ∷ []
 
 -- what the runs of items from a place on make of the cells, or the first fault
-abbrev pub painted_items : ℕ → ℕ → List Bool → ℕ → ℕ → Items → Result History RleError
+abbrev pub painted_items : ℕ → ℕ → List Bool → ℕ → ℕ → Items → Result History RleFault
 painted_items height width cells row column all =
     let runs = runs_from row column all.items in
     unless_misfit (first_misfit height width runs) (at_ending (painted height width cells runs) all.ending)
 
 -- what items say, and tokens, read from here on
-abbrev pub items_from : Reader → Items → Result History RleError
+abbrev pub items_from : Reader → Items → Result History RleFault
 items_from reader all = painted_items reader.height reader.width reader.cells.items reader.row reader.column all
 
-abbrev pub answer_from : Reader → List PlacedToken → Result History RleError
+abbrev pub answer_from : Reader → List PlacedToken → Result History RleFault
 answer_from reader tokens = items_from reader (items_behind reader.count tokens)
 
 -- what a step leads to: a fault, the end of the pattern, or what more tokens say
-abbrev pub goes_on : Result Bool RleError → Reader → List PlacedToken → Result History RleError
+abbrev pub goes_on : Result Bool RleFault → Reader → List PlacedToken → Result History RleFault
 goes_on (Err fault) reader tokens = Err fault
 goes_on (Ok true) reader tokens = Ok (painted reader.height reader.width reader.cells.items [])
 goes_on (Ok false) reader tokens = answer_from reader tokens

@@ -2,8 +2,8 @@
 use Rattle.std.specs.Prelude.{ℕ, ◌+◌, ◌==◌, Bool, false, List, [], ◌∷◌, ◌++◌, Option, None, Some, Result, Err, if◌then◌else◌}
 use Rattle.lls_text.specs.Lines.{lines_of, is_blank_line}
 use Rattle.lls_grid.specs.History.{History}
-use Rattle.lls_rle.specs.declared.rle_error.RleError.{RleError}
-use Rattle.lls_rle.specs.declared.rle_error.RleError.TheVariants.{NoHeader}
+use Rattle.lls_rle.specs.declared.rle_fault.RleFault.{RleFault}
+use Rattle.lls_rle.specs.declared.rle_fault.RleFault.TheVariants.{NoHeader}
 use Rattle.lls_rle.specs.Tokens.{PlacedToken, tokens_of}
 use Rattle.lls_rle.specs.Header.{is_header}
 use Rattle.lls_rle.specs.Items.{items_of}
@@ -31,9 +31,9 @@ body_of number (line ∷ lines) =
     if is_blank_line line then body_of (number + 1) lines else
     if is_header line then Some (tokens_of_lines (number + 1) lines) else None
 
-abbrev pub read_body : ℕ → ℕ → Option (List PlacedToken) → Result History RleError
+abbrev pub read_body : ℕ → ℕ → Option (List PlacedToken) → Result History RleFault
 read_body height width None = Err NoHeader
 read_body height width (Some tokens) = pictured height width (items_of tokens)
 
-abbrev pub rle_of : ℕ → ℕ → List ℕ → Result History RleError
+abbrev pub rle_of : ℕ → ℕ → List ℕ → Result History RleFault
 rle_of height width bytes = read_body height width (body_of 1 (lines_of bytes))

@@ -1,4 +1,4 @@
-//! The header of an RLE text.
+// The header of an RLE text.
 ghost use Rattle.std.specs.Prelude.{◌≡◌, drop};
 ghost use Rattle.std.specs.Option.{option_copied};
 ghost use Rattle.std.specs.List.{position_or_len};

@@ -1,4 +1,4 @@
-//! Items of RLE texts.
+// Items of RLE texts.
 
 /// What a run is of.
 #[derive(Clone, Copy, Debug, PartialEq, Eq)]

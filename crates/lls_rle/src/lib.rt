@@ -8,9 +8,11 @@ mod print;
 mod read;
 mod reader;
 mod rle_error;
+mod rle_fault;
 mod tokens;
 
 pub use print::print_rle;
 pub use read::read_rle;
 pub use reader::MOST_BYTES;
 pub use rle_error::RleError;
+pub use rle_fault::RleFault;

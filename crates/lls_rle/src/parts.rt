@@ -1,4 +1,4 @@
-//! What a token is.
+// What a token is.
 ghost use Rattle.std.specs.Prelude.{◌≡◌, ◌-◌, ◌^◌, min, true};
 ghost use Rattle.std.specs.Str.Parse.{digits_value};
 ghost use Rattle.lls_text.specs.Digits.{is_digits};

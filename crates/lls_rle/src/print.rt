@@ -1,4 +1,4 @@
-//! The RLE text of a generation.
+// The RLE text of a generation.
 ghost use Rattle.std.specs.Prelude.{◌≡◌, ◌==◌, ◌<◌, ◌≤◌, ◌+◌, ◌^◌, [], ◌++◌, ◌∷◌, ◌↔◌, ℕ, List, length, reverse, nat_lt, decimal, slice_index_or, Ok, if◌then◌else◌, IfOk, IsErrOf, OnOk};
 ghost use Rattle.lls_hensel.specs.Printing.{uneven};
 ghost use Rattle.lls_grid.specs.History.{height_of, width_of, rows_at};
@@ -14,7 +14,7 @@ use lls_hensel::{PrintRuleError, print_rule};
 use lls_rule::Rule;
 use std::alloc::Global;
 
-/// The greatest number of bytes of a line of items.
+// The greatest number of bytes of a line of items.
 const MOST_LINE: usize = 70;
 
 /// The RLE text of a generation, with the rule's canonical text in its header. [`read_rle`](crate::read_rle) of it is the

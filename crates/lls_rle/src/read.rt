@@ -1,12 +1,12 @@
-//! The reading of RLE texts.
+// The reading of RLE texts.
 ghost use Rattle.std.specs.Prelude.{◌≡◌, ◌≤◌, ◌<◌, ◌+◌, ◌^◌, None, Some, length, IfSome, IfNone};
-ghost use Rattle.lls_base.specs.Results.{Gives};
+ghost use Rattle.lls_base.specs.Results.{GivesWrapped};
 ghost use Rattle.lls_rle.specs.Reading.{body_of, rle_of, tokens_of_lines};
 ghost use Rattle.lls_rle.specs.Reader.{total};
 
-use crate::RleError;
 use crate::header::is_header;
 use crate::reader::{MOST_BYTES, Reader, is_comment};
+use crate::{RleError, RleFault};
 use lls_grid::History;
 use lls_text::{Lines, is_blank_line};
 use std::alloc::Global;
@@ -17,11 +17,11 @@ pub fn read_rle(alloc: Global, bytes: &[u8], height: u32, width: u32) -> Result<
     requires bytes { length bytes.now ≤ MOST_BYTES }
     requires height { (1 ≤ height) × (height ≤ History.MOST_HEIGHT) }
     requires width { (1 ≤ width) × (width ≤ History.MOST_WIDTH) }
-    ensures { Gives RleError.Memory (λ history. history) result (rle_of height width bytes.now) }
+    ensures { GivesWrapped RleError.Fault (λ history. history) result (rle_of height width bytes.now) }
 {
     let mut lines = Lines::new(bytes);
     let Some(number) = header_number(&mut lines) else {
-        return Err(RleError::NoHeader);
+        return Err(RleError::Fault(RleFault::NoHeader));
     };
     let reader = Reader {
         height,
@@ -31,7 +31,7 @@ pub fn read_rle(alloc: Global, bytes: &[u8], height: u32, width: u32) -> Result<
         column: 0,
         count: None,
     };
-    reader.take_lines(number + 1, lines)
+    Ok(reader.take_lines(number + 1, lines)?)
 }
 
 // The number of the header's line, which is taken with those before it.

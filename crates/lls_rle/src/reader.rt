@@ -1,4 +1,4 @@
-//! The reader of a pattern: where it stands in the grid, and which cells are live so far.
+// The reader of a pattern: where it stands in the grid, and which cells are live so far.
 ghost use Rattle.std.specs.Prelude.{◌≡◌, ◌≤◌, ◌<◌, ◌+◌, ◌*◌, ◌^◌, ◌∷◌, ◌++◌, ◌||◌, [], ℕ, List, length, false, slice_index_or, Err, IfErr, OnOk};
 ghost use Rattle.std.specs.Result.{result_err};
 ghost use Rattle.lls_rle.specs.Items.{Items, before_items};
@@ -6,7 +6,7 @@ ghost use Rattle.lls_rle.specs.Picture.{misfit};
 ghost use Rattle.lls_rle.specs.Between.{is_between};
 ghost use Rattle.lls_rle.specs.Reading.{is_comment, tokens_of_line, tokens_of_lines};
 
-use crate::RleError;
+use crate::RleFault;
 use crate::item::Tag;
 use crate::parts::{Part, part_of};
 use crate::tokens::{Token, Tokens};
@@ -36,7 +36,7 @@ impl Reader {
     ghost use Rattle.lls_rle.specs.Reader.{IsReader, answer_from, goes_on, items_from, painted, total};
 
     /// Takes the lines of which the first has a number.
-    pub fn take_lines(mut self, number: u64, lines: Lines) -> Result<History, RleError>
+    pub fn take_lines(mut self, number: u64, lines: Lines) -> Result<History, RleFault>
         requires kept { IsReader self }
         requires lines { number + length lines < 2 ^ 62 }
         requires row { self.row + MOST_COUNT * total lines < 2 ^ 62 }
@@ -50,11 +50,11 @@ impl Reader {
             }
             number += 1;
         }
-        Err(RleError::NoEnd)
+        Err(RleFault::NoEnd)
     }
 
-    /// Takes one more line, and answers whether the pattern ended.
-    fn take_line(&mut self, number: u64, line: &[u8]) -> Result<bool, RleError>
+    // Takes one more line, and answers whether the pattern ended.
+    fn take_line(&mut self, number: u64, line: &[u8]) -> Result<bool, RleFault>
         requires kept { IsReader self.old }
         requires line { length line.now < 2 ^ 62 }
         requires row { self.old.row + MOST_COUNT * length line.now < 2 ^ 62 }
@@ -70,8 +70,8 @@ impl Reader {
         self.take_tokens(number, line)
     }
 
-    /// Takes the tokens of a line.
-    fn take_tokens(&mut self, number: u64, line: &[u8]) -> Result<bool, RleError>
+    // Takes the tokens of a line.
+    fn take_tokens(&mut self, number: u64, line: &[u8]) -> Result<bool, RleFault>
         requires kept { IsReader self.old }
         requires line { length line.now < 2 ^ 62 }
         requires row { self.old.row + MOST_COUNT * length (tokens_of number line.now) < 2 ^ 63 }
@@ -90,8 +90,8 @@ impl Reader {
         Ok(false)
     }
 
-    /// Takes one more token, and answers whether the pattern ended.
-    fn take(&mut self, token: Token) -> Result<bool, RleError>
+    // Takes one more token, and answers whether the pattern ended.
+    fn take(&mut self, token: Token) -> Result<bool, RleFault>
         requires kept { IsReader self.old }
         requires token { token.column + length token.text.now < 2 ^ 64 }
         requires row { self.old.row < 2 ^ 63 }
@@ -113,13 +113,13 @@ impl Reader {
                 Ok(false)
             }
             (Part::End, None) => Ok(true),
-            (Part::Bad(behind), None) => Err(RleError::BadTag(token.line, token.column + behind)),
-            (_, Some(_)) => Err(RleError::BadTag(token.line, token.column)),
+            (Part::Bad(behind), None) => Err(RleFault::BadTag(token.line, token.column + behind)),
+            (_, Some(_)) => Err(RleFault::BadTag(token.line, token.column)),
         }
     }
 
-    /// Takes a run of so many.
-    fn take_run(&mut self, tag: Tag, count: u32) -> Result<(), RleError>
+    // Takes a run of so many.
+    fn take_run(&mut self, tag: Tag, count: u32) -> Result<(), RleFault>
         requires kept { IsReader self.old }
         requires count { count ≤ MOST_COUNT }
         requires row { self.old.row < 2 ^ 63 }
@@ -146,8 +146,8 @@ impl Reader {
         Ok(())
     }
 
-    /// Makes so many cells live.
-    fn paint(&mut self, count: u64) -> Result<(), RleError>
+    // Makes so many cells live.
+    fn paint(&mut self, count: u64) -> Result<(), RleFault>
         requires kept { IsReader self.old }
         requires count { count ≤ MOST_COUNT }
         requires column { self.old.column < 2 ^ 63 }
@@ -158,10 +158,10 @@ impl Reader {
         ensures same { self.new ≡ record self.old { cells = self.new.cells } }
     {
         if self.row >= u64::from(self.height) {
-            return Err(RleError::TooHigh(self.row));
+            return Err(RleFault::TooHigh(self.row));
         }
         if self.column + count > u64::from(self.width) {
-            return Err(RleError::TooWide(self.row));
+            return Err(RleFault::TooWide(self.row));
         }
         let from = self.column + u64::from(self.width) * self.row;
         make_live(&mut self.cells, from as usize, count as usize);

@@ -1,74 +1,52 @@
-//! Why a text is no pattern of a grid.
-ghost use Rattle.std.specs.Prelude.{◌≡◌};
-
-use std::alloc::{AllocError, AllocFailed};
+// Why a pattern wasn't read.
+use crate::RleFault;
+use std::alloc::AllocError;
 use std::error::Error;
 use std::fmt;
 
-/// Why a text is no RLE pattern that fits a grid. Lines and columns count from 1, columns in bytes; rows of the grid count from 0.
+/// Why a pattern wasn't read.
 #[derive(Clone, Copy, Debug, PartialEq, Eq)]
 pub enum RleError {
-    /// The first line that is neither a comment nor blank is no header, or there is none.
-    NoHeader,
-    /// This line and column has a byte that can't stand there: no digit, tag or blank; the seventh digit of a count; the last
-    /// digit of a count of zero; a digit after a count; a `!` after a count.
-    BadTag(u64, u64),
-    /// A run of live cells in this row passes the width.
-    TooWide(u64),
-    /// A run of live cells stands in this row, which isn't below the height.
-    TooHigh(u64),
-    /// The text ends without `!`.
-    NoEnd,
+    /// The text is no pattern of the grid.
+    Fault(RleFault),
     /// An allocation was refused.
     Memory,
 }
 
-impl fmt::Display for RleError {
-    ghost use Rattle.std.specs.Prelude.{Some};
-    ghost use Rattle.lls_rle.specs.Faults.{rle_error_text};
+impl From<RleFault> for RleError {
+    ghost use Rattle.std.specs.Prelude.{◌≡◌};
+    ghost use Rattle.lls_rle.specs.declared.rle_error.RleError.TheVariants as errors;
 
-    ghost output = { λ error. Some (rle_error_text error) };
+    ghost from_gives = { λ fault error. error ≡ errors.Fault fault };
 
-    fn fmt<W: fmt::Write>(&self, f: &mut fmt::Formatter<W>) -> fmt::Result {
-        match self {
-            RleError::NoHeader => write!(f, "NoHeader"),
-            RleError::BadTag(line, column) => write!(f, "BadTag {line} {column}"),
-            RleError::TooWide(row) => write!(f, "TooWide {row}"),
-            RleError::TooHigh(row) => write!(f, "TooHigh {row}"),
-            RleError::NoEnd => write!(f, "NoEnd"),
-            RleError::Memory => write!(f, "Memory"),
-        }
+    fn from(fault: RleFault) -> Self {
+        RleError::Fault(fault)
     }
 }
 
-impl Error for RleError {}
-
 impl From<AllocError> for RleError {
-    ghost use Rattle.lls_rle.specs.declared.rle_error.RleError.TheVariants.{Memory};
+    ghost use Rattle.std.specs.Prelude.{◌≡◌};
+    ghost use Rattle.lls_rle.specs.declared.rle_error.RleError.TheVariants as errors;
 
-    ghost from_gives = { λ _ e. e ≡ Memory };
+    ghost from_gives = { λ _ error. error ≡ errors.Memory };
 
     fn from(_: AllocError) -> Self {
         RleError::Memory
     }
 }
 
-impl<T: Drop> From<AllocFailed<T>> for RleError {
-    ghost use Rattle.lls_rle.specs.declared.rle_error.RleError.TheVariants.{Memory};
+impl fmt::Display for RleError {
+    ghost use Rattle.std.specs.Prelude.{Some};
+    ghost use Rattle.lls_rle.specs.FaultText.{rle_error_text};
 
-    ghost from_gives = { λ _ e. e ≡ Memory };
+    ghost output = { λ error. Some (rle_error_text error) };
 
-    fn from(_: AllocFailed<T>) -> Self {
-        RleError::Memory
+    fn fmt<W: fmt::Write>(&self, f: &mut fmt::Formatter<W>) -> fmt::Result {
+        match self {
+            RleError::Fault(fault) => write!(f, "{fault}"),
+            RleError::Memory => write!(f, "Memory"),
+        }
     }
 }
 
-impl From<lls_base::Memory> for RleError {
-    ghost use Rattle.lls_rle.specs.declared.rle_error.RleError.TheVariants.{Memory};
-
-    ghost from_gives = { λ _ e. e ≡ Memory };
-
-    fn from(_: lls_base::Memory) -> Self {
-        RleError::Memory
-    }
-}
+impl Error for RleError {}

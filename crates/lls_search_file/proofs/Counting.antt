@@ -7,7 +7,7 @@ use Rattle.std.proofs.lemmas.Grind.{flat_map-append}
 use Rattle.std.proofs.lemmas.List.Sums.{sum_by_push}
 use Rattle.lls_base.specs.Results.{and_then}
 use Rattle.lls_text.specs.Lines.{lines_of, is_blank_line, begins_with}
-use Rattle.lls_search_file.specs.declared.error.PosedError.{PosedError}
+use Rattle.lls_search_file.specs.declared.posed_fault.PosedFault.{PosedFault}
 use Rattle.lls_search_file.specs.declared.shape.Shape.{Shape}
 use Rattle.lls_search_file.specs.Posed.{PosedFile}
 use Rattle.lls_search_file.specs.Words.{Word, row_of}
@@ -39,11 +39,11 @@ counts_in rows = record {
 }
 
 -- a result, its value counted
-abbrev counted : Result Rows PosedError → Result Counts PosedError
+abbrev counted : Result Rows PosedFault → Result Counts PosedFault
 counted read = and_then read (λ rows. Ok (counts_in rows))
 
 -- the value where there is no fault, seen by a view
-unless_fault-seen : {X Y : Type 0} (faults : List (Option PosedError)) (value : X) (view : X → Y)
+unless_fault-seen : {X Y : Type 0} (faults : List (Option PosedFault)) (value : X) (view : X → Y)
     → and_then (unless_fault faults value) (λ value. Ok (view value)) ≡ unless_fault faults (view value)
 unless_fault-seen [] value view = refl
 unless_fault-seen (None ∷ faults) value view = unless_fault-seen faults value view
@@ -134,7 +134,7 @@ generations_ended-counted ended (row ∷ rows) =
     ∙ ap (λ v. and_then (cond v (Ok shape) (unless_fault (counts.too_low shape.rows shape.ended shape.height ∷ []) end)) (λ shape. Ok (more shape))) (sym open_rows))))
 
 -- the first generation that has ended has a row
-abbrev IsFilledOnOk : Result Rows PosedError → Type 0
+abbrev IsFilledOnOk : Result Rows PosedFault → Type 0
 IsFilledOnOk (Ok rows) = IsFilled rows.ended
 IsFilledOnOk (Err fault) = Unit {0}
 
@@ -142,7 +142,7 @@ IsFilled-push : {X : Type 0} (lists : List (List X)) (list : List X) → 1 ≤ l
 IsFilled-push [] list some filled = some
 IsFilled-push (first ∷ rest) list some filled = filled
 
-unless_fault-filled : (faults : List (Option PosedError)) (rows : Rows) → IsFilled rows.ended → IsFilledOnOk (unless_fault faults rows)
+unless_fault-filled : (faults : List (Option PosedFault)) (rows : Rows) → IsFilled rows.ended → IsFilledOnOk (unless_fault faults rows)
 unless_fault-filled [] rows filled = filled
 unless_fault-filled (None ∷ faults) rows filled = unless_fault-filled faults rows filled
 unless_fault-filled (Some fault ∷ faults) rows filled = tt
@@ -158,11 +158,11 @@ generations_ended-filled ended (row ∷ rows) filled =
     ]
 
 -- what is read is what is counted
-record IsCounted (read : Result Rows PosedError) (taken : Result Counts PosedError) : Type 0 where
+record IsCounted (read : Result Rows PosedFault) (taken : Result Counts PosedFault) : Type 0 where
   same : counted read ≡ taken
   filled : IsFilledOnOk read
 
-row_read-counted : (number : ℕ) (rows : Rows) → IsFilled rows.ended → (read : Result (List Word) PosedError)
+row_read-counted : (number : ℕ) (rows : Rows) → IsFilled rows.ended → (read : Result (List Word) PosedFault)
     → IsCounted (and_then read (row_added number rows)) (and_then read (with_words number (counts_in rows)))
 row_read-counted number rows filled (Ok row) = record {
   same = row_added-counted number rows row;
@@ -170,7 +170,7 @@ row_read-counted number rows filled (Ok row) = record {
 }
 row_read-counted number rows filled (Err fault) = record { same = refl; filled = tt }
 
-IsCounted-cond : (b : Bool) (read other : Result Rows PosedError) (taken beside : Result Counts PosedError) → IsCounted read taken → IsCounted other beside
+IsCounted-cond : (b : Bool) (read other : Result Rows PosedFault) (taken beside : Result Counts PosedFault) → IsCounted read taken → IsCounted other beside
     → IsCounted (cond b read other) (cond b taken beside)
 IsCounted-cond true read other taken beside one two = one
 IsCounted-cond false read other taken beside one two = two
@@ -184,7 +184,7 @@ ended_read-counted rows filled = record {
   filled = generations_ended-filled rows.ended rows.begun filled;
 }
   where
-    after : (read : Result (List (List (List Word))) PosedError)
+    after : (read : Result (List (List (List Word))) PosedFault)
         → counted (and_then read (λ ended. Ok (record { ended = ended; begun = [] }))) ≡ and_then read (λ ended. Ok (counts_in (record { ended = ended; begun = [] })))
     after (Ok ended) = refl
     after (Err fault) = refl
@@ -196,7 +196,7 @@ line_read-counted number line rows filled =
     (IsCounted-cond (is_blank_line line) _ _ _ _ (ended_read-counted rows filled) (row_read-counted number rows filled (row_of number line)))
 
 -- what comes after what is counted
-IsCounted-and_then : (read : Result Rows PosedError) (taken : Result Counts PosedError) (more : Rows → Result Rows PosedError) (after : Counts → Result Counts PosedError)
+IsCounted-and_then : (read : Result Rows PosedFault) (taken : Result Counts PosedFault) (more : Rows → Result Rows PosedFault) (after : Counts → Result Counts PosedFault)
     → IsCounted read taken → ((rows : Rows) → IsFilled rows.ended → IsCounted (more rows) (after (counts_in rows))) → IsCounted (and_then read more) (and_then taken after)
 IsCounted-and_then (Ok rows) taken more after is step = record {
   same = (step rows is.filled).same ∙ ap (λ t. and_then t after) is.same;
@@ -211,7 +211,7 @@ lines_read-counted (line ∷ lines) number rows filled =
     (line_read-counted number line rows filled) (λ rows filled. lines_read-counted lines (number + 1) rows filled)
 
 -- the file of counted rows, where no generation goes on
-abbrev file_counted : Counts → Result PosedFile PosedError
+abbrev file_counted : Counts → Result PosedFile PosedFault
 file_counted counts = file_of counts.shape.width counts.shape.height counts.shape.ended counts.words
 
 file_read-counted : (ended : List (List (List Word))) → IsFilled ended → file_read ended ≡ file_counted (counts_in (record { ended = ended; begun = [] }))
@@ -228,12 +228,12 @@ end_read-counted rows filled =
     (ap (λ read. and_then read file_counted) (generations_ended-counted rows.ended rows.begun) ∙
     sizes_counted words (with_end (counts_in rows).shape))
   where
-    generations_read : (read : Result (List (List (List Word))) PosedError) → IsFilledOnOk (and_then read (λ ended. Ok (record { ended = ended; begun = [] })))
+    generations_read : (read : Result (List (List (List Word))) PosedFault) → IsFilledOnOk (and_then read (λ ended. Ok (record { ended = ended; begun = [] })))
         → and_then read file_read ≡ and_then (and_then read (λ ended. Ok (counts_in (record { ended = ended; begun = [] })))) file_counted
     generations_read (Ok ended) filled = file_read-counted ended filled
     generations_read (Err fault) filled = refl
 
-    sizes_counted : (words : List Word) (read : Result Shape PosedError)
+    sizes_counted : (words : List Word) (read : Result Shape PosedFault)
         → and_then (and_then read (λ shape. Ok (record { shape = shape; words = words }))) file_counted ≡ and_then read (λ shape. file_counted (record { shape = shape; words = words }))
     sizes_counted words (Ok shape) = refl
     sizes_counted words (Err fault) = refl
@@ -243,6 +243,6 @@ pub posed_of-counted : (bytes : List ℕ) → posed_of bytes ≡ and_then (lines
 unfolding posed_of
 posed_of-counted bytes = whole (lines_read 1 (lines_of bytes) no_rows) _ (lines_read-counted (lines_of bytes) 1 no_rows tt)
   where
-    whole : (read : Result Rows PosedError) (taken : Result Counts PosedError) → IsCounted read taken → and_then read end_read ≡ and_then taken at_end
+    whole : (read : Result Rows PosedFault) (taken : Result Counts PosedFault) → IsCounted read taken → and_then read end_read ≡ and_then taken at_end
     whole (Ok rows) taken is = end_read-counted rows is.filled ∙ ap (λ t. and_then t at_end) is.same
     whole (Err fault) taken is = ap (λ t. and_then t at_end) is.same

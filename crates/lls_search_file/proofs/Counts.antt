@@ -4,7 +4,7 @@ use Rattle.std.specs.Option.{option_or}
 use Rattle.std.proofs.lemmas.Bool.{eqb-true, eq-eqb, lt-ltb, cases_lt}
 use Rattle.lls_grid.specs.declared.history.TheConstants.History.{MOST_GENERATIONS, MOST_HEIGHT, MOST_WIDTH, MOST_CELLS}
 use Rattle.lls_search_file.specs.declared.cell.Cell.{Cell}
-use Rattle.lls_search_file.specs.declared.error.PosedError.{PosedError}
+use Rattle.lls_search_file.specs.declared.posed_fault.PosedFault.{PosedFault}
 use Rattle.lls_search_file.specs.declared.shape.Shape.{Shape}
 use Rattle.lls_search_file.specs.Posed.{IsPosed}
 use Rattle.lls_search_file.specs.Reading.{fault_if}
@@ -12,7 +12,7 @@ use Rattle.lls_search_file.specs.Counted.{ragged, too_high, too_low, row_counted
 use Rattle.lls_search_file.specs.Kept.{IsShape, IsNumbered, rows_ended}
 
 -- a test that finds no fault
-no_fault : (bad : Bool) (fault : PosedError) → fault_if bad fault ≡ None → bad ≡ false
+no_fault : (bad : Bool) (fault : PosedFault) → fault_if bad fault ≡ None → bad ≡ false
 no_fault true fault e = cc
 no_fault false fault e = refl
 

@@ -4,7 +4,7 @@ use Rattle.lls_base.specs.Results.{and_then}
 use Rattle.lls_text.specs.Lines.{lines_of}
 use Rattle.lls_search_file.specs.declared.cell.Cell.{Cell}
 use Rattle.lls_search_file.specs.declared.shape.Shape.{Shape}
-use Rattle.lls_search_file.specs.declared.error.PosedError.{PosedError}
+use Rattle.lls_search_file.specs.declared.posed_fault.PosedFault.{PosedFault}
 use Rattle.lls_search_file.specs.Reading.{names_of, posed_of}
 use Rattle.lls_search_file.specs.Counted.{Counts, no_shape, with_end, line_taken, lines_taken, at_end, file_of}
 use Rattle.lls_search_file.specs.Kept.{IsNumbered, words_in}
@@ -27,7 +27,7 @@ at_end-is shape end width height names cells ends wide high kept =
 abbrev Leads : List ℕ → ℕ → List (List ℕ) → Counts → Type 0
 Leads bytes number rest counts = lines_taken (number + 1) rest counts ≡ lines_taken 1 (lines_of bytes) (record { shape = no_shape; words = [] })
 
-pub posed_of-fault : (bytes line : List ℕ) (rest behind : List (List ℕ)) (number : ℕ) (counts : Counts) (fault : PosedError) → Leads bytes number rest counts → rest ≡ line ∷ behind
+pub posed_of-fault : (bytes line : List ℕ) (rest behind : List (List ℕ)) (number : ℕ) (counts : Counts) (fault : PosedFault) → Leads bytes number rest counts → rest ≡ line ∷ behind
     → line_taken (number + 1) line counts ≡ Err fault → posed_of bytes ≡ Err fault
 posed_of-fault bytes line rest behind number counts fault leads first bad =
     posed_of-counted bytes ∙ ap (λ read. and_then read at_end) (sym leads ∙ (ap (λ lines. lines_taken (number + 1) lines counts) first ∙ ap (λ read. and_then read (lines_taken ((number + 1) + 1) behind)) bad))

@@ -10,7 +10,7 @@ use Rattle.lls_text.specs.Words.{is_blank}
 use Rattle.lls_text.proofs.Printed.{list_all-weaker, lines_of-line}
 use Rattle.lls_grid.specs.Text.{blank, rows_text}
 use Rattle.lls_search_file.specs.declared.cell.Cell.{Cell}
-use Rattle.lls_search_file.specs.Words.{comma_byte, mark_byte, is_solid, pieces_of, cells_read, cell_before, row_of, ascii_or}
+use Rattle.lls_search_file.specs.Words.{comma_byte, mark_byte, is_of_word, pieces_of, cells_read, cell_before, row_of, ascii_or}
 use Rattle.lls_search_file.specs.Reading.{hash}
 use Rattle.lls_search_file.specs.Counted.{Counts, line_taken, with_words}
 use Rattle.lls_search_file.specs.Kept.{word_in, words_in, is_spelled}
@@ -43,8 +43,8 @@ not_blank b e = or_from _ _ (above _ (omega arith)) (above _ (omega arith))
     above : (low : ℕ) → low < mark_byte → eqb b low ≡ false
     above low below = ne_eqb b low (λ same. absurd (omega (arith, (word_byte b e).0, below, same)))
 
-solid_byte : (b : ℕ) → is_word_byte b ≡ true → is_solid b ≡ true
-solid_byte b e = rw (not_blank b e, (word_byte b e).2) refl
+byte_of_word : (b : ℕ) → is_word_byte b ≡ true → is_of_word b ≡ true
+byte_of_word b e = rw (not_blank b e, (word_byte b e).2) refl
 
 row_byte : (b : ℕ) → is_word_byte b ≡ true → is_row_byte b ≡ true
 row_byte b e =
@@ -62,7 +62,7 @@ line_reads names number column after_comma (cell ∷ cells) e = behind cells (λ
     behind [] more =
         let spelled = (and_parts (is_spelled (word_in names cell)) (are_spelled names cells) e).0 in
         let word = word_text names cell in
-        let solid : list_all is_solid word ≡ true = list_all-weaker is_word_byte is_solid solid_byte word (word_all names cell spelled) in
+        let solid : list_all is_of_word word ≡ true = list_all-weaker is_word_byte is_of_word byte_of_word word (word_all names cell spelled) in
         ap (λ bytes. cells_read number after_comma (pieces_of column bytes)) (sym (append-nil word)) ∙
         (ap (cells_read number after_comma) (word_then column word [] (some_word names cell spelled) solid refl) ∙
         ap (λ w. cell_before number column w (Ok [])) (word_reads names cell spelled))
@@ -70,7 +70,7 @@ line_reads names number column after_comma (cell ∷ cells) e = behind cells (λ
         let spelled = (and_parts (is_spelled (word_in names cell)) (are_spelled names cells) e).0 in
         let word = word_text names cell in
         let line = line_of names (next ∷ rest) in
-        let solid : list_all is_solid word ≡ true = list_all-weaker is_word_byte is_solid solid_byte word (word_all names cell spelled) in
+        let solid : list_all is_of_word word ≡ true = list_all-weaker is_word_byte is_of_word byte_of_word word (word_all names cell spelled) in
         ap (cells_read number after_comma) (word_then column word (blank ∷ line) (some_word names cell spelled) solid refl) ∙
         (ap (λ w. cell_before number column w (cells_read number false (pieces_of ((column + length word) + 1) line))) (word_reads names cell spelled) ∙
         ap (cell_before number column (Some (word_in names cell))) (more ((column + length word) + 1)))

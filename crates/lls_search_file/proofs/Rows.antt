@@ -7,9 +7,9 @@ use Rattle.std.specs.Char.{is_ascii}
 use Rattle.std.proofs.lemmas.Bool.{and_parts, leb-true, le-leb}
 use Rattle.lls_text.specs.Lines.{is_blank_line}
 use Rattle.lls_text.specs.Words.{is_blank}
-use Rattle.lls_search_file.specs.declared.error.PosedError.{PosedError}
+use Rattle.lls_search_file.specs.declared.posed_fault.PosedFault.{PosedFault}
 use Rattle.lls_search_file.specs.Posed.{is_name, same_text}
-use Rattle.lls_search_file.specs.Words.{minus_byte, Said, dead, live, free, named, negated, Word, Piece, word, comma, said_of, name_said_of, negated_name, word_of, has_mark, marked, pieces_of, before_word, begins_solid, is_comma, cells_read, cell_before, row_of, ascii_or}
+use Rattle.lls_search_file.specs.Words.{minus_byte, Said, dead, live, free, named, negated, Word, Piece, word, comma, said_of, name_said_of, negated_name, word_of, has_mark, marked, pieces_of, before_word, begins_in_word, is_comma, cells_read, cell_before, row_of, ascii_or}
 use Rattle.lls_search_file.specs.Kept.{is_spelled, is_said_spelled}
 
 spelled_said : Option Said → Bool
@@ -50,15 +50,15 @@ word_of-spelled bytes =
     ]
 
 -- the cells that were read are spelled, and there is one
-spelled_read : Result (List Word) PosedError → Bool
+spelled_read : Result (List Word) PosedFault → Bool
 spelled_read (Ok cells) = list_all is_spelled cells
 spelled_read (Err fault) = true
 
-some_read : Result (List Word) PosedError → Bool
+some_read : Result (List Word) PosedFault → Bool
 some_read (Ok cells) = leb 1 (length cells)
 some_read (Err fault) = true
 
-cell_before-spelled : (line column : ℕ) (cell : Option Word) (read : Result (List Word) PosedError) → spelled_word cell ≡ true → spelled_read read ≡ true → spelled_read (cell_before line column cell read) ≡ true
+cell_before-spelled : (line column : ℕ) (cell : Option Word) (read : Result (List Word) PosedFault) → spelled_word cell ≡ true → spelled_read read ≡ true → spelled_read (cell_before line column cell read) ≡ true
 unfolding spelled_word spelled_read
 cell_before-spelled line column None read e f = refl
 cell_before-spelled line column (Some cell) (Ok cells) e f = rw (e, f) refl
@@ -72,7 +72,7 @@ cells_read-spelled line false (comma column ∷ pieces) = cells_read-spelled lin
 cells_read-spelled line after_comma (word column bytes ∷ pieces) =
     cell_before-spelled line column (word_of bytes) (cells_read line false pieces) (word_of-spelled bytes) (cells_read-spelled line false pieces)
 
-cell_before-some : (line column : ℕ) (cell : Option Word) (read : Result (List Word) PosedError) → some_read (cell_before line column cell read) ≡ true
+cell_before-some : (line column : ℕ) (cell : Option Word) (read : Result (List Word) PosedFault) → some_read (cell_before line column cell read) ≡ true
 unfolding some_read
 cell_before-some line column None read = refl
 cell_before-some line column (Some cell) (Ok cells) = le-leb 1 (length (cell ∷ cells)) (omega arith)
@@ -89,19 +89,19 @@ cells_read-some line column [] e = cc
 cells_read-some line column (b ∷ bytes) e =
     let rest = pieces_of (column + 1) bytes in
     (elim (is_blank b) as (λ v. (v && list_all is_blank bytes) ≡ false
-    → some_read (cells_read line true (cond v rest (cond (is_comma b) (comma column ∷ rest) (cond (begins_solid bytes) (before_word column b rest) (word column (b ∷ []) ∷ rest))))) ≡ true) [
+    → some_read (cells_read line true (cond v rest (cond (is_comma b) (comma column ∷ rest) (cond (begins_in_word bytes) (before_word column b rest) (word column (b ∷ []) ∷ rest))))) ≡ true) [
       | true ↦ λ e. cells_read-some line (column + 1) bytes e
       | false ↦ λ e.
-          elim (is_comma b) as (λ v. some_read (cells_read line true (cond v (comma column ∷ rest) (cond (begins_solid bytes) (before_word column b rest) (word column (b ∷ []) ∷ rest)))) ≡ true) [
+          elim (is_comma b) as (λ v. some_read (cells_read line true (cond v (comma column ∷ rest) (cond (begins_in_word bytes) (before_word column b rest) (word column (b ∷ []) ∷ rest)))) ≡ true) [
             | true ↦ refl
-            | false ↦ elim (begins_solid bytes) as (λ v. some_read (cells_read line true (cond v (before_word column b rest) (word column (b ∷ []) ∷ rest))) ≡ true) [
+            | false ↦ elim (begins_in_word bytes) as (λ v. some_read (cells_read line true (cond v (before_word column b rest) (word column (b ∷ []) ∷ rest))) ≡ true) [
               | true ↦ before_word-some line column b rest
               | false ↦ cell_before-some line column (word_of (b ∷ [])) (cells_read line false rest)
             ]
           ]
     ]) e
 
-ascii_or-holds : (test : Result (List Word) PosedError → Bool) → ((fault : PosedError) → test (Err fault) ≡ true) → (line : ℕ) (place : Option ℕ) (read : Result (List Word) PosedError)
+ascii_or-holds : (test : Result (List Word) PosedFault → Bool) → ((fault : PosedFault) → test (Err fault) ≡ true) → (line : ℕ) (place : Option ℕ) (read : Result (List Word) PosedFault)
     → test read ≡ true → test (ascii_or line place read) ≡ true
 ascii_or-holds test on_err line None read e = e
 ascii_or-holds test on_err line (Some index) read e = on_err _

@@ -1,5 +1,5 @@
 pub mod Counted
-pub mod Faults
+pub mod FaultText
 pub mod Kept
 pub mod Plain
 pub mod Posed

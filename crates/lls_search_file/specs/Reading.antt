@@ -7,8 +7,8 @@ use Rattle.lls_grid.specs.declared.history.TheConstants.History.{MOST_GENERATION
 use Rattle.lls_search_file.specs.declared.cell.Cell.{Cell}
 use Rattle.lls_search_file.specs.declared.cell.Kind.{Kind}
 use Rattle.lls_search_file.specs.declared.cell.Kind.TheVariants.{Dead, Live, Free, Named, Negated}
-use Rattle.lls_search_file.specs.declared.error.PosedError.{PosedError}
-use Rattle.lls_search_file.specs.declared.error.PosedError.TheVariants.{Empty, Ragged, Sizes, TooWide, TooHigh, TooMany, TooManyCells}
+use Rattle.lls_search_file.specs.declared.posed_fault.PosedFault.{PosedFault}
+use Rattle.lls_search_file.specs.declared.posed_fault.PosedFault.TheVariants.{Empty, Ragged, Sizes, TooWide, TooHigh, TooMany, TooManyCells}
 use Rattle.lls_search_file.specs.Posed.{PosedFile, same_text}
 use Rattle.lls_search_file.specs.Words.{Said, dead, live, free, named, negated, Word, row_of}
 
@@ -30,40 +30,40 @@ abbrev pub all_rows : Rows → List (List Word)
 all_rows rows = joined rows.ended ++ rows.begun
 
 -- a fault where a test finds it
-abbrev pub fault_if : Bool → PosedError → Option PosedError
+abbrev pub fault_if : Bool → PosedFault → Option PosedFault
 fault_if bad fault = if bad then Some fault else None
 
 -- the first fault of a list, or the value where there is none
-abbrev pub unless_fault : {X : Type 0} → List (Option PosedError) → X → Result X PosedError
+abbrev pub unless_fault : {X : Type 0} → List (Option PosedFault) → X → Result X PosedFault
 unless_fault [] value = Ok value
 unless_fault (None ∷ faults) value = unless_fault faults value
 unless_fault (Some fault ∷ faults) value = Err fault
 
 -- a row of too many words
-abbrev pub too_wide : List Word → Option PosedError
+abbrev pub too_wide : List Word → Option PosedFault
 too_wide row = fault_if (nat_lt MOST_WIDTH (length row)) (TooWide (length row))
 
 -- a row that begins one generation too many
-abbrev pub too_many : List (List (List Word)) → List (List Word) → Option PosedError
+abbrev pub too_many : List (List (List Word)) → List (List Word) → Option PosedFault
 too_many ended [] = fault_if (length ended == MOST_GENERATIONS) (TooMany (MOST_GENERATIONS + 1))
 too_many ended (row ∷ rows) = None
 
 -- a row with another number of words than the first row of all
-abbrev pub ragged : ℕ → List (List Word) → List Word → Option PosedError
+abbrev pub ragged : ℕ → List (List Word) → List Word → Option PosedFault
 ragged line [] row = None
 ragged line (first ∷ rows) row = fault_if (not (length row == length first)) (Ragged line (length first) (length row))
 
 -- one row too many for the generation that goes on: for the first, or one more than the first has
-abbrev pub too_high : List (List (List Word)) → List (List Word) → Option PosedError
+abbrev pub too_high : List (List (List Word)) → List (List Word) → Option PosedFault
 too_high [] begun = fault_if (length begun == MOST_HEIGHT) (TooHigh (MOST_HEIGHT + 1))
 too_high (first ∷ later) begun = fault_if (length begun == length first) (Sizes (length (first ∷ later)) (length first) (length first + 1))
 
 -- rows of too many words together
-abbrev pub too_many_cells : List (List Word) → Option PosedError
+abbrev pub too_many_cells : List (List Word) → Option PosedFault
 too_many_cells rows = fault_if (nat_lt MOST_CELLS (sum_by length rows)) (TooManyCells (sum_by length rows))
 
 -- what may be wrong with one more row, the first fault first
-abbrev pub row_faults : ℕ → Rows → List Word → List (Option PosedError)
+abbrev pub row_faults : ℕ → Rows → List Word → List (Option PosedFault)
 row_faults line rows row =
     too_wide row ∷
     too_many rows.ended rows.begun ∷
@@ -73,16 +73,16 @@ row_faults line rows row =
     []
 
 -- one more row, or its first fault
-abbrev pub row_added : ℕ → Rows → List Word → Result Rows PosedError
+abbrev pub row_added : ℕ → Rows → List Word → Result Rows PosedFault
 row_added line rows row = unless_fault (row_faults line rows row) (record { ended = rows.ended; begun = rows.begun ++ row ∷ [] })
 
 -- a generation that ends with fewer rows than the first has
-abbrev pub too_low : List (List (List Word)) → List (List Word) → Option PosedError
+abbrev pub too_low : List (List (List Word)) → List (List Word) → Option PosedFault
 too_low [] rows = None
 too_low (first ∷ later) rows = fault_if (nat_lt (length rows) (length first)) (Sizes (length (first ∷ later)) (length first) (length rows))
 
 -- the generations, where the one that goes on ends, if any does
-abbrev pub generations_ended : List (List (List Word)) → List (List Word) → Result (List (List (List Word))) PosedError
+abbrev pub generations_ended : List (List (List Word)) → List (List Word) → Result (List (List (List Word))) PosedFault
 generations_ended ended [] = Ok ended
 generations_ended ended (row ∷ rows) = unless_fault (too_low ended (row ∷ rows) ∷ []) (ended ++ (row ∷ rows) ∷ [])
 
@@ -91,14 +91,14 @@ abbrev pub hash : ℕ
 hash = 35
 
 -- one more line: a comment, a line that separates generations, or a row
-abbrev pub line_read : ℕ → List ℕ → Rows → Result Rows PosedError
+abbrev pub line_read : ℕ → List ℕ → Rows → Result Rows PosedFault
 line_read number line rows =
     if begins_with hash line then Ok rows else
     if is_blank_line line then and_then (generations_ended rows.ended rows.begun) (λ ended. Ok (record { ended = ended; begun = [] })) else
     and_then (row_of number line) (row_added number rows)
 
 -- the rows after the lines from a number on
-abbrev pub lines_read : ℕ → List (List ℕ) → Rows → Result Rows PosedError
+abbrev pub lines_read : ℕ → List (List ℕ) → Rows → Result Rows PosedFault
 lines_read number [] rows = Ok rows
 lines_read number (line ∷ lines) rows = and_then (line_read number line rows) (lines_read (number + 1) lines)
 
@@ -140,15 +140,15 @@ file_sized generations height width words = record {
 }
 
 -- the file of generations: its height is that of the first one, its width that of the first row
-abbrev pub file_read : List (List (List Word)) → Result PosedFile PosedError
+abbrev pub file_read : List (List (List Word)) → Result PosedFile PosedFault
 file_read [] = Err Empty
 file_read (first ∷ later) =
     Ok (file_sized (length (first ∷ later)) (length first) (length (slice_index_or first 0 [])) (joined (joined (first ∷ later))))
 
 -- the end of the text ends the generation that goes on
-abbrev pub end_read : Rows → Result PosedFile PosedError
+abbrev pub end_read : Rows → Result PosedFile PosedFault
 end_read rows = and_then (generations_ended rows.ended rows.begun) file_read
 
 -- the value of a search file, or its first fault
-unfoldable pub posed_of : List ℕ → Result PosedFile PosedError
+unfoldable pub posed_of : List ℕ → Result PosedFile PosedFault
 posed_of bytes = and_then (lines_read 1 (lines_of bytes) no_rows) end_read

@@ -5,8 +5,8 @@ use Rattle.std.specs.List.{position}
 use Rattle.std.specs.Char.{is_ascii}
 use Rattle.lls_base.specs.Results.{and_then}
 use Rattle.lls_text.specs.Words.{is_blank}
-use Rattle.lls_search_file.specs.declared.error.PosedError.{PosedError}
-use Rattle.lls_search_file.specs.declared.error.PosedError.TheVariants.{BadCell, NotAscii}
+use Rattle.lls_search_file.specs.declared.posed_fault.PosedFault.{PosedFault}
+use Rattle.lls_search_file.specs.declared.posed_fault.PosedFault.TheVariants.{BadCell, NotAscii}
 use Rattle.lls_search_file.specs.Posed.{is_name, same_text}
 
 -- the bytes with a meaning of their own: `,` between cells, `-` before a name, `'` behind a marked cell
@@ -70,12 +70,12 @@ abbrev pub is_comma : ℕ → Bool
 is_comma b = b == comma_byte
 
 -- a byte that belongs to a word
-abbrev pub is_solid : ℕ → Bool
-is_solid b = not (is_blank b || is_comma b)
+abbrev pub is_of_word : ℕ → Bool
+is_of_word b = not (is_blank b || is_comma b)
 
-abbrev pub begins_solid : List ℕ → Bool
-begins_solid [] = false
-begins_solid (b ∷ bs) = is_solid b
+abbrev pub begins_in_word : List ℕ → Bool
+begins_in_word [] = false
+begins_in_word (b ∷ bs) = is_of_word b
 
 -- a byte of a word before the pieces behind it: it begins a word of its own, unless a word follows at once
 abbrev pub before_word : ℕ → ℕ → List Piece → List Piece
@@ -92,24 +92,24 @@ before_pieces column b joined pieces =
 -- the pieces of a row whose first byte has a column
 abbrev pub pieces_of : ℕ → List ℕ → List Piece
 pieces_of column [] = []
-pieces_of column (b ∷ bs) = before_pieces column b (begins_solid bs) (pieces_of (column + 1) bs)
+pieces_of column (b ∷ bs) = before_pieces column b (begins_in_word bs) (pieces_of (column + 1) bs)
 
 -- a cell before the cells behind it
-abbrev pub cell_before : ℕ → ℕ → Option Word → Result (List Word) PosedError → Result (List Word) PosedError
+abbrev pub cell_before : ℕ → ℕ → Option Word → Result (List Word) PosedFault → Result (List Word) PosedFault
 cell_before line column None cells = Err (BadCell line column)
 cell_before line column (Some cell) cells = and_then cells (λ behind. Ok (cell ∷ behind))
 
 -- the cells of a row's pieces: no comma stands before the first cell or behind another comma
-abbrev pub cells_read : ℕ → Bool → List Piece → Result (List Word) PosedError
+abbrev pub cells_read : ℕ → Bool → List Piece → Result (List Word) PosedFault
 cells_read line after_comma [] = Ok []
 cells_read line after_comma (comma column ∷ pieces) = if after_comma then Err (BadCell line column) else cells_read line true pieces
 cells_read line after_comma (word column bytes ∷ pieces) = cell_before line column (word_of bytes) (cells_read line false pieces)
 
 -- every byte of a row is ASCII
-abbrev pub ascii_or : ℕ → Option ℕ → Result (List Word) PosedError → Result (List Word) PosedError
+abbrev pub ascii_or : ℕ → Option ℕ → Result (List Word) PosedFault → Result (List Word) PosedFault
 ascii_or line None cells = cells
 ascii_or line (Some index) cells = Err (NotAscii line (index + 1))
 
 -- the cells of a row, or its first fault
-abbrev pub row_of : ℕ → List ℕ → Result (List Word) PosedError
+abbrev pub row_of : ℕ → List ℕ → Result (List Word) PosedFault
 row_of line bytes = ascii_or line (position (λ b. not (is_ascii b)) bytes) (cells_read line true (pieces_of 1 bytes))

@@ -2,10 +2,13 @@
 #![tactic(auto)]
 
 mod cell;
-mod error;
+mod history_error;
+mod history_fault;
 mod names;
 mod plain;
 mod posed;
+mod posed_error;
+mod posed_fault;
 mod print;
 mod read;
 mod row;
@@ -13,8 +16,11 @@ mod shape;
 mod word;
 
 pub use cell::{Cell, Cells, Kind};
-pub use error::PosedError;
-pub use plain::{HistoryError, read_history};
+pub use history_error::HistoryError;
+pub use history_fault::HistoryFault;
+pub use plain::read_history;
 pub use posed::{Names, Posed};
+pub use posed_error::PosedError;
+pub use posed_fault::PosedFault;
 pub use print::print_posed;
 pub use read::read_posed;

@@ -33,7 +33,7 @@ pub(crate) fn push_words<'t>(
     Ok(())
 }
 
-/// The cell of a word, its name numbered.
+// The cell of a word, its name numbered.
 fn number<'t>(word: Word<'t>, names: &mut IndexSet<&'t [u8]>) -> Result<Cell, Memory>
     requires most { length names.old.keys < 2 ^ 32 }
     ensures cell { IfOk result (λ cell. cell ≡ cell_said (texts names.old.keys) (seen_word word.entry)) }
@@ -52,7 +52,7 @@ fn number<'t>(word: Word<'t>, names: &mut IndexSet<&'t [u8]>) -> Result<Cell, Me
     })
 }
 
-/// The number of a name, which is the next one where the name is new.
+// The number of a name, which is the next one where the name is new.
 fn number_of<'t>(name: &'t [u8], names: &mut IndexSet<&'t [u8]>) -> Result<u32, Memory>
     requires most { length names.old.keys < 2 ^ 32 }
     ensures number { IfOk result (λ number. number ≡ position_or_len (same_text name.entry.now) (texts names.old.keys)) }
@@ -74,7 +74,7 @@ pub(crate) fn owned_names(alloc: Global, names: &IndexSet<&[u8]>) -> Result<Vec<
     Ok(owned)
 }
 
-/// A name with its own memory.
+// A name with its own memory.
 fn owned_name(alloc: Global, name: &[u8]) -> Result<Name, Memory>
     requires { is_name name.now ≡ true }
     ensures { IfOk result (λ owned. owned ≡ name.now) }

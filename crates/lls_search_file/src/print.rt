@@ -36,7 +36,7 @@ pub fn print_posed(alloc: Global, posed: &Posed) -> Result<Vec<u8>, Memory>
     Ok(text)
 }
 
-/// Puts rows behind a text.
+// Puts rows behind a text.
 fn push_rows(
     cells: &[Cell],
     height: u32,
@@ -57,7 +57,7 @@ fn push_rows(
     Ok(())
 }
 
-/// Puts a row behind a text.
+// Puts a row behind a text.
 fn push_row(row: &[Cell], names: &[Name], text: &mut Vec<u8>) -> Result<(), Memory>
     requires { list_all (is_named_within (length names.now)) row.now ≡ true }
     ensures { OnOk result (text.new.items ≡ text.old.items ++ row_text (map (word_text names.now) row.now)) }
@@ -72,7 +72,7 @@ fn push_row(row: &[Cell], names: &[Name], text: &mut Vec<u8>) -> Result<(), Memo
     Ok(())
 }
 
-/// Puts a cell's word behind a text.
+// Puts a cell's word behind a text.
 fn push_word(cell: Cell, names: &[Name], text: &mut Vec<u8>) -> Result<(), Memory>
     requires { is_named_within (length names.now) cell ≡ true }
     ensures { OnOk result (text.new.items ≡ text.old.items ++ word_text names.now cell) }
@@ -84,7 +84,7 @@ fn push_word(cell: Cell, names: &[Name], text: &mut Vec<u8>) -> Result<(), Memor
     Ok(())
 }
 
-/// Puts a cell's word without its mark behind a text.
+// Puts a cell's word without its mark behind a text.
 fn push_body(kind: Kind, names: &[Name], text: &mut Vec<u8>) -> Result<(), Memory>
     requires { IfSome (name_of kind) (λ number. number < length names.now) }
     ensures { OnOk result (text.new.items ≡ text.old.items ++ body_text names.now kind) }
@@ -102,7 +102,7 @@ fn push_body(kind: Kind, names: &[Name], text: &mut Vec<u8>) -> Result<(), Memor
     Ok(())
 }
 
-/// Puts the name of a number behind a text.
+// Puts the name of a number behind a text.
 fn push_name(number: u32, names: &[Name], text: &mut Vec<u8>) -> Result<(), Memory>
     requires { number < length names.now }
     ensures { OnOk result (text.new.items ≡ text.old.items ++ slice_index_or names.now number []) }

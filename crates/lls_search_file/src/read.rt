@@ -1,7 +1,7 @@
 // The reading of search files.
 ghost use Rattle.std.specs.Prelude.{◌≡◌, ◌≤◌, true, length, map, OnOk};
 ghost use Rattle.std.specs.List.{list_all};
-ghost use Rattle.lls_base.specs.Results.{Gives};
+ghost use Rattle.lls_base.specs.Results.{GivesWrapped};
 ghost use Rattle.lls_search_file.specs.Reading.{posed_of};
 ghost use Rattle.lls_search_file.specs.Counted.{line_taken, with_words, at_end};
 ghost use Rattle.lls_search_file.specs.Seen.{seen_word};
@@ -12,14 +12,14 @@ use crate::names::{owned_names, push_words};
 use crate::row::read_row;
 use crate::shape::Shape;
 use crate::word::Word;
-use crate::{Cell, Cells, Names, Posed, PosedError};
+use crate::{Cell, Cells, Names, Posed, PosedError, PosedFault};
 use indexmap::IndexSet;
 use lls_text::{Lines, begins_with, is_blank_line};
 use std::alloc::Global;
 
 /// The value of a search file.
 pub fn read_posed(alloc: Global, bytes: &[u8]) -> Result<Posed, PosedError>
-    ensures { Gives PosedError.Memory (λ posed. posed) result (posed_of bytes.now) }
+    ensures { GivesWrapped PosedError.Fault (λ posed. posed) result (posed_of bytes.now) }
 {
     let mut reader = Reader {
         shape: Shape::NONE,
@@ -34,7 +34,7 @@ pub fn read_posed(alloc: Global, bytes: &[u8]) -> Result<Posed, PosedError>
     reader.finish(alloc)
 }
 
-/// What the lines so far have given.
+// What the lines so far have given.
 #[derive(Drop)]
 struct Reader<'t> {
     shape: Shape,
@@ -43,10 +43,10 @@ struct Reader<'t> {
 }
 
 impl<'t> Reader<'t> {
-    /// Reads one more line.
+    // Reads one more line.
     fn take_line(&mut self, alloc: Global, number: u64, line: &'t [u8]) -> Result<(), PosedError>
         requires kept { IsReader self.old }
-        ensures counts { Gives PosedError.Memory (λ _. counts_of self.new) result (line_taken number line.entry.now (counts_of self.old)) }
+        ensures counts { GivesWrapped PosedError.Fault (λ _. counts_of self.new) result (line_taken number line.entry.now (counts_of self.old)) }
         ensures kept { OnOk result (IsReader self.new) }
     {
         if begins_with(line, b'#') {
@@ -60,12 +60,12 @@ impl<'t> Reader<'t> {
         self.take_row(number, &words)
     }
 
-    /// Takes the cells of one more row.
+    // Takes the cells of one more row.
     fn take_row(&mut self, number: u64, words: &[Word<'t>]) -> Result<(), PosedError>
         requires kept { IsReader self.old }
         requires some { 1 ≤ length words.now }
         requires spelled { list_all is_spelled (map seen_word words.now) ≡ true }
-        ensures counts { Gives PosedError.Memory (λ _. counts_of self.new) result (with_words number (counts_of self.old) (map seen_word words.now)) }
+        ensures counts { GivesWrapped PosedError.Fault (λ _. counts_of self.new) result (with_words number (counts_of self.old) (map seen_word words.now)) }
         ensures kept { OnOk result (IsReader self.new) }
     {
         let shape = self.shape.with_row(number, words.len() as u64)?;
@@ -74,10 +74,10 @@ impl<'t> Reader<'t> {
         Ok(())
     }
 
-    /// The file, where the text ends here.
+    // The file, where the text ends here.
     fn finish(self, alloc: Global) -> Result<Posed, PosedError>
         requires kept { IsReader self }
-        ensures { Gives PosedError.Memory (λ posed. posed) result (at_end (counts_of self.entry)) }
+        ensures { GivesWrapped PosedError.Fault (λ posed. posed) result (at_end (counts_of self.entry)) }
     {
         let Reader {
             shape,
@@ -86,7 +86,7 @@ impl<'t> Reader<'t> {
         } = self;
         let shape = shape.with_end()?;
         let (Some(width), Some(height)) = (shape.width, shape.height) else {
-            return Err(PosedError::Empty);
+            return Err(PosedError::Fault(PosedFault::Empty));
         };
         let names = owned_names(alloc, &names)?;
         Ok(Posed {

@@ -3,7 +3,7 @@ ghost use Rattle.std.specs.Prelude.{◌≡◌, ◌<◌, ◌≤◌, ◌^◌, ◌+
 ghost use Rattle.lls_search_file.specs.Counted.{ragged, too_high, too_low, with_row, with_end};
 ghost use Rattle.lls_search_file.specs.Kept.{IsShape};
 
-use crate::PosedError;
+use crate::PosedFault;
 use lls_grid::History;
 
 /// The sizes of the rows read so far.
@@ -32,7 +32,7 @@ impl Shape {
     };
 
     /// The sizes with one more row of that many cells.
-    pub fn with_row(self, line: u64, found: u64) -> Result<Shape, PosedError>
+    pub fn with_row(self, line: u64, found: u64) -> Result<Shape, PosedFault>
         requires shape { IsShape self }
         requires cells { 1 ≤ found }
         requires cells_in { found < 2 ^ 63 }
@@ -41,11 +41,11 @@ impl Shape {
         ensures cells { IfOk result (λ shape. shape.cells ≡ self.cells + found) }
     {
         if found > u64::from(History::MOST_WIDTH) {
-            return Err(PosedError::TooWide(found));
+            return Err(PosedFault::TooWide(found));
         }
         let found = found as u32;
         if self.rows == 0 && self.ended == History::MOST_GENERATIONS {
-            return Err(PosedError::TooMany(u64::from(History::MOST_GENERATIONS) + 1));
+            return Err(PosedFault::TooMany(u64::from(History::MOST_GENERATIONS) + 1));
         }
         if let Some(fault) = self.ragged(line, found) {
             return Err(fault);
@@ -55,7 +55,7 @@ impl Shape {
         }
         let cells = self.cells + found;
         if cells > History::MOST_CELLS {
-            return Err(PosedError::TooManyCells(u64::from(cells)));
+            return Err(PosedFault::TooManyCells(u64::from(cells)));
         }
         Ok(Shape {
             width: self.width.or(Some(found)),
@@ -65,36 +65,36 @@ impl Shape {
         })
     }
 
-    /// Why a row of that many cells doesn't go with the first.
-    fn ragged(self, line: u64, found: u32) -> Option<PosedError>
+    // Why a row of that many cells doesn't go with the first.
+    fn ragged(self, line: u64, found: u32) -> Option<PosedFault>
         ensures { result ≡ ragged line found self.width }
     {
         match self.width {
             Some(width) if width != found => {
-                Some(PosedError::Ragged(line, u64::from(width), u64::from(found)))
+                Some(PosedFault::Ragged(line, u64::from(width), u64::from(found)))
             }
             _ => None,
         }
     }
 
-    /// Why the generation that goes on has no room for a row.
-    fn too_high(self) -> Option<PosedError>
+    // Why the generation that goes on has no room for a row.
+    fn too_high(self) -> Option<PosedFault>
         ensures { result ≡ too_high self.rows self.ended self.height }
     {
         match self.height {
             None if self.rows == History::MOST_HEIGHT => {
-                Some(PosedError::TooHigh(u64::from(History::MOST_HEIGHT) + 1))
+                Some(PosedFault::TooHigh(u64::from(History::MOST_HEIGHT) + 1))
             }
             Some(height) if self.rows == height => {
                 let height = u64::from(height);
-                Some(PosedError::Sizes(u64::from(self.ended), height, height + 1))
+                Some(PosedFault::Sizes(u64::from(self.ended), height, height + 1))
             }
             _ => None,
         }
     }
 
     /// The sizes where the generation that goes on ends.
-    pub fn with_end(self) -> Result<Shape, PosedError>
+    pub fn with_end(self) -> Result<Shape, PosedFault>
         requires shape { IsShape self }
         ensures sizes { result ≡ with_end self }
         ensures shape { IfOk result IsShape }
@@ -115,14 +115,14 @@ impl Shape {
         })
     }
 
-    /// Why the generation that goes on can't end.
-    fn too_low(self) -> Option<PosedError>
+    // Why the generation that goes on can't end.
+    fn too_low(self) -> Option<PosedFault>
         ensures { result ≡ too_low self.rows self.ended self.height }
     {
         match self.height {
             Some(height) if self.rows < height => {
                 let (ended, rows) = (u64::from(self.ended), u64::from(self.rows));
-                Some(PosedError::Sizes(ended, u64::from(height), rows))
+                Some(PosedFault::Sizes(ended, u64::from(height), rows))
             }
             _ => None,
         }

@@ -4,7 +4,7 @@ ghost use Rattle.std.specs.Option.{option_map};
 ghost use Rattle.std.specs.List.{take_while, list_all};
 ghost use Rattle.std.specs.Char.{is_ascii_alphanumeric};
 ghost use Rattle.lls_search_file.specs.Posed.{is_name};
-ghost use Rattle.lls_search_file.specs.Words.{said_of, name_said_of, word_of, is_solid};
+ghost use Rattle.lls_search_file.specs.Words.{said_of, name_said_of, word_of, is_of_word};
 ghost use Rattle.lls_search_file.specs.Seen.{seen_said, seen_word};
 
 use crate::Names;
@@ -39,7 +39,7 @@ pub(crate) fn read_word(word: &[u8]) -> Option<Word<'_>>
     Some(Word { mark, says })
 }
 
-/// What a word without its mark says.
+// What a word without its mark says.
 fn read_body(body: &[u8]) -> Option<Said<'_>>
     ensures { option_map seen_said result ≡ said_of body.now }
 {
@@ -51,7 +51,7 @@ fn read_body(body: &[u8]) -> Option<Said<'_>>
     }
 }
 
-/// A name, or `-` and a name.
+// A name, or `-` and a name.
 fn read_name(body: &[u8]) -> Option<Said<'_>>
     ensures { option_map seen_said result ≡ name_said_of body.now }
 {
@@ -68,7 +68,7 @@ fn read_name(body: &[u8]) -> Option<Said<'_>>
     }
 }
 
-/// Whether a text is a letter and then letters or digits, at most `Names::MOST_BYTES` bytes.
+// Whether a text is a letter and then letters or digits, at most `Names::MOST_BYTES` bytes.
 fn is_name(text: &[u8]) -> bool
     ensures { result ≡ is_name text.now }
 {
@@ -88,14 +88,14 @@ fn are_letters_or_digits(text: &[u8]) -> bool
 
 /// How many bytes the word has that stands first.
 pub(crate) fn word_len(bytes: &[u8]) -> usize
-    ensures { result ≡ length (take_while is_solid bytes.now) }
+    ensures { result ≡ length (take_while is_of_word bytes.now) }
 {
-    bytes.iter().take_while(|byte| is_solid(**byte)).count()
+    bytes.iter().take_while(|byte| is_of_word(**byte)).count()
 }
 
-/// Whether a byte belongs to a word: it is neither blank nor comma.
-fn is_solid(byte: u8) -> bool
-    ensures { result ≡ is_solid byte }
+// Whether a byte belongs to a word: it is neither blank nor comma.
+fn is_of_word(byte: u8) -> bool
+    ensures { result ≡ is_of_word byte }
 {
     !is_blank(byte) && byte != b','
 }

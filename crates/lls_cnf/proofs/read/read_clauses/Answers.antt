@@ -9,7 +9,9 @@ pub returns-then-not-is_empty-clause-clauses : goal.returns-then-not-is_empty-cl
 returns-then-not-is_empty-clause-clauses c =
     let i = c.loop-word.invariant in
     let some : 0 < length c.loop-word.clause.items = grind (arith, common_steps) in
-    λ _. clauses_in-open c.args.vars c.args.words c.loop-word.words c.loop-word.formula.clauses c.loop-word.clause.items c.in_default.ensures.0 i.fault i.numbers i.clause some
+    λ fault is.
+    let open_at_end = clauses_in-open c.args.vars c.args.words c.loop-word.words c.loop-word.formula.clauses c.loop-word.clause.items c.in_default.ensures.0 i.fault i.numbers i.clause some in
+    cc
 
 pub returns-clause-clauses : goal.returns-clause-clauses
 returns-clause-clauses c =

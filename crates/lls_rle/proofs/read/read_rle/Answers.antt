@@ -25,4 +25,4 @@ pub returns : goal.returns
 returns c =
     let n = c.args.width * c.args.height in
     let dead : c.in_ok-vec.field-0.items ≡ replicate n false = search rules in
-    read_whole c.args.height c.args.width n c.in_ok-vec.field-0.items c.args.bytes.now (tokens_of_lines (c.in-Some.number + 1) c.header_number.new.lines) c.take_lines.result dead (ap (body_of 1) (sym c.new-lines.ensures) ∙ c.in-Some.ensures.found) c.take_lines.ensures
+    read_whole c.args.height c.args.width n c.in_ok-vec.field-0.items c.args.bytes.now (tokens_of_lines (c.in-Some.number + 1) c.header_number.new.lines) c.take_lines.result dead (ap (body_of 1) (sym c.new-lines.ensures) ∙ c.in-Some.ensures.found) c.take_lines.ensures ∙ c.in_ok-take_lines.was

@@ -13,8 +13,8 @@ pub returns-in_err-take_line : goal.returns-in_err-take_line
 returns-in_err-take_line c =
     let counts = counts_of c.loop-line.reader in
     let p = err_from_is_err_and c.from_residual.result c.from_residual.ensures.1 in
-    rw (p.1, p.2) (λ other. posed_of-fault c.args.bytes.now c.in-Some.line.now c.loop-line.line-iterator c.next.new.self c.loop-line.number counts c.in_err-take_line.field-0.0 c.loop-line.invariant.lines
-    c.in-Some.ensures.steps (c.in_err-take_line.ensures.counts other))
+    rw (p.1, p.2) (λ fault is. posed_of-fault c.args.bytes.now c.in-Some.line.now c.loop-line.line-iterator c.next.new.self c.loop-line.number counts fault c.loop-line.invariant.lines
+    c.in-Some.ensures.steps (c.in_err-take_line.ensures.counts fault is))
 
 pub returns : goal.returns
 returns c =
