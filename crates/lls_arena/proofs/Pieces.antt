@@ -1,11 +1,12 @@
 -- Pieces of a buffer that changes within one span.
-use Rattle.std.proofs.Common.{◌≡◌, ◌⊎◌, inl, inr, ℕ, zero, suc, ◌+◌, ◌-◌, ◌<◌, ◌≤◌, List, [], ◌∷◌, length, get_or, set, take, drop, refl, sym, ap, subst, ◌∙◌, arith}
-use Rattle.std.specs.Prelude.{ℤ, pos, swap}
+use Rattle.std.proofs.Common.{◌≡◌, ◌≢◌, ◌⊎◌, inl, inr, ℕ, zero, suc, ◌+◌, ◌-◌, ◌<◌, ◌≤◌, List, [], ◌∷◌, length, get_or, set, take, drop, refl, sym, ap, subst, ◌∙◌, arith}
+use Rattle.std.specs.Prelude.{ℤ, pos, Bool, true, false, not, swap}
 use Rattle.std.specs.List.{SwappedAt, slice_range}
 use Rattle.std.proofs.lemmas.List.{drop-set-add, get_or-drop, get_or-take, length-drop, length-take, same_lists}
 use Rattle.std.proofs.lemmas.List.Edits.{swap_is}
 use Rattle.lls_arena.specs.declared.edges.Edges.{Edges}
-use Rattle.lls_arena.specs.Arena.{HeadState, changed_at, swapped}
+use Rattle.lls_arena.specs.Arena.{HeadState, changed_at, place_of, swapped}
+use Rattle.lls_arena.specs.Links.{with_lit}
 use Rattle.lls_arena.specs.Parts.{AreAllWatched, AreInOrder, AreWatched, DifferWithin, SpanState, head_at, heads_in}
 use Rattle.lls_arena.proofs.Buffer.{AreInOrder-le}
 use Rattle.lls_arena.proofs.Heads.{between}
@@ -116,18 +117,22 @@ DifferWithin-swapped xs ys s e i j swaps same first second = record {
   clash k (inl before) n at from to = omega arith
   clash k (inr after) n at from to = omega arith
 
--- edges that watch the first two literals of a piece
-pub AreWatched-piece : (lits piece : List ℤ) (e : Edges) (s : SpanState) → piece ≡ slice_range lits s.start s.end → s.end ≤ length lits
-    → (0 < length piece → e.first.lit ≡ get_or piece 0 (pos 0))
-    → (1 < length piece → e.second.lit ≡ get_or piece 1 (pos 0))
-    → AreWatched lits e s
-AreWatched-piece lits piece e s is within first second =
-    let long : length piece ≡ s.end - s.start = ap length is ∙ length-slice_range lits s.start s.end within in
-    let at : (k : ℕ) → k < s.end - s.start → get_or piece k (pos 0) ≡ get_or lits (s.start + k) (pos 0) = λ k lt. ap (λ (ls : List ℤ). get_or ls k (pos 0)) is ∙ get_or-slice_range lits s.start s.end k (pos 0) lt in
-    record {
-      first = λ lt. first (omega (arith, long)) ∙ at 0 (omega arith) ∙ ap (λ n. get_or lits n (pos 0)) (omega arith);
-      second = λ lt. second (omega (arith, long)) ∙ at 1 (omega arith);
-    }
+-- an edge that watches the literal which came to its place
+pub AreWatched-swapped : (xs ys : List ℤ) (e : Edges) (s : SpanState) (w : Bool) (n : ℕ) (lit : ℤ) → SwappedAt xs ys (s.start + place_of w) (s.start + n) → n ≢ place_of (not w)
+    → lit ≡ get_or ys (s.start + place_of w) (pos 0) → AreWatched xs e s → AreWatched ys (with_lit w lit e) s
+AreWatched-swapped xs ys e s false n lit swaps beside is watched = record {
+  first = λ lt. is ∙ ap (λ k. get_or ys k (pos 0)) (omega arith);
+  second = λ lt. watched.second lt ∙ sym (swaps.2 (s.start + 1) (pos 0) (λ same. omega (arith, same)) (λ same. beside (omega (arith, same))));
+}
+AreWatched-swapped xs ys e s true n lit swaps beside is watched = record {
+  first = λ lt. watched.first lt ∙ sym (swaps.2 s.start (pos 0) (λ same. omega (arith, same)) (λ same. beside (omega (arith, same))));
+  second = λ lt. is;
+}
+
+-- it leads where it led
+pub with_lit_links : (w : Bool) (lit : ℤ) (e : Edges) → ((with_lit w lit e).first.next ≡ e.first.next) × ((with_lit w lit e).second.next ≡ e.second.next)
+with_lit_links false lit e = (refl, refl)
+with_lit_links true lit e = (refl, refl)
 
 -- a clause whose literals changed places
 pub head_at-swapped : (xs ys : List ℤ) (e new : Edges) (s : SpanState) (i j : ℕ) → slice_range ys s.start s.end ≡ swap (slice_range xs s.start s.end) i j → new.first.next ≡ e.first.next → new.second.next ≡ e.second.next → head_at ys new s ≡ swapped i j (head_at xs e s)

@@ -1,5 +1,5 @@
 // An arena of clauses.
-ghost use Rattle.std.specs.Prelude.{◌≡◌, ◌<◌, ◌≤◌, ◌+◌, ◌-◌, [], ◌∷◌, ◌++◌, false, true, length, map, slice_get, take, Some, IfSome, OnOk};
+ghost use Rattle.std.specs.Prelude.{◌≡◌, ◌≢◌, ◌<◌, ◌≤◌, ◌+◌, ◌-◌, [], ◌∷◌, ◌++◌, false, true, not, length, map, slice_get, take, Some, IfSome, OnOk};
 ghost use Rattle.std.specs.List.{slice_range};
 ghost use Rattle.std.specs.Option.{ForSome};
 ghost use Rattle.lls_arena.specs.declared.TheConstants.{MOST_HEADS, MOST_LITS};
@@ -7,7 +7,7 @@ ghost use Rattle.lls_arena.specs.Arena.{IsLive, changed_at, compacted, empty_are
 ghost use Rattle.lls_arena.specs.Links.{link_in};
 ghost use Rattle.lls_arena.specs.Parts.{AreAllWatched, AreInOrder, AreSlid, AreTold, DifferWithin, HaveRows, heads_in, spans_in};
 
-use crate::edges::{Edges, Link};
+use crate::edges::{Edges, Link, place};
 use crate::{MOST_HEADS, MOST_LITS};
 use lls_base::Memory;
 use lls_lit::Lit;
@@ -170,18 +170,21 @@ impl Arena {
         self.planned = false;
     }
 
-    /// Puts two literals of a live clause in each other's place. The edges watch the first two as before.
+    /// Puts the literal of a live clause's first edge, or of its second where `w`, and the one at place n in each other's place. The edge
+    /// watches the one that came. The other edge's literal isn't at n.
     #[inline]
-    pub fn swap(&mut self, c: u32, i: usize, j: usize)
+    pub fn swap(&mut self, c: u32, w: bool, n: usize)
         requires live { IsLive self.old.heads c }
-        requires first { ForSome (slice_get self.old.heads c) (λ head. i < length head.lits) }
-        requires second { ForSome (slice_get self.old.heads c) (λ head. j < length head.lits) }
-        ensures { self.new ≡ record self.old { heads = changed_at (swapped i j) c self.old.heads } }
+        requires first { ForSome (slice_get self.old.heads c) (λ head. place_of w < length head.lits) }
+        requires second { ForSome (slice_get self.old.heads c) (λ head. n < length head.lits) }
+        requires beside { n ≢ place_of (not w) }
+        ensures { self.new ≡ record self.old { heads = changed_at (swapped (place_of w) n) c self.old.heads } }
     {
-        let span = self.spans[c as usize];
-        let start = span.start as usize;
-        self.lits.swap(start + i, start + j);
-        self.edges[c as usize].watch(piece(&self.lits, start, span.end as usize));
+        let start = self.spans[c as usize].start as usize;
+        let here = start + place(w);
+        self.lits.swap(here, start + n);
+        let lit = self.lits[here];
+        self.edges[c as usize].watch(w, lit);
     }
 
     /// Makes a live clause dead.

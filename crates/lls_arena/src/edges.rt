@@ -1,7 +1,8 @@
 // The hot part of a clause.
 ghost use Rattle.std.specs.Prelude.{◌≡◌, ◌<◌, pos, if◌then◌else◌, length, slice_index_or, None, Some};
 ghost use Rattle.lls_arena.specs.declared.TheConstants.{MOST_HEADS};
-ghost use Rattle.lls_arena.specs.Links.{link_in, with_next};
+ghost use Rattle.lls_arena.specs.Arena.{place_of};
+ghost use Rattle.lls_arena.specs.Links.{link_in, with_lit, with_next};
 
 use lls_lit::Lit;
 
@@ -95,19 +96,15 @@ impl Edges {
         if w { self.second.lit } else { self.first.lit }
     }
 
-    // Watches the first two of these literals, as far as they are there.
+    // Watches another literal by one edge.
     #[inline]
-    pub(crate) fn watch(&mut self, lits: &[Lit])
-        ensures first { 0 < length lits.now → self.new.first.lit ≡ slice_index_or lits.now 0 (pos 0) }
-        ensures second { 1 < length lits.now → self.new.second.lit ≡ slice_index_or lits.now 1 (pos 0) }
-        ensures first_link { self.new.first.next ≡ self.old.first.next }
-        ensures second_link { self.new.second.next ≡ self.old.second.next }
+    pub(crate) fn watch(&mut self, w: bool, lit: Lit)
+        ensures { self.new ≡ with_lit w lit self.old }
     {
-        if lits.len() > 0 {
-            self.first.lit = lits[0];
-        }
-        if lits.len() > 1 {
-            self.second.lit = lits[1];
+        if w {
+            self.second.lit = lit;
+        } else {
+            self.first.lit = lit;
         }
     }
 
@@ -164,6 +161,14 @@ impl Edge {
             lit,
         }
     }
+}
+
+// Where an edge's literal stands in its clause.
+#[inline]
+pub(crate) fn place(w: bool) -> usize
+    ensures { result ≡ place_of w }
+{
+    if w { 1 } else { 0 }
 }
 
 // Stands where there is no literal to watch.

@@ -15,7 +15,7 @@ use std::test::Fail;
 enum Step {
     // Puts these literals at the tail, keeps so many, and seals them under this id.
     Seal(&'static [i32], usize, u64),
-    Swap(u32, usize, usize),
+    Swap(u32, bool, usize),
     SetLink(u32, bool, Option<u32>),
     Kill(u32),
     // What follows is where each clause is to go. Nothing is asked of a dead one.
@@ -80,7 +80,7 @@ const ROWS: [Row; 14] = [
     },
     // The first literal goes, and the first edge keeps its link.
     Row {
-        step: Step::Swap(0, 0, 2),
+        step: Step::Swap(0, false, 2),
         heads: &[
             (7, true, &[3, -2, 1], Some(3), Some(0)),
             (9, true, &[4], None, None),
@@ -89,7 +89,7 @@ const ROWS: [Row; 14] = [
         ],
     },
     Row {
-        step: Step::Swap(0, 2, 1),
+        step: Step::Swap(0, true, 2),
         heads: &[
             (7, true, &[3, 1, -2], Some(3), Some(0)),
             (9, true, &[4], None, None),
@@ -165,15 +165,16 @@ fn sealed(arena: &mut Arena, numbers: &[i32], keep: usize, id: u64) -> Result<()
     Ok(())
 }
 
-fn swapped(arena: &mut Arena, c: u32, i: usize, j: usize) -> Result<(), Fail> {
+fn swapped(arena: &mut Arena, c: u32, w: bool, n: usize) -> Result<(), Fail> {
     if c >= arena.count() || !arena.live(c) {
         return Err(Fail::from("a live clause"));
     }
     let len = arena.lits(c).len();
-    if i >= len || j >= len {
-        return Err(Fail::from("two literals of the clause"));
+    let (watched, other) = if w { (1, 0) } else { (0, 1) };
+    if watched >= len || n >= len || n == other {
+        return Err(Fail::from("a watched literal, and one that the other edge doesn't watch"));
     }
-    arena.swap(c, i, j);
+    arena.swap(c, w, n);
     Ok(())
 }
 
@@ -218,7 +219,7 @@ fn compacted(arena: &mut Arena, places: &[u32]) -> Result<(), Fail> {
 fn stepped(arena: &mut Arena, step: Step) -> Result<(), Fail> {
     match step {
         Step::Seal(numbers, keep, id) => sealed(arena, numbers, keep, id),
-        Step::Swap(c, i, j) => swapped(arena, c, i, j),
+        Step::Swap(c, w, n) => swapped(arena, c, w, n),
         Step::SetLink(c, w, next) => linked(arena, c, w, next),
         Step::Kill(c) => killed(arena, c),
         Step::Compact(places) => compacted(arena, places),

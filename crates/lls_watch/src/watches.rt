@@ -196,7 +196,7 @@ impl Watches {
         ensures state { self.new ≡ begun c n self.old }
         ensures threaded { (lists : Lists) → IsThreaded self.old lists → IsInNone lists self.old c → IsThreaded self.new (with_begun lists self.old c n) }
     {
-        self.arena.swap(c, 1, n);
+        self.arena.swap(c, true, n);
         self.attach(c, false);
         self.attach(c, true);
     }
@@ -234,7 +234,7 @@ impl Watches {
         ensures threaded { (lists : Lists) → IsThreaded self.old lists → IsNotIn lists self.old c w
             → IsThreaded self.new (with_attached lists (swapped_at self.old c w n) c w) }
     {
-        self.arena.swap(c, place(w), n);
+        self.arena.swap(c, w, n);
         self.attach(c, w);
     }
 }
@@ -256,12 +256,4 @@ fn empty_lists(first: &mut [Link])
     for start in first.iter_mut() {
         *start = nowhere;
     }
-}
-
-// Where an edge's literal stands in its clause.
-#[inline]
-fn place(w: bool) -> usize
-    ensures { result ≡ place_of w }
-{
-    if w { 1 } else { 0 }
 }

@@ -66,12 +66,13 @@ impl Script {
     }
 
     fn swap(&mut self, c: u32) -> Result<(), Fail> {
-        let i = self.below(5) as usize;
-        let j = self.below(5) as usize;
+        let w = self.below(2) == 1;
+        let n = self.below(5) as usize;
+        let (watched, other) = if w { (1, 0) } else { (0, 1) };
         if let Some(kept) = self.list.get_mut(c as usize) {
-            if kept.live && i < kept.lits.len() && j < kept.lits.len() {
-                kept.lits.swap(i, j);
-                swapped(&mut self.arena, c, i, j)?;
+            if kept.live && watched < kept.lits.len() && n < kept.lits.len() && n != other {
+                kept.lits.swap(watched, n);
+                swapped(&mut self.arena, c, w, n)?;
             }
         }
         Ok(())

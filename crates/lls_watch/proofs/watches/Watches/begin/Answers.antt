@@ -1,9 +1,12 @@
-use Rattle.std.proofs.Common.{◌≡◌, map, true, false, ap, sym, subst, ◌∙◌}
+use Rattle.std.proofs.Common.{◌≡◌, map, true, false, ap, sym, subst, ◌∙◌, arith}
 use Rattle.lls_arena.specs.Arena.{ArenaState}
 use Rattle.lls_arena.specs.Links.{link_in}
 use Rattle.lls_watch.specs.Watches.{WatchState, IsThreaded, WatchesAt, attached, swapped_at, with_begun}
 use Rattle.lls_watch.proofs.Begun.{begun_first, begun_second, begun_threaded}
 use Rattle.lls_watch.proofs.watches.Watches.begin.Goals as goal
+
+pub swap-requires-clause-beside : goal.swap-requires-clause-beside
+swap-requires-clause-beside c = λ same. omega (arith, c.requires.clause.behind, same)
 
 pub attach-requires : goal.attach-requires
 attach-requires c =
