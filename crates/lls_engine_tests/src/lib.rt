@@ -20,3 +20,5 @@ mod store_removal;
 mod store_trail;
 #[cfg(test)]
 mod store_worked;
+#[cfg(test)]
+mod stores_agree;
