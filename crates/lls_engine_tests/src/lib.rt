@@ -7,6 +7,8 @@ mod analyse;
 #[cfg(test)]
 mod arena;
 #[cfg(test)]
+mod draws;
+#[cfg(test)]
 mod order;
 #[cfg(test)]
 mod solver;
@@ -18,3 +20,5 @@ mod store_removal;
 mod store_trail;
 #[cfg(test)]
 mod store_worked;
+#[cfg(test)]
+mod stores_agree;

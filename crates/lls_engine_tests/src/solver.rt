@@ -1,9 +1,9 @@
 // Formulas that are searched: what each comes to, and how many clauses are learnt.
-ghost use Rattle.std.specs.Prelude.{◌≡◌, ◌<◌, ◌≤◌, [], true, IfOk};
-ghost use Rattle.lls_lit.specs.Formula.{is_literal_of};
+ghost use Rattle.std.specs.Prelude.{◌≡◌, ◌≤◌, []};
 
+use crate::draws::Draws;
 use lls_cnf::{Formula, MOST_DIMACS_BYTES, holds, read_dimacs};
-use lls_lit::{Lit, Var};
+use lls_lit::Var;
 use lls_prooflog::{Log, print_log};
 use lls_solver::{MOST_BUDGET, Outcome, solve};
 use std::alloc::Global;
@@ -75,31 +75,6 @@ fn compare(
     assert_found(rt, alloc, &formula, budget, want)
 }
 
-// A linear congruential generator, with the numbers of ANSI C's sample `rand`.
-#[derive(Drop)]
-struct Draws {
-    state: u32,
-}
-
-impl Draws {
-    // A number below that one.
-    fn below(&mut self, end: u32) -> u32
-        requires { 0 < end }
-        ensures { result < end }
-    {
-        self.state = self.state.wrapping_mul(1_103_515_245).wrapping_add(12_345) & 0x7fff_ffff;
-        (self.state >> 16) % end
-    }
-
-    fn literal(&mut self, vars: u32) -> Result<Lit, Fail>
-        requires { 0 < vars }
-        ensures { IfOk result (λ lit. is_literal_of vars lit ≡ true) }
-    {
-        let var = Var::from_number(self.below(vars) + 1).ok_or("a variable")?;
-        Ok(Lit::new(var, self.below(2) == 0))
-    }
-}
-
 // Puts in a clause of three literals, drawn one after the other: first the variable, and then whether it is negated.
 fn push_drawn(formula: &mut Formula, draws: &mut Draws) -> Result<(), Fail> {
     let vars = formula.vars();
@@ -119,7 +94,7 @@ fn random_formula(alloc: Global, vars: u32, clauses: u32, seed: u32) -> Result<F
     requires { vars ≤ Var.MOST }
 {
     let mut formula = Formula::new(alloc, vars);
-    let mut draws = Draws { state: seed };
+    let mut draws = Draws::new(seed);
     for _ in 0..clauses {
         push_drawn(&mut formula, &mut draws)?;
     }

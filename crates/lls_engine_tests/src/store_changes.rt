@@ -124,7 +124,7 @@ const ROWS: [Row; 17] = [
 ];
 
 // The literal of one of the variables that DIMACS writes so.
-fn literal(number: i32) -> Result<Lit, Fail>
+pub(crate) fn literal(number: i32) -> Result<Lit, Fail>
     ensures { IfOk result (λ lit. is_literal_of VARS lit ≡ true) }
 {
     let lit = Lit::from_number(number).ok_or("a literal")?;
@@ -167,7 +167,7 @@ fn added<S: Store>(
 }
 
 // Whether this literal and that one are a clause that may be learnt.
-fn may_learn(trail: &Trail, first: Lit, second: Lit) -> bool
+pub(crate) fn may_learn(trail: &Trail, first: Lit, second: Lit) -> bool
     requires vars { trail.now.vars ≡ VARS }
     requires first { is_literal_of VARS first ≡ true }
     requires second { is_literal_of VARS second ≡ true }

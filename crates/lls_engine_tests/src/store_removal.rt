@@ -141,7 +141,7 @@ const ROWS: [Row; 9] = [
 ];
 
 // Whether no entry has the clause of that number as its reason.
-fn is_no_reason(trail: &Trail, c: u32) -> bool
+pub(crate) fn is_no_reason(trail: &Trail, c: u32) -> bool
     ensures { IsTrue result → IsNoReason trail.now.entries c }
 {
     for k in 0..trail.len() {
@@ -154,7 +154,7 @@ fn is_no_reason(trail: &Trail, c: u32) -> bool
     true
 }
 
-fn added<S: Store>(
+pub(crate) fn added<S: Store>(
     alloc: Global,
     store: &mut S,
     trail: &Trail,
@@ -200,7 +200,7 @@ fn all_added<S: Store>(
     Ok(now)
 }
 
-fn removed<S: Store>(store: &mut S, trail: &Trail, last: u64, c: u32) -> Result<(), Fail>
+pub(crate) fn removed<S: Store>(store: &mut S, trail: &Trail, last: u64, c: u32) -> Result<(), Fail>
     requires tracked { S.tracks store.old trail.now }
     requires sound { IsSound (S.state store.old).live trail.now }
     requires resting { IsResting (S.state store.old) last }

@@ -1,7 +1,6 @@
 // Arenas beside plain lists of clauses: the same drawn calls on both.
-ghost use Rattle.std.specs.Prelude.{◌<◌};
-
 use super::{assert_head, compacted, killed, linked, sealed, swapped};
+use crate::draws::Draws;
 use lls_arena::Arena;
 use std::alloc::Global;
 use std::process::Abort;
@@ -17,42 +16,32 @@ struct Kept {
     second: Option<u32>,
 }
 
-// An arena, the list of what it is to have, and a linear congruential generator with the numbers of ANSI C's sample `rand`.
+// An arena, the list of what it is to have, and what is drawn.
 #[derive(Drop)]
 struct Script {
     arena: Arena,
     list: Vec<Kept>,
-    state: u32,
+    draws: Draws,
 }
 
 impl Script {
-    // A number below that one.
-    fn below(&mut self, end: u32) -> u32
-        requires { 0 < end }
-        ensures { result < end }
-    {
-        self.state = self.state.wrapping_mul(1_103_515_245).wrapping_add(12_345) & 0x7fff_ffff;
-        (self.state >> 16) % end
-    }
-
     // The place of a clause of the list, where there is any.
     fn clause(&mut self) -> Option<u32> {
         let count = self.arena.count();
         if count == 0 {
             return None;
         }
-        Some(self.below(count))
+        Some(self.draws.below(count))
     }
 
     // Up to five literals of nine variables, of which so many at the front are kept.
     fn seal(&mut self, alloc: Global) -> Result<(), Fail> {
         let mut lits = Vec::new(alloc);
-        for _ in 0..self.below(6) {
-            let number = self.below(9) as i32 + 1;
-            lits.push(if self.below(2) == 0 { number } else { -number })?;
+        for _ in 0..self.draws.below(6) {
+            lits.push(self.draws.number(9))?;
         }
-        let keep = self.below(7) as usize;
-        let id = self.below(1000) as u64;
+        let keep = self.draws.below(7) as usize;
+        let id = self.draws.below(1000) as u64;
         sealed(&mut self.arena, &lits, keep, id)?;
         lits.truncate(keep);
         self.list.push(Kept {
@@ -66,8 +55,8 @@ impl Script {
     }
 
     fn swap(&mut self, c: u32) -> Result<(), Fail> {
-        let w = self.below(2) == 1;
-        let n = self.below(5) as usize;
+        let w = self.draws.below(2) == 1;
+        let n = self.draws.below(5) as usize;
         let (watched, other) = if w { (1, 0) } else { (0, 1) };
         if let Some(kept) = self.list.get_mut(c as usize) {
             if kept.live && watched < kept.lits.len() && n < kept.lits.len() && n != other {
@@ -79,8 +68,8 @@ impl Script {
     }
 
     fn link(&mut self, c: u32) -> Result<(), Fail> {
-        let w = self.below(2) == 1;
-        let next = match self.below(100) {
+        let w = self.draws.below(2) == 1;
+        let next = match self.draws.below(100) {
             0..=9 => None,
             n => Some(n),
         };
@@ -129,7 +118,7 @@ impl Script {
     }
 
     fn step(&mut self, alloc: Global) -> Result<(), Fail> {
-        let call = self.below(20);
+        let call = self.draws.below(20);
         match self.clause() {
             Some(c) => match call {
                 0..=6 => self.seal(alloc),
@@ -176,7 +165,7 @@ fn an_arena_goes_along_with_a_list(rt: HostRuntime) -> Result<(), Fail> {
         let mut script = Script {
             arena: Arena::new(rt.alloc()),
             list: Vec::new(rt.alloc()),
-            state: seed,
+            draws: Draws::new(seed),
         };
         for _ in 0..100 {
             script.step(rt.alloc())?;
