@@ -6,14 +6,14 @@ use Rattle.std.proofs.lemmas.List.{take_all}
 use Rattle.lls_base.specs.Shelf.{Files}
 use Rattle.lls_words.specs.declared.error.WordsError.{WordsError}
 use Rattle.lls_words.specs.declared.job.Job.{Job}
+use Rattle.lls_cli.specs.declared.question.Question.{Question}
+use Rattle.lls_cli.specs.declared.answer_file.AnswerFile.{AnswerFile}
+use Rattle.lls_cli.specs.declared.answer.Answer.{Answer}
 use Rattle.lls_cli.specs.declared.fault.Fault.{Fault}
 use Rattle.lls_cli.specs.declared.fault.Fault.TheVariants as faults
 use Rattle.lls_cli.specs.declared.fault.OutsideFault.TheVariants as outside
 use Rattle.lls_cli.specs.declared.status.Status.{Status}
 use Rattle.lls_cli.specs.declared.status.Status.TheVariants as statuses
-use Rattle.lls_cli.specs.Evidence.{NamedFile}
-use Rattle.lls_cli.specs.Answer.{GivenAnswer}
-use Rattle.lls_cli.specs.Question.{Question}
 use Rattle.lls_cli.specs.Moment.{ShelfMoment, Moment, files_at}
 use Rattle.lls_cli.specs.Ends.{LeavesPart, with_file, End, refused, lacked, input_failed, ahead_failed, answered, file_failed, output_failed, ahead_of, IsEnd}
 use Rattle.lls_cli.specs.Claims.{IsAnswered, IsBegun, IsBegunFor, LeavesBegun}
@@ -22,7 +22,7 @@ use Rattle.lls_cli.proofs.Changes.{option_map-none}
 use Rattle.lls_cli.proofs.Consequences.{no_fault_status, is_answered, ahead_part, of_question}
 
 -- a file that failed
-begun_some : (fault : Fault) (file : NamedFile) (before after : Option Files) → LeavesPart fault file before after → IsBegun (Some file) before after
+begun_some : (fault : Fault) (file : AnswerFile) (before after : Option Files) → LeavesPart fault file before after → IsBegun (Some file) before after
 begun_some (faults.Outside outside.CreateFailed) file before after part = inl part
 begun_some (faults.Outside outside.WriteFailed) file before after part = inr (part.0, part.2)
 begun_some (faults.Outside outside.NoFile) file before after part = absurd part
@@ -38,22 +38,22 @@ begun_some (faults.Rle error) file before after part = absurd part
 begun_some (faults.TooLong limit) file before after part = absurd part
 begun_some faults.Memory file before after part = absurd part
 
-begun : (written : Option NamedFile) (fault : Fault) (file : NamedFile) (before after : Option Files) → written ≡ Some file → LeavesPart fault file before after → IsBegun written before after
+begun : (written : Option AnswerFile) (fault : Fault) (file : AnswerFile) (before after : Option Files) → written ≡ Some file → LeavesPart fault file before after → IsBegun written before after
 begun written fault file before after is part = subst (λ w. IsBegun w before after) (sym is) (begun_some fault file before after part)
 
 -- a file that was written whole has all of its text
-whole : (written : Option NamedFile) (before after : Option Files) → after ≡ option_map (with_file written) before → IsBegun written before after
+whole : (written : Option AnswerFile) (before after : Option Files) → after ≡ option_map (with_file written) before → IsBegun written before after
 whole None before after is = is ∙ option_map-none before
 whole (Some file) before after is =
     inr (length file.bytes, is ∙ ap (λ bytes. option_map (λ files. map.insert files file.name bytes) before) (sym (take_all (length file.bytes) file.bytes (omega arith))))
 
 -- the files once the one that is written ahead stands
-ahead_files : (ahead : Option NamedFile) (before mid : ShelfMoment) → WroteAhead ahead before mid → files_at mid ≡ option_map (with_file ahead) (files_at before)
+ahead_files : (ahead : Option AnswerFile) (before mid : ShelfMoment) → WroteAhead ahead before mid → files_at mid ≡ option_map (with_file ahead) (files_at before)
 ahead_files None before mid same = ap files_at same ∙ sym (option_map-none (files_at before))
 ahead_files (Some file) before mid wrote = wrote.files
 
 -- the file of an answer was begun from there
-behind_ahead : (question : Question) (answer : GivenAnswer) (before mid : ShelfMoment) (after : Option Files) → WroteAhead (ahead_of question) before mid
+behind_ahead : (question : Question) (answer : Answer) (before mid : ShelfMoment) (after : Option Files) → WroteAhead (ahead_of question) before mid
     → IsBegun answer.file (files_at mid) after → IsBegun answer.file (option_map (with_file (ahead_of question)) (files_at before)) after
 behind_ahead question answer before mid after wrote is = subst (λ files. IsBegun answer.file files after) (ahead_files (ahead_of question) before mid wrote) is
 

@@ -2,18 +2,19 @@
 use Rattle.std.proofs.Common.{◌≡◌, Option, None, Some, Ok, refl, sym, subst, inl, inr, ◌⊎◌}
 use Rattle.lls_base.specs.Shelf.{Files}
 use Rattle.lls_words.specs.declared.job.Job.{Job}
+use Rattle.lls_cli.specs.declared.question.Question.{Question}
+use Rattle.lls_cli.specs.declared.answer_file.AnswerFile.{AnswerFile}
 use Rattle.lls_cli.specs.declared.status.Status.{Status}
-use Rattle.lls_cli.specs.Question.{Question, Asks}
-use Rattle.lls_cli.specs.Evidence.{NamedFile}
+use Rattle.lls_cli.specs.Question.{Asks}
 use Rattle.lls_cli.specs.Moment.{ShelfMoment, Moment, with_shelf}
 use Rattle.lls_cli.specs.Ends.{LacksMemory, WroteFile, End, refused, lacked, input_failed, ahead_failed, answered, file_failed, output_failed, IsEndOf, IsEndBehind, Ends, ahead_of}
 
 -- the file stands, or there is none and the shelf is as before
-abbrev pub WroteAhead : Option NamedFile → ShelfMoment → ShelfMoment → Type 0
+abbrev pub WroteAhead : Option AnswerFile → ShelfMoment → ShelfMoment → Type 0
 WroteAhead None before after = after ≡ before
 WroteAhead (Some file) before after = WroteFile (Some file) before after
 
-pub ahead_faults : (file : Option NamedFile) (before after : ShelfMoment) → WroteAhead file before after → after.faults ≡ before.faults
+pub ahead_faults : (file : Option AnswerFile) (before after : ShelfMoment) → WroteAhead file before after → after.faults ≡ before.faults
 ahead_faults None before after same = subst (λ (s : ShelfMoment). s.faults ≡ before.faults) (sym same) refl
 ahead_faults (Some file) before after wrote = wrote.faults
 
@@ -25,12 +26,12 @@ HasAnswer (output_failed answer) = Unit {0}
 HasAnswer end = ⊥
 
 -- an end with an answer, from where the file stands
-pub record Behind (ahead : Option NamedFile) (question : Question) (before after : Moment) (status : Status) (end : End) : Type 0 where
+pub record Behind (ahead : Option AnswerFile) (question : Question) (before after : Moment) (status : Status) (end : End) : Type 0 where
   pub mid : ShelfMoment
   pub wrote : WroteAhead ahead before.shelf mid
   pub ended : IsEndOf question (with_shelf before mid) after status end
 
-pub behind : (ahead : Option NamedFile) (question : Question) (before after : Moment) (status : Status) (end : End) → HasAnswer end → IsEndBehind ahead question before after status end
+pub behind : (ahead : Option AnswerFile) (question : Question) (before after : Moment) (status : Status) (end : End) → HasAnswer end → IsEndBehind ahead question before after status end
     → Behind ahead question before after status end
 behind None question before after status end has ended = record { mid = before.shelf; wrote = refl; ended = ended }
 behind (Some file) question before after status (answered answer) has ended = record { mid = ended.0; wrote = ended.1; ended = ended.2 }
@@ -43,7 +44,7 @@ behind (Some file) question before after status (ahead_failed fault) has ended =
 
 -- want of memory behind some file, or none
 pub record Lacking (before after : Moment) (status : Status) : Type 0 where
-  pub ahead : Option NamedFile
+  pub ahead : Option AnswerFile
   pub mid : ShelfMoment
   pub wrote : WroteAhead ahead before.shelf mid
   pub lacks : LacksMemory (with_shelf before mid) after status
@@ -51,7 +52,7 @@ pub record Lacking (before after : Moment) (status : Status) : Type 0 where
 lacking_at_once : (before after : Moment) (status : Status) → LacksMemory before after status → Lacking before after status
 lacking_at_once before after status lacks = record { ahead = None; mid = before.shelf; wrote = refl; lacks = lacks }
 
-lacking_behind : (ahead : Option NamedFile) (question : Question) (before after : Moment) (status : Status) → IsEndBehind ahead question before after status lacked → Lacking before after status
+lacking_behind : (ahead : Option AnswerFile) (question : Question) (before after : Moment) (status : Status) → IsEndBehind ahead question before after status lacked → Lacking before after status
 lacking_behind None question before after status lacks = lacking_at_once before after status lacks
 lacking_behind (Some file) question before after status (inl lacks) = lacking_at_once before after status lacks
 lacking_behind (Some file) question before after status (inr behind) = record { ahead = Some file; mid = behind.0; wrote = behind.1; lacks = behind.2 }

@@ -7,10 +7,10 @@ use Rattle.std.specs.FinMap as map
 use Rattle.std.specs.Option.{option_map}
 use Rattle.lls_base.specs.Shelf.{Files}
 use Rattle.lls_base.proofs.FileMaps.{same_name-false}
+use Rattle.lls_cli.specs.declared.answer_file.AnswerFile.{AnswerFile}
 use Rattle.lls_cli.specs.declared.fault.Fault.{Fault}
 use Rattle.lls_cli.specs.declared.fault.Fault.TheVariants as faults
 use Rattle.lls_cli.specs.declared.fault.OutsideFault.TheVariants as outside
-use Rattle.lls_cli.specs.Evidence.{NamedFile}
 use Rattle.lls_cli.specs.Moment.{ShelfMoment, files_at}
 use Rattle.lls_cli.specs.Ends.{WroteFile, LeavesPart, with_file}
 use Rattle.lls_cli.specs.Claims.{ChangesOnly}
@@ -19,10 +19,10 @@ pub option_map-none : (files : Option Files) → option_map (with_file None) fil
 option_map-none None = refl
 option_map-none (Some files) = refl
 
-pub wrote_none : (file : Option NamedFile) (before after : ShelfMoment) → file ≡ None → WroteFile file before after → files_at after ≡ files_at before
+pub wrote_none : (file : Option AnswerFile) (before after : ShelfMoment) → file ≡ None → WroteFile file before after → files_at after ≡ files_at before
 wrote_none file before after none wrote = wrote.files ∙ ap (λ f. option_map (with_file f) (files_at before)) none ∙ option_map-none (files_at before)
 
-pub wrote_some : (file : Option NamedFile) (some : NamedFile) (before after : ShelfMoment) → file ≡ Some some → WroteFile file before after
+pub wrote_some : (file : Option AnswerFile) (some : AnswerFile) (before after : ShelfMoment) → file ≡ Some some → WroteFile file before after
     → files_at after ≡ option_map (λ files. map.insert files some.name some.bytes) (files_at before)
 wrote_some file some before after is wrote = wrote.files ∙ ap (λ f. option_map (with_file f) (files_at before)) is
 
@@ -65,7 +65,7 @@ pub inserted : (name bytes : List ℕ) (before after : Option Files) → after �
 inserted name bytes before after is = λ other apart. ap (option_map (λ files. map.get files other)) is ∙ found_other name other bytes before (All-head (λ changed. other ≢ changed) name [] apart)
 
 -- a file that wasn't written whole changed alone
-pub part_changes : (fault : Fault) (file : NamedFile) (before after : Option Files) → LeavesPart fault file before after → ChangesOnly (file.name ∷ []) before after
+pub part_changes : (fault : Fault) (file : AnswerFile) (before after : Option Files) → LeavesPart fault file before after → ChangesOnly (file.name ∷ []) before after
 part_changes (faults.Outside outside.CreateFailed) file before after part = changes_none (file.name ∷ []) before after part
 part_changes (faults.Outside outside.WriteFailed) file before after part = inserted file.name (take part.0 file.bytes) before after part.2
 part_changes (faults.Outside outside.NoFile) file before after part = absurd part

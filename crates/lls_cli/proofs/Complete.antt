@@ -4,10 +4,11 @@ use Rattle.lls_base.specs.Faults.{Rose}
 use Rattle.lls_base.specs.Shelf.{Files}
 use Rattle.lls_words.specs.declared.error.WordsError.{WordsError}
 use Rattle.lls_words.specs.declared.job.Job.{Job}
+use Rattle.lls_cli.specs.declared.question.Question.{Question}
 use Rattle.lls_cli.specs.declared.fault.Fault.{Fault}
 use Rattle.lls_cli.specs.declared.status.Status.{Status}
 use Rattle.lls_cli.specs.declared.status.Status.TheVariants as statuses
-use Rattle.lls_cli.specs.Question.{Question, question_of, Asks}
+use Rattle.lls_cli.specs.Question.{question_of, Asks}
 use Rattle.lls_cli.specs.Answer.{Holds}
 use Rattle.lls_cli.specs.Moment.{Moment, files_at}
 use Rattle.lls_cli.specs.Ends.{End, refused, lacked, input_failed, ahead_failed, answered, file_failed, output_failed, ahead_of, IsEnd}

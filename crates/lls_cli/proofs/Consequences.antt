@@ -12,15 +12,17 @@ use Rattle.lls_problem.specs.declared.demands.DemandError.TheVariants as demands
 use Rattle.lls_words.specs.declared.error.WordsError.{WordsError}
 use Rattle.lls_words.specs.declared.error.WordsError.TheVariants as words
 use Rattle.lls_words.specs.declared.job.Job.{Job}
+use Rattle.lls_cli.specs.declared.question.Question.{Question}
+use Rattle.lls_cli.specs.declared.answer_file.AnswerFile.{AnswerFile}
+use Rattle.lls_cli.specs.declared.answer.Answer.{Answer}
 use Rattle.lls_cli.specs.declared.fault.Fault.{Fault}
 use Rattle.lls_cli.specs.declared.fault.Fault.TheVariants as faults
 use Rattle.lls_cli.specs.declared.fault.OutsideFault.TheVariants as outside
 use Rattle.lls_cli.specs.declared.status.Status.{Status}
 use Rattle.lls_cli.specs.declared.status.Status.TheVariants as statuses
 use Rattle.lls_cli.specs.Fault.{status_of, words_status, posed_status, demand_status, dimacs_status}
-use Rattle.lls_cli.specs.Evidence.{NamedFile}
-use Rattle.lls_cli.specs.Answer.{GivenAnswer, IsAnswer, Holds, YesHolds, NoHolds, SomeHolds, NoneHolds, HasShortBudget}
-use Rattle.lls_cli.specs.Question.{Question, Asking, of_none, of_one, of_two, asking_of, question_by, question_of, AsksBy, Asks, input_of}
+use Rattle.lls_cli.specs.Answer.{IsAnswer, Holds, YesHolds, NoHolds, SomeHolds, NoneHolds, HasShortBudget}
+use Rattle.lls_cli.specs.Question.{Asking, of_none, of_one, of_two, asking_of, question_by, question_of, AsksBy, Asks, input_of}
 use Rattle.lls_cli.specs.Moment.{ShelfMoment, SinkMoment, Moment, files_at}
 use Rattle.lls_cli.specs.Ends.{FileFailed, WroteFile, IsDecided, End, refused, lacked, input_failed, ahead_failed, answered, file_failed, output_failed, IsEndBehind, Ends, ahead_of, IsEnd}
 use Rattle.lls_cli.proofs.Behind.{answer_of, WroteAhead, ahead_faults, lacking}
@@ -165,7 +167,7 @@ holds_status question statuses.Outside holds = absurd holds
 holds_status question statuses.Memory holds = absurd holds
 holds_status question statuses.Limit holds = absurd holds
 
-pub is_answered : (question : Question) (answer : GivenAnswer) (status : Status) → IsAnswer question answer → status ≡ answer.status → IsAnswered status
+pub is_answered : (question : Question) (answer : Answer) (status : Status) → IsAnswer question answer → status ≡ answer.status → IsAnswered status
 is_answered question answer status right is = subst IsAnswered (sym is) (holds_status question answer.status right.holds)
 
 silent_answered : (status : Status) → IsAnswered status → IsSilent status → ⊥
@@ -186,7 +188,7 @@ silent_answered status given silent = no_fault_status status (silent_fault statu
 pub ahead_part : (question : Question) (before after : Moment) (status : Status) (fault : Fault) → Ends question before after status (ahead_failed fault)
     → FileFailed (ahead_of question) fault before after status
 ahead_part question before after status fault ended = part (ahead_of question) ended where
-  part : (ahead : Option NamedFile) → IsEndBehind ahead question before after status (ahead_failed fault) → FileFailed ahead fault before after status
+  part : (ahead : Option AnswerFile) → IsEndBehind ahead question before after status (ahead_failed fault) → FileFailed ahead fault before after status
   part None ended = absurd ended
   part (Some file) ended = ended
 
@@ -289,7 +291,7 @@ IsAsked (Err error) files question = ⊥
 -- an end at an answer's status is an answer that was given
 pub record Meant (job : Result Job WordsError) (before after : Moment) (status : Status) : Type 0 where
   pub question : Question
-  pub answer : GivenAnswer
+  pub answer : Answer
   pub status_is : status ≡ answer.status
   pub right : IsAnswer question answer
   pub mid : ShelfMoment
@@ -371,7 +373,7 @@ same_shelf : (before after : ShelfMoment) → after ≡ before → before.faults
 same_shelf before after e = same-≤ before.faults after.faults (ap (λ (s : ShelfMoment). s.faults) e)
 
 -- the count of the shelf from before a file that was written ahead
-from_ahead : (ahead : Option NamedFile) (before mid : ShelfMoment) (count : ℕ) → WroteAhead ahead before mid → mid.faults ≤ count → before.faults ≤ count
+from_ahead : (ahead : Option AnswerFile) (before mid : ShelfMoment) (count : ℕ) → WroteAhead ahead before mid → mid.faults ≤ count → before.faults ≤ count
 from_ahead ahead before mid count wrote less = omega (arith, ahead_faults ahead before mid wrote, less)
 
 -- no count of faults falls

@@ -8,6 +8,10 @@ use Rattle.lls_words.specs.declared.error.WordsError.{WordsError}
 use Rattle.lls_words.specs.declared.error.WordsError.TheVariants as words
 use Rattle.lls_words.specs.declared.job.Job.{Job}
 use Rattle.lls_words.specs.declared.job.Job.TheVariants as jobs
+use Rattle.lls_cli.specs.declared.question.Question.{Question}
+use Rattle.lls_cli.specs.declared.question.Question.TheVariants as questions
+use Rattle.lls_cli.specs.declared.answer_file.AnswerFile.{AnswerFile}
+use Rattle.lls_cli.specs.declared.answer.Answer.{Answer}
 use Rattle.lls_cli.specs.declared.fault.Fault.{Fault}
 use Rattle.lls_cli.specs.declared.fault.Fault.TheVariants as faults
 use Rattle.lls_cli.specs.declared.fault.OutsideFault.{OutsideFault}
@@ -15,15 +19,14 @@ use Rattle.lls_cli.specs.declared.fault.OutsideFault.TheVariants as outside
 use Rattle.lls_cli.specs.declared.status.Status.{Status}
 use Rattle.lls_cli.specs.declared.status.Status.TheVariants as statuses
 use Rattle.lls_cli.specs.Fault.{fault_line, words_fault}
-use Rattle.lls_cli.specs.Evidence.{NamedFile}
-use Rattle.lls_cli.specs.Answer.{GivenAnswer, IsAnswer}
-use Rattle.lls_cli.specs.Question.{Question, prints, Asks}
+use Rattle.lls_cli.specs.Answer.{IsAnswer}
+use Rattle.lls_cli.specs.Question.{Asks}
 use Rattle.lls_cli.specs.Moment.{ShelfMoment, SinkMoment, Moment, moment, files_at}
 use Rattle.lls_cli.specs.Ends.{GrewBy, KeepsFiles, LacksMemory, IsOfInput, WroteFile, FileFailed, LeavesPart, LeavesShelf, HasInputs, IsDecided, with_file, End, refused, lacked, input_failed, ahead_failed, answered, file_failed, output_failed, IsEndOf, IsEndBehind, Ends, ahead_of, IsEnd}
 use Rattle.lls_cli.specs.Steps.{Stops, Says, IsDelivery, LeavesPrinting}
 
 -- a right answer that was delivered
-pub delivered : (question : Question) (answer : GivenAnswer) (before after : Moment) (status : Status) → IsAnswer question answer
+pub delivered : (question : Question) (answer : Answer) (before after : Moment) (status : Status) → IsAnswer question answer
     → (end : End) × IsDelivery answer before after status end → (end : End) × IsEndOf question before after status end
 delivered question answer before after status right (answered given, d) = (answered given, (subst (IsAnswer question) (sym d.0) right, d.1))
 delivered question answer before after status right (file_failed given fault, d) = (file_failed given fault, (subst (IsAnswer question) (sym d.0) right, d.1))
@@ -162,7 +165,7 @@ words_ended (words.SameName place) job shelf out err_before err_after status fit
 leaves_both : (job : Job) (question : Question) (files : Option Files) (before mid after : ShelfMoment)
     → Asks job files (Ok question) → LeavesShelf job before mid → LeavesPrinting question mid after → LeavesShelf job before after
 leaves_both (jobs.Rule rule) question files before mid after asked first second =
-    let same : question ≡ prints rule = cc in
+    let same : question ≡ questions.Print rule = cc in
     let P : Question → Type 0 = λ q. LeavesPrinting q mid after in
     let last : after ≡ mid = subst P same second in
     last ∙ first
@@ -174,7 +177,7 @@ leaves_both (jobs.Search one two rule demands form budget keep_all rle) question
 leaves_both (jobs.Sat one two budget keep_all) question files before mid after asked first second = tt
 leaves_both (jobs.Make seed size one two) question files before mid after asked first second = tt
 
-WroteFile-after : (file : Option NamedFile) (before mid after : ShelfMoment) → KeepsFiles before mid → mid.faults ≡ before.faults → WroteFile file mid after → WroteFile file before after
+WroteFile-after : (file : Option AnswerFile) (before mid after : ShelfMoment) → KeepsFiles before mid → mid.faults ≡ before.faults → WroteFile file mid after → WroteFile file before after
 WroteFile-after None before mid after kept same wrote = record {
   files = wrote.files ∙ ap (option_map (with_file None)) kept.files;
   output = (wrote.output.0 ∙ kept.target, wrote.output.1 ∙ kept.has_output);
@@ -186,7 +189,7 @@ WroteFile-after (Some file) before mid after kept same wrote = record {
   faults = wrote.faults ∙ same;
 }
 
-FileFailed-after : (file : Option NamedFile) (fault : Fault) (before mid after : ShelfMoment) (out_before out_after err_before err_after : SinkMoment) (status : Status)
+FileFailed-after : (file : Option AnswerFile) (fault : Fault) (before mid after : ShelfMoment) (out_before out_after err_before err_after : SinkMoment) (status : Status)
     → KeepsFiles before mid → mid.faults ≡ before.faults → FileFailed file fault (moment mid out_before err_before) (moment after out_after err_after) status
     → FileFailed file fault (moment before out_before err_before) (moment after out_after err_after) status
 FileFailed-after file fault before mid after out_before out_after err_before err_after status kept same failed = record {
@@ -244,7 +247,7 @@ IsEndOf-after question before mid after out_before out_after err_before err_afte
 IsEndOf-after question before mid after out_before out_after err_before err_after status (input_failed fault) kept same ended = absurd ended
 IsEndOf-after question before mid after out_before out_after err_before err_after status (ahead_failed fault) kept same ended = absurd ended
 
-IsEndBehind-after : (ahead : Option NamedFile) (question : Question) (before mid after : ShelfMoment) (out_before out_after err_before err_after : SinkMoment) (status : Status) (end : End)
+IsEndBehind-after : (ahead : Option AnswerFile) (question : Question) (before mid after : ShelfMoment) (out_before out_after err_before err_after : SinkMoment) (status : Status) (end : End)
     → KeepsFiles before mid → mid.faults ≡ before.faults → IsEndBehind ahead question (moment mid out_before err_before) (moment after out_after err_after) status end
     → IsEndBehind ahead question (moment before out_before err_before) (moment after out_after err_after) status end
 IsEndBehind-after None question before mid after out_before out_after err_before err_after status end kept same ended =
@@ -265,11 +268,11 @@ IsEndBehind-after (Some file) question before mid after out_before out_after err
 IsEndBehind-after (Some file) question before mid after out_before out_after err_before err_after status (input_failed fault) kept same ended = absurd ended.2
 
 -- no question ends with a refusal of words or inputs
-refuses_nothing : (ahead : Option NamedFile) (question : Question) (before after : Moment) (status : Status) (fault : Fault) → IsEndBehind ahead question before after status (refused fault) → ⊥
+refuses_nothing : (ahead : Option AnswerFile) (question : Question) (before after : Moment) (status : Status) (fault : Fault) → IsEndBehind ahead question before after status (refused fault) → ⊥
 refuses_nothing None question before after status fault ended = ended
 refuses_nothing (Some file) question before after status fault ended = ended.2
 
-reads_nothing : (ahead : Option NamedFile) (question : Question) (before after : Moment) (status : Status) (fault : Fault) → IsEndBehind ahead question before after status (input_failed fault) → ⊥
+reads_nothing : (ahead : Option AnswerFile) (question : Question) (before after : Moment) (status : Status) (fault : Fault) → IsEndBehind ahead question before after status (input_failed fault) → ⊥
 reads_nothing None question before after status fault ended = ended
 reads_nothing (Some file) question before after status fault ended = ended.2
 
@@ -297,7 +300,7 @@ job_ended job question before mid after out_before out_after err_before err_afte
 )
 
 -- a question's end, from before its file was written
-pub behind_file : (file : NamedFile) (question : Question) (before mid after : ShelfMoment) (out_before out_after err_before err_after : SinkMoment) (status : Status) → WroteFile (Some file) before mid
+pub behind_file : (file : AnswerFile) (question : Question) (before mid after : ShelfMoment) (out_before out_after err_before err_after : SinkMoment) (status : Status) → WroteFile (Some file) before mid
     → (end : End) × IsEndOf question (moment mid out_before err_before) (moment after out_after err_after) status end
     → (end : End) × IsEndBehind (Some file) question (moment before out_before err_before) (moment after out_after err_after) status end
 behind_file file question before mid after out_before out_after err_before err_after status wrote (answered answer, ended) = (answered answer, (mid, wrote, ended))

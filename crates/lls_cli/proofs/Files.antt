@@ -10,12 +10,17 @@ use Rattle.lls_lit.specs.Formula.{Cnf}
 use Rattle.lls_words.specs.declared.error.WordsError.{WordsError}
 use Rattle.lls_words.specs.declared.job.Job.{Job}
 use Rattle.lls_words.specs.declared.job.Job.TheVariants as jobs
+use Rattle.lls_cli.specs.declared.question.Question.{Question}
+use Rattle.lls_cli.specs.declared.question.Question.TheVariants as questions
+use Rattle.lls_cli.specs.declared.question.Effort.{Effort}
+use Rattle.lls_cli.specs.declared.answer_file.AnswerFile.{AnswerFile}
+use Rattle.lls_cli.specs.declared.answer.Answer.{Answer}
 use Rattle.lls_cli.specs.declared.fault.Fault.{Fault}
 use Rattle.lls_cli.specs.declared.status.Status.{Status}
 use Rattle.lls_cli.specs.declared.status.Status.TheVariants as statuses
-use Rattle.lls_cli.specs.Question.{Question, Effort, asked_with, checks, refutes, judges, searches, decides, encodes, prints, makes, effort_of, default_effort, problem_in, formula_in, pattern_in, Asks}
-use Rattle.lls_cli.specs.Evidence.{NamedFile, HasProof, HasSpentLog}
-use Rattle.lls_cli.specs.Answer.{GivenAnswer, Answers, Holds}
+use Rattle.lls_cli.specs.Question.{asked_with, effort_of, default_effort, problem_in, formula_in, pattern_in, Asks}
+use Rattle.lls_cli.specs.Evidence.{HasProof, HasSpentLog}
+use Rattle.lls_cli.specs.Answer.{Answers, Holds}
 use Rattle.lls_cli.specs.Moment.{ShelfMoment, Moment, files_at}
 use Rattle.lls_cli.specs.Ends.{WroteFile, LeavesPart, End, refused, lacked, input_failed, ahead_failed, answered, file_failed, output_failed, IsEndBehind, Ends, ahead_of, IsEnd}
 use Rattle.lls_cli.specs.Claims.{OfQuestion, IsAnswered, log_at, search_file_at, outputs_of, outputs_of_words, ChangesOnly, OfFile, Leaves}
@@ -34,7 +39,7 @@ abbrev log_outputs : Option (Cnf × Effort) → Status → List (List ℕ)
 log_outputs None status = []
 log_outputs (Some search) status = log_at status search.1.proof
 
-abbrev ahead_outputs : Option NamedFile → Status → List (List ℕ)
+abbrev ahead_outputs : Option AnswerFile → Status → List (List ℕ)
 ahead_outputs None status = []
 ahead_outputs (Some file) status = search_file_at status file.name
 
@@ -44,47 +49,47 @@ outputs_asked question status = ahead_outputs (ahead_of question) status ++ log_
 -- they are those of the job that asks
 pub asked_outputs : (job : Job) (files : Option Files) (question : Question) (status : Status) → Asks job files (Ok question) → outputs_asked question status ≡ outputs_of job status
 asked_outputs (jobs.Check one two rule demands form) files question status asked =
-    let first = and_then-both (and_then asked.first (problem_in rule demands)) (λ problem. and_then asked.second (λ proof. Ok (checks (asked_with form problem) proof))) question asked.made in
-    let second = and_then-both asked.second (λ proof. Ok (checks (asked_with form first.0) proof)) question first.1 in
-    let is : question ≡ checks (asked_with form first.0) second.0 = cc in
+    let first = and_then-both (and_then asked.first (problem_in rule demands)) (λ problem. and_then asked.second (λ proof. Ok (questions.Check (asked_with form problem) proof))) question asked.made in
+    let second = and_then-both asked.second (λ proof. Ok (questions.Check (asked_with form first.0) proof)) question first.1 in
+    let is : question ≡ questions.Check (asked_with form first.0) second.0 = cc in
     ap (λ q. outputs_asked q status) is
 asked_outputs (jobs.Judge one two rule demands rle) files question status asked =
-    let first = and_then-both (and_then asked.first (problem_in rule demands)) (λ problem. and_then (and_then asked.second (pattern_in rle problem)) (λ history. Ok (judges problem history))) question asked.made in
-    let second = and_then-both (and_then asked.second (pattern_in rle first.0)) (λ history. Ok (judges first.0 history)) question first.1 in
-    let is : question ≡ judges first.0 second.0 = cc in
+    let first = and_then-both (and_then asked.first (problem_in rule demands)) (λ problem. and_then (and_then asked.second (pattern_in rle problem)) (λ history. Ok (questions.Judge problem history))) question asked.made in
+    let second = and_then-both (and_then asked.second (pattern_in rle first.0)) (λ history. Ok (questions.Judge first.0 history)) question first.1 in
+    let is : question ≡ questions.Judge first.0 second.0 = cc in
     ap (λ q. outputs_asked q status) is
 asked_outputs (jobs.Search one two rule demands form budget keep_all rle) files question status asked =
     let effort = effort_of budget keep_all two in
-    let first = and_then-both (and_then asked.input (problem_in rule demands)) (λ problem. Ok (searches (asked_with form problem) effort rle)) question asked.made in
-    let is : question ≡ searches (asked_with form first.0) effort rle = cc in
+    let first = and_then-both (and_then asked.input (problem_in rule demands)) (λ problem. Ok (questions.Search (asked_with form problem) effort rle)) question asked.made in
+    let is : question ≡ questions.Search (asked_with form first.0) effort rle = cc in
     ap (λ q. outputs_asked q status) is
 asked_outputs (jobs.Sat one two budget keep_all) files question status asked =
     let effort = effort_of budget keep_all two in
-    let first = and_then-both (and_then asked.input formula_in) (λ formula. Ok (decides formula effort)) question asked.made in
-    let is : question ≡ decides first.0 effort = cc in
+    let first = and_then-both (and_then asked.input formula_in) (λ formula. Ok (questions.Decide formula effort)) question asked.made in
+    let is : question ≡ questions.Decide first.0 effort = cc in
     ap (λ q. outputs_asked q status) is
 asked_outputs (jobs.Cnf one rule demands form) files question status asked =
-    let first = and_then-both (and_then asked.input (problem_in rule demands)) (λ problem. Ok (encodes (asked_with form problem))) question asked.made in
-    let is : question ≡ encodes (asked_with form first.0) = cc in
+    let first = and_then-both (and_then asked.input (problem_in rule demands)) (λ problem. Ok (questions.Encode (asked_with form problem))) question asked.made in
+    let is : question ≡ questions.Encode (asked_with form first.0) = cc in
     ap (λ q. outputs_asked q status) is
 asked_outputs (jobs.Lrat one two) files question status asked =
-    let first = and_then-both (and_then asked.first formula_in) (λ formula. and_then asked.second (λ proof. Ok (refutes formula proof))) question asked.made in
-    let second = and_then-both asked.second (λ proof. Ok (refutes first.0 proof)) question first.1 in
-    let is : question ≡ refutes first.0 second.0 = cc in
+    let first = and_then-both (and_then asked.first formula_in) (λ formula. and_then asked.second (λ proof. Ok (questions.Refute formula proof))) question asked.made in
+    let second = and_then-both asked.second (λ proof. Ok (questions.Refute first.0 proof)) question first.1 in
+    let is : question ≡ questions.Refute first.0 second.0 = cc in
     ap (λ q. outputs_asked q status) is
 asked_outputs (jobs.Rule rule) files question status asked =
-    let is : question ≡ prints rule = cc in
+    let is : question ≡ questions.Print rule = cc in
     ap (λ q. outputs_asked q status) is
 asked_outputs (jobs.Make seed size one two) files question status asked =
-    let is : question ≡ makes seed size one (default_effort two) = cc in
+    let is : question ≡ questions.Make seed size one (default_effort two) = cc in
     ap (λ q. outputs_asked q status) is
 
 -- a status at which the file of a log may have changed, and one at which a made problem's may
 abbrev MayLog : Status → Type 0
 MayLog status = (name : List ℕ) → log_at status name ≡ name ∷ []
 
-abbrev MayWriteAhead : Option NamedFile → Status → Type 0
-MayWriteAhead ahead status = (file : NamedFile) → ahead ≡ Some file → search_file_at status file.name ≡ file.name ∷ []
+abbrev MayWriteAhead : Option AnswerFile → Status → Type 0
+MayWriteAhead ahead status = (file : AnswerFile) → ahead ≡ Some file → search_file_at status file.name ≡ file.name ∷ []
 
 may_log : (status : Status) → IsLogged status → MayLog status
 may_log statuses.NoPattern logged name = refl
@@ -99,7 +104,7 @@ may_log statuses.Limit logged name = absurd logged
 may_log statuses.Pattern logged name = absurd logged
 
 -- the statuses of a made problem's answers
-making_writes : (seed size : ℕ) (name : List ℕ) (effort : Effort) (status : Status) (other : List ℕ) → Holds (makes seed size name effort) status → search_file_at status other ≡ other ∷ []
+making_writes : (seed size : ℕ) (name : List ℕ) (effort : Effort) (status : Status) (other : List ℕ) → Holds (questions.Make seed size name effort) status → search_file_at status other ≡ other ∷ []
 making_writes seed size name effort statuses.Pattern other holds = refl
 making_writes seed size name effort statuses.Undecided other holds = refl
 making_writes seed size name effort statuses.Done other holds = absurd holds
@@ -112,17 +117,17 @@ making_writes seed size name effort statuses.Limit other holds = absurd holds
 making_writes seed size name effort statuses.NoPattern other holds = absurd holds
 
 holds_writes : (question : Question) (status : Status) → Holds question status → MayWriteAhead (ahead_of question) status
-holds_writes (makes seed size name effort) status holds file is = making_writes seed size name effort status file.name holds
-holds_writes (checks asked bytes) status holds file is = absurd cc
-holds_writes (refutes formula bytes) status holds file is = absurd cc
-holds_writes (judges problem history) status holds file is = absurd cc
-holds_writes (searches asked effort rle) status holds file is = absurd cc
-holds_writes (decides formula effort) status holds file is = absurd cc
-holds_writes (encodes asked) status holds file is = absurd cc
-holds_writes (prints rule) status holds file is = absurd cc
+holds_writes (questions.Make seed size name effort) status holds file is = making_writes seed size name effort status file.name holds
+holds_writes (questions.Check asked bytes) status holds file is = absurd cc
+holds_writes (questions.Refute formula bytes) status holds file is = absurd cc
+holds_writes (questions.Judge problem history) status holds file is = absurd cc
+holds_writes (questions.Search asked effort rle) status holds file is = absurd cc
+holds_writes (questions.Decide formula effort) status holds file is = absurd cc
+holds_writes (questions.Encode asked) status holds file is = absurd cc
+holds_writes (questions.Print rule) status holds file is = absurd cc
 
 -- the file that is written ahead changes alone
-ahead_changes : (ahead : Option NamedFile) (status : Status) (before mid : ShelfMoment) → MayWriteAhead ahead status → WroteAhead ahead before mid
+ahead_changes : (ahead : Option AnswerFile) (status : Status) (before mid : ShelfMoment) → MayWriteAhead ahead status → WroteAhead ahead before mid
     → ChangesOnly (ahead_outputs ahead status) (files_at before) (files_at mid)
 ahead_changes None status before mid may same = ap files_at same
 ahead_changes (Some file) status before mid may wrote =
@@ -130,7 +135,7 @@ ahead_changes (Some file) status before mid may wrote =
     (inserted file.name file.bytes (files_at before) (files_at mid) (wrote_some (Some file) file before mid refl wrote))
 
 -- and so does the file of an answer
-evidence_changes : (search : Option (Cnf × Effort)) (answer : GivenAnswer) (status : Status) (mid after : ShelfMoment) → Evidence search answer → (IsLogged answer.status → MayLog status)
+evidence_changes : (search : Option (Cnf × Effort)) (answer : Answer) (status : Status) (mid after : ShelfMoment) → Evidence search answer → (IsLogged answer.status → MayLog status)
     → WroteFile answer.file mid after → ChangesOnly (log_outputs search status) (files_at mid) (files_at after)
 evidence_changes None answer status mid after leaves may wrote = wrote_none answer.file mid after leaves.none wrote
 evidence_changes (Some search) answer status mid after (inl leaves) may wrote =
@@ -139,14 +144,14 @@ evidence_changes (Some search) answer status mid after (inr has) may wrote =
     subst (λ names. ChangesOnly names (files_at mid) (files_at after)) (ap (λ name. name ∷ []) has.named ∙ sym (may has.logged search.1.proof))
     (inserted has.file.name has.file.bytes (files_at mid) (files_at after) (wrote_some answer.file has.file mid after has.file_is wrote))
 
-part_evidence : (search : Option (Cnf × Effort)) (answer : GivenAnswer) (fault : Fault) (file : NamedFile) (mid after : Option Files) → Evidence search answer → answer.file ≡ Some file
+part_evidence : (search : Option (Cnf × Effort)) (answer : Answer) (fault : Fault) (file : AnswerFile) (mid after : Option Files) → Evidence search answer → answer.file ≡ Some file
     → LeavesPart fault file mid after → ChangesOnly (log_outputs search statuses.Outside) mid after
 part_evidence None answer fault file mid after leaves is part = absurd (let none = leaves.none in cc)
 part_evidence (Some search) answer fault file mid after (inl leaves) is part = absurd (let none = leaves.none in cc)
 part_evidence (Some search) answer fault file mid after (inr has) is part =
     let some = has.file_is in
     let same : file ≡ has.file = cc in
-    subst (λ names. ChangesOnly names mid after) (ap (λ (f : NamedFile). f.name ∷ []) same ∙ ap (λ name. name ∷ []) has.named) (part_changes fault file mid after part)
+    subst (λ names. ChangesOnly names mid after) (ap (λ (f : AnswerFile). f.name ∷ []) same ∙ ap (λ name. name ∷ []) has.named) (part_changes fault file mid after part)
 
 -- only what the question may write has changed, so only what the job may
 of_asked : (job : Job) (question : Question) (status ended : Status) (before after : Moment) → Asks job (files_at before.shelf) (Ok question) → ended ≡ status
@@ -162,7 +167,7 @@ always status is name = ap (λ s. log_at s name) is
 lacking_changes : (job : Job) (question : Question) (before after : Moment) (status : Status) → Asks job (files_at before.shelf) (Ok question) → Ends question before after status lacked
     → ChangesOnly (outputs_of job status) (files_at before.shelf) (files_at after.shelf)
 lacking_changes job question before after status asked ended = by_ahead (ahead_of question) refl ended where
-  by_ahead : (ahead : Option NamedFile) → ahead_of question ≡ ahead → IsEndBehind ahead question before after status lacked
+  by_ahead : (ahead : Option AnswerFile) → ahead_of question ≡ ahead → IsEndBehind ahead question before after status lacked
       → ChangesOnly (outputs_of job status) (files_at before.shelf) (files_at after.shelf)
   by_ahead None is lacks = changes_none (outputs_of job status) _ _ lacks.shelf.files
   by_ahead (Some file) is (inl lacks) = changes_none (outputs_of job status) _ _ lacks.shelf.files
@@ -225,12 +230,12 @@ changes_only (Err error) before after status (answered answer, ended) = absurd e
 changes_only (Err error) before after status (file_failed answer fault, ended) = absurd ended
 changes_only (Err error) before after status (output_failed answer, ended) = absurd ended
 
-of_inserted : (Fact : NamedFile → Type 0) (file : NamedFile) (files : Option Files) → Fact file → OfFile Fact file.name (option_map (λ known. map.insert known file.name file.bytes) files)
+of_inserted : (Fact : AnswerFile → Type 0) (file : AnswerFile) (files : Option Files) → Fact file → OfFile Fact file.name (option_map (λ known. map.insert known file.name file.bytes) files)
 of_inserted Fact file None fact = tt
 of_inserted Fact file (Some files) fact = (file.bytes, get-insert_same files file.name file.bytes, fact)
 
 -- a file that was written whole stands there
-of_written : (Fact : NamedFile → Type 0) (written : Option NamedFile) (file : NamedFile) (name : List ℕ) (before after : ShelfMoment) → written ≡ Some file → file.name ≡ name → Fact file
+of_written : (Fact : AnswerFile → Type 0) (written : Option AnswerFile) (file : AnswerFile) (name : List ℕ) (before after : ShelfMoment) → written ≡ Some file → file.name ≡ name → Fact file
     → WroteFile written before after → OfFile Fact name (files_at after)
 of_written Fact written file name before after is named fact wrote =
     subst (λ n. OfFile Fact n (files_at after)) named (subst (OfFile Fact file.name) (sym (wrote_some written file before after is wrote)) (of_inserted Fact file (files_at before) fact))
@@ -241,7 +246,7 @@ NotOf None other = Unit {0}
 NotOf (Some search) other = other ≢ search.1.proof
 
 -- an answer leaves all files but its search's
-pub answer_leaves : (question : Question) (answer : GivenAnswer) (mid after : ShelfMoment) (other : List ℕ) → Answers question answer → NotOf (searched question) other → WroteFile answer.file mid after
+pub answer_leaves : (question : Question) (answer : Answer) (mid after : ShelfMoment) (other : List ℕ) → Answers question answer → NotOf (searched question) other → WroteFile answer.file mid after
     → Same other (files_at mid) (files_at after)
 answer_leaves question answer mid after other right apart wrote = by_evidence (searched question) (evidence question answer right) apart where
   by_evidence : (search : Option (Cnf × Effort)) → Evidence search answer → NotOf search other → Same other (files_at mid) (files_at after)
@@ -256,7 +261,7 @@ abbrev Left : Status → Option (Cnf × Effort) → Option Files → Type 0
 Left status None files = ⊥
 Left status (Some search) files = OfFile (Has status search.0 search.1) search.1.proof files
 
-evidence_left : (search : Option (Cnf × Effort)) (answer : GivenAnswer) (mid after : ShelfMoment) → Evidence search answer → IsLogged answer.status → WroteFile answer.file mid after
+evidence_left : (search : Option (Cnf × Effort)) (answer : Answer) (mid after : ShelfMoment) → Evidence search answer → IsLogged answer.status → WroteFile answer.file mid after
     → Left answer.status search (files_at after)
 evidence_left None answer mid after leaves logged wrote = absurd (leaves.unlogged logged)
 evidence_left (Some search) answer mid after (inl leaves) logged wrote = absurd (leaves.unlogged logged)
@@ -264,14 +269,14 @@ evidence_left (Some search) answer mid after (inr has) logged wrote =
     of_written (Has answer.status search.0 search.1) answer.file has.file search.1.proof mid after has.file_is has.named has.has wrote
 
 left_evidence : (status : Status) (question : Question) (files : Option Files) → Left status (searched question) files → Leaves (Has status) files question
-left_evidence status (searches asked effort rle) files left = left
-left_evidence status (decides formula effort) files left = left
-left_evidence status (makes seed size name effort) files left = left
-left_evidence status (checks asked bytes) files left = left
-left_evidence status (refutes formula bytes) files left = left
-left_evidence status (judges problem history) files left = left
-left_evidence status (encodes asked) files left = left
-left_evidence status (prints rule) files left = left
+left_evidence status (questions.Search asked effort rle) files left = left
+left_evidence status (questions.Decide formula effort) files left = left
+left_evidence status (questions.Make seed size name effort) files left = left
+left_evidence status (questions.Check asked bytes) files left = left
+left_evidence status (questions.Refute formula bytes) files left = left
+left_evidence status (questions.Judge problem history) files left = left
+left_evidence status (questions.Encode asked) files left = left
+left_evidence status (questions.Print rule) files left = left
 
 leaves_at : (job : Result Job WordsError) (before after : Moment) (status : Status) → (end : End) × IsEnd job before after status end → IsAnswered status → IsLogged status
     → OfQuestion (Leaves (Has status) (files_at after.shelf)) job (files_at before.shelf)

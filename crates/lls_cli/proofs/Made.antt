@@ -57,7 +57,7 @@ stops files name limit rule demands bytes (faults.TooLong n) before after input 
 pub problem_read : (files : Option Files) (name : List ℕ) (limit : ℕ) (rule : List Bool) (demands : Demands) (bytes : List ℕ) (result : Result PosedProblem Fault) (before after : ShelfMoment)
     → KeepsFiles before after → Counts before.faults after.faults → IsInput files name limit (Ok bytes) → after.faults ≡ before.faults
     → Gives faults.Memory (λ problem. problem) result (problem_in rule demands bytes)
-    → Reads (λ problem. problem) (Makes files name limit rule demands) result before after
+    → Reads (Makes files name limit rule demands) result before after
 problem_read files name limit rule demands bytes (Ok problem) before after kept counts input same gives =
     record { kept = kept; counts = counts; ok = (record { input = Ok bytes; input_is = input; made = sym gives }, same); err = tt }
 problem_read files name limit rule demands bytes (Err fault) before after kept counts input same gives =

@@ -11,11 +11,13 @@ use Rattle.lls_encode.specs.Formula.{formula_of}
 use Rattle.lls_prooflog.specs.declared.step.Step.{Step}
 use Rattle.lls_prooflog.specs.Log.{log_text}
 use Rattle.lls_solver.specs.Searching.{IsExhausted, KeepsAll}
+use Rattle.lls_cli.specs.declared.question.Question.TheVariants as questions
+use Rattle.lls_cli.specs.declared.question.Effort.{Effort}
+use Rattle.lls_cli.specs.declared.answer_file.AnswerFile.{AnswerFile}
+use Rattle.lls_cli.specs.declared.answer.Answer.{Answer}
 use Rattle.lls_cli.specs.declared.status.Status.TheVariants as statuses
-use Rattle.lls_cli.specs.Question.{Effort, makes}
-use Rattle.lls_cli.specs.Evidence.{NamedFile}
 use Rattle.lls_cli.specs.Making.{summary_of, summary_text}
-use Rattle.lls_cli.specs.Answer.{GivenAnswer, IsAnswer, shown, summed_behind, solved, unsolved}
+use Rattle.lls_cli.specs.Answer.{IsAnswer, shown, summed_behind, solved, unsolved}
 use Rattle.lls_cli.proofs.Searches.{log_of, short_of}
 
 -- a made problem has two generations
@@ -31,18 +33,18 @@ summary-made : (seed size : ℕ) (pair : Made) (formula : Cnf) (answer : List �
 summary-made seed size pair formula answer is made_of =
     ap (λ f. summary_of pair f answer) made_of ∙ ap (λ (m : Made). summary_of m (formula_of m.problem Rows) answer) is
 
-pub solved_answer : (seed size : ℕ) (name : List ℕ) (effort : Effort) (pair : Made) (formula : Cnf) (answer : GivenAnswer) → pair ≡ made seed size → formula ≡ formula_of pair.problem Rows
-    → IsSolution pair.problem pair.history → answer ≡ shown statuses.Pattern (summary_of pair formula (codes "pattern")) → IsAnswer (makes seed size name effort) answer
+pub solved_answer : (seed size : ℕ) (name : List ℕ) (effort : Effort) (pair : Made) (formula : Cnf) (answer : Answer) → pair ≡ made seed size → formula ≡ formula_of pair.problem Rows
+    → IsSolution pair.problem pair.history → answer ≡ shown statuses.Pattern (summary_of pair formula (codes "pattern")) → IsAnswer (questions.Make seed size name effort) answer
 solved_answer seed size name effort pair formula answer is made_of solution given =
     let made_solution : IsSolution (made seed size).problem (made seed size).history = subst (λ (m : Made). IsSolution m.problem m.history) is solution in
-    subst (IsAnswer (makes seed size name effort)) (sym (given ∙ ap (shown statuses.Pattern) (summary-made seed size pair formula (codes "pattern") is made_of)))
+    subst (IsAnswer (questions.Make seed size name effort)) (sym (given ∙ ap (shown statuses.Pattern) (summary-made seed size pair formula (codes "pattern") is made_of)))
     (record { answers = solved; holds = ((made seed size).history, made_solution, plane_law (made_problem seed size) (made seed size).history made_solution) })
 
-pub unsolved_answer : (seed size : ℕ) (name : List ℕ) (effort : Effort) (pair : Made) (formula : Cnf) (steps : List Step) (file : NamedFile) (answer : GivenAnswer) → pair ≡ made seed size
+pub unsolved_answer : (seed size : ℕ) (name : List ℕ) (effort : Effort) (pair : Made) (formula : Cnf) (steps : List Step) (file : AnswerFile) (answer : Answer) → pair ≡ made seed size
     → formula ≡ formula_of pair.problem Rows → file ≡ record { name = effort.proof; bytes = log_text steps } → KeepsAll effort.keep_all steps → IsExhausted formula effort.budget steps
-    → answer ≡ summed_behind file statuses.Undecided (summary_of pair formula (codes "undecided")) → IsAnswer (makes seed size name effort) answer
+    → answer ≡ summed_behind file statuses.Undecided (summary_of pair formula (codes "undecided")) → IsAnswer (questions.Make seed size name effort) answer
 unsolved_answer seed size name effort pair formula steps file answer is made_of named kept exhausted given =
     let its : formula ≡ formula_of (made_problem seed size) Rows = made_of ∙ ap (λ (m : Made). formula_of m.problem Rows) is in
     let spent : IsExhausted (formula_of (made_problem seed size) Rows) effort.budget steps = subst (λ (f : Cnf). IsExhausted f effort.budget steps) its exhausted in
-    subst (IsAnswer (makes seed size name effort)) (sym (given ∙ ap (summed_behind file statuses.Undecided) (summary-made seed size pair formula (codes "undecided") is made_of)))
+    subst (IsAnswer (questions.Make seed size name effort)) (sym (given ∙ ap (summed_behind file statuses.Undecided) (summary-made seed size pair formula (codes "undecided") is made_of)))
     (record { answers = unsolved file (log_of (formula_of (made_problem seed size) Rows) effort steps file named kept spent); holds = short_of (formula_of (made_problem seed size) Rows) effort steps kept spent })

@@ -11,10 +11,13 @@ use Rattle.lls_problem.specs.Problem.{PosedProblem}
 use Rattle.lls_words.specs.declared.error.WordsError.{WordsError}
 use Rattle.lls_words.specs.declared.job.Job.{Job}
 use Rattle.lls_words.specs.declared.job.Job.TheVariants as jobs
+use Rattle.lls_cli.specs.declared.question.Question.{Question}
+use Rattle.lls_cli.specs.declared.question.Question.TheVariants as questions
+use Rattle.lls_cli.specs.declared.question.Effort.{Effort}
 use Rattle.lls_cli.specs.declared.status.Status.{Status}
 use Rattle.lls_cli.specs.declared.status.Status.TheVariants as statuses
 use Rattle.lls_cli.specs.declared.fault.Fault.{Fault}
-use Rattle.lls_cli.specs.Question.{Question, Effort, asked_with, checks, searches, check_question, effort_of, input_from, input_of, problem_in, proof_limit, search_limit}
+use Rattle.lls_cli.specs.Question.{asked_with, check_question, effort_of, input_from, input_of, problem_in, proof_limit, search_limit}
 use Rattle.lls_cli.specs.Evidence.{HasProof}
 use Rattle.lls_cli.specs.Answer.{NoneHolds}
 use Rattle.lls_cli.specs.Claims.{OfQuestion, Leaves, ChangesOnly, Publishes, log_at, outputs_of_words}
@@ -29,10 +32,10 @@ input_within files name bytes limit found fits =
 pub record SearchAsked (search_file proof : List ℕ) (rule : List Bool) (demands : Demands) (form : Form) (files : Files) (question : Question) (effort : Effort) (rle : Bool) : Type 0 where
   pub problem : PosedProblem
   pub made : and_then (input_of files search_file search_limit) (problem_in rule demands) ≡ Ok problem
-  pub question_is : question ≡ searches (asked_with form problem) effort rle
+  pub question_is : question ≡ questions.Search (asked_with form problem) effort rle
 
 search_asked : (search_file proof : List ℕ) (rule : List Bool) (demands : Demands) (form : Form) (files : Files) (question : Question) (effort : Effort) (rle : Bool) (part : Result PosedProblem Fault)
-    → part ≡ and_then (input_of files search_file search_limit) (problem_in rule demands) → and_then part (λ problem. Ok (searches (asked_with form problem) effort rle)) ≡ Ok question
+    → part ≡ and_then (input_of files search_file search_limit) (problem_in rule demands) → and_then part (λ problem. Ok (questions.Search (asked_with form problem) effort rle)) ≡ Ok question
     → SearchAsked search_file proof rule demands form files question effort rle
 search_asked search_file proof rule demands form files question effort rle (Ok problem) is asks = record { problem = problem; made = sym is; question_is = cc }
 search_asked search_file proof rule demands form files question effort rle (Err fault) is asks = absurd cc
@@ -59,8 +62,8 @@ search_publishes search_file proof rule demands form budget keep_all rle before 
       (
           λ fits.
           ap (λ first. check_question rule demands form first (input_of after proof proof_limit)) (ap (input_from search_limit) same)
-          ∙ ap (λ part. and_then part (λ p. and_then (input_of after proof proof_limit) (λ text. Ok (checks (asked_with form p) text)))) asked.made
-          ∙ ap (λ second. and_then second (λ text. Ok (checks about text))) (input_within after proof bytes proof_limit file.1 fits)
+          ∙ ap (λ part. and_then part (λ p. and_then (input_of after proof proof_limit) (λ text. Ok (questions.Check (asked_with form p) text)))) asked.made
+          ∙ ap (λ second. and_then second (λ text. Ok (questions.Check about text))) (input_within after proof bytes proof_limit file.1 fits)
           ),
       (file.2.accepted, none),
     )

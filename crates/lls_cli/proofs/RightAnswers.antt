@@ -8,17 +8,20 @@ use Rattle.lls_problem.specs.Problem.{PosedProblem}
 use Rattle.lls_problem.specs.Judgement.{IsJudgement}
 use Rattle.lls_problem.specs.Solution.{IsSolution, IsAbsent}
 use Rattle.lls_problem.proofs.Plane.{plane_law}
+use Rattle.lls_cli.specs.declared.question.Question.{Question}
+use Rattle.lls_cli.specs.declared.question.Question.TheVariants as questions
+use Rattle.lls_cli.specs.declared.answer.Answer.{Answer}
 use Rattle.lls_cli.specs.declared.question.Asked.{Asked}
 use Rattle.lls_cli.specs.declared.status.Status.{Status}
 use Rattle.lls_cli.specs.declared.status.Status.TheVariants as statuses
-use Rattle.lls_cli.specs.Answer.{GivenAnswer, judge_answer, Holds, IsAnswer}
-use Rattle.lls_cli.specs.Question.{Question, formula_asked, checks, refutes, judges, searches, decides, encodes, prints, makes}
+use Rattle.lls_cli.specs.Answer.{judge_answer, Holds, IsAnswer}
+use Rattle.lls_cli.specs.Question.{formula_asked}
 use Rattle.lls_cli.specs.Moment.{ShelfMoment}
 use Rattle.lls_cli.specs.Steps.{LeavesAlone, LeavesPrinting}
 
 -- what refutes a problem's formula checks the problem
 holds_checked : (asked : Asked) (proof : List ℕ) (status : Status) → (IsUnsatisfiable (formula_asked asked) → IsAbsent asked.problem)
-    → Holds (refutes (formula_asked asked) proof) status → Holds (checks asked proof) status
+    → Holds (questions.Refute (formula_asked asked) proof) status → Holds (questions.Check asked proof) status
 holds_checked asked proof statuses.Done absent holds = (holds.0, absent holds.1)
 holds_checked asked proof statuses.Refused absent holds = holds
 holds_checked asked proof statuses.Words absent holds = holds
@@ -30,13 +33,13 @@ holds_checked asked proof statuses.Pattern absent holds = holds
 holds_checked asked proof statuses.NoPattern absent holds = holds
 holds_checked asked proof statuses.Undecided absent holds = holds
 
-pub checked_answer : (asked : Asked) (proof : List ℕ) (answer : GivenAnswer) → (IsUnsatisfiable (formula_asked asked) → IsAbsent asked.problem)
-    → IsAnswer (refutes (formula_asked asked) proof) answer → IsAnswer (checks asked proof) answer
+pub checked_answer : (asked : Asked) (proof : List ℕ) (answer : Answer) → (IsUnsatisfiable (formula_asked asked) → IsAbsent asked.problem)
+    → IsAnswer (questions.Refute (formula_asked asked) proof) answer → IsAnswer (questions.Check asked proof) answer
 checked_answer asked proof answer absent right =
     record { answers = right.answers; holds = holds_checked asked proof answer.status absent right.holds }
 
 holds_judged : (problem : PosedProblem) (history : History) (judgement : Judgement) → (judgement ≡ judgements.Meets → IsSolution problem history)
-    → (judgement ≢ judgements.Meets → IsSolution problem history → ⊥) → Holds (judges problem history) (judge_answer judgement).status
+    → (judgement ≢ judgements.Meets → IsSolution problem history → ⊥) → Holds (questions.Judge problem history) (judge_answer judgement).status
 holds_judged problem history judgements.Meets meets broken = (meets refl, plane_law problem history (meets refl))
 holds_judged problem history judgements.Size meets broken = broken (λ is. cc)
 holds_judged problem history (judgements.Cell t y x) meets broken = broken (λ is. cc)
@@ -49,33 +52,33 @@ holds_judged problem history (judgements.Population t n) meets broken = broken (
 holds_judged problem history judgements.Same meets broken = broken (λ is. cc)
 
 -- the answer of a judgement is right
-pub judged_answer : (problem : PosedProblem) (history : History) (judgement : Judgement) (answer : GivenAnswer) → IsJudgement problem history judgement
+pub judged_answer : (problem : PosedProblem) (history : History) (judgement : Judgement) (answer : Answer) → IsJudgement problem history judgement
     → (judgement ≡ judgements.Meets → IsSolution problem history) → (judgement ≢ judgements.Meets → IsSolution problem history → ⊥)
-    → answer ≡ judge_answer judgement → IsAnswer (judges problem history) answer
+    → answer ≡ judge_answer judgement → IsAnswer (questions.Judge problem history) answer
 judged_answer problem history judgement answer is meets broken made = record {
   answers = (judgement, is, made);
-  holds = subst (λ (a : GivenAnswer). Holds (judges problem history) a.status) (sym made) (holds_judged problem history judgement meets broken);
+  holds = subst (λ (a : Answer). Holds (questions.Judge problem history) a.status) (sym made) (holds_judged problem history judgement meets broken);
 }
 
 -- an answer that prints a rule has no file
-pub leaves_printing : (question : Question) (answer : GivenAnswer) (before after : ShelfMoment) → IsAnswer question answer → LeavesAlone answer.file before after → LeavesPrinting question before after
-leaves_printing (prints rule) answer before after right alone =
-    subst (λ file. LeavesAlone file before after) (ap (λ (a : GivenAnswer). a.file) right.answers) alone
-leaves_printing (checks asked proof) answer before after right alone = tt
-leaves_printing (refutes formula proof) answer before after right alone = tt
-leaves_printing (judges problem history) answer before after right alone = tt
-leaves_printing (searches asked effort rle) answer before after right alone = tt
-leaves_printing (decides formula effort) answer before after right alone = tt
-leaves_printing (encodes asked) answer before after right alone = tt
-leaves_printing (makes seed size name effort) answer before after right alone = tt
+pub leaves_printing : (question : Question) (answer : Answer) (before after : ShelfMoment) → IsAnswer question answer → LeavesAlone answer.file before after → LeavesPrinting question before after
+leaves_printing (questions.Print rule) answer before after right alone =
+    subst (λ file. LeavesAlone file before after) (ap (λ (a : Answer). a.file) right.answers) alone
+leaves_printing (questions.Check asked proof) answer before after right alone = tt
+leaves_printing (questions.Refute formula proof) answer before after right alone = tt
+leaves_printing (questions.Judge problem history) answer before after right alone = tt
+leaves_printing (questions.Search asked effort rle) answer before after right alone = tt
+leaves_printing (questions.Decide formula effort) answer before after right alone = tt
+leaves_printing (questions.Encode asked) answer before after right alone = tt
+leaves_printing (questions.Make seed size name effort) answer before after right alone = tt
 
 -- nor does a run that gives no answer touch the shelf
 pub leaves_printing-refl : (question : Question) (shelf : ShelfMoment) → LeavesPrinting question shelf shelf
-leaves_printing-refl (prints rule) shelf = refl
-leaves_printing-refl (checks asked proof) shelf = tt
-leaves_printing-refl (refutes formula proof) shelf = tt
-leaves_printing-refl (judges problem history) shelf = tt
-leaves_printing-refl (searches asked effort rle) shelf = tt
-leaves_printing-refl (decides formula effort) shelf = tt
-leaves_printing-refl (encodes asked) shelf = tt
-leaves_printing-refl (makes seed size name effort) shelf = tt
+leaves_printing-refl (questions.Print rule) shelf = refl
+leaves_printing-refl (questions.Check asked proof) shelf = tt
+leaves_printing-refl (questions.Refute formula proof) shelf = tt
+leaves_printing-refl (questions.Judge problem history) shelf = tt
+leaves_printing-refl (questions.Search asked effort rle) shelf = tt
+leaves_printing-refl (questions.Decide formula effort) shelf = tt
+leaves_printing-refl (questions.Encode asked) shelf = tt
+leaves_printing-refl (questions.Make seed size name effort) shelf = tt

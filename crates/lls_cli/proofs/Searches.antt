@@ -1,5 +1,5 @@
 -- What a search comes to is a right answer.
-use Rattle.std.proofs.Common.{◌≡◌, ◌≤◌, ◌+◌, ◌++◌, ℕ, Bool, cond, List, [], ◌∷◌, length, refl, sym, ap, subst, ◌∙◌, arith}
+use Rattle.std.proofs.Common.{◌≡◌, ◌≤◌, ◌+◌, ◌++◌, ℕ, Bool, cond, List, [], ◌∷◌, length, sym, ap, subst, ◌∙◌, arith}
 use Rattle.std.specs.Prelude.{codes}
 use Rattle.std.proofs.lemmas.List.Sums.{count_by-le-length, sum_by-append}
 use Rattle.lls_lit.specs.Formula.{Cnf, IsUnsatisfiable}
@@ -13,13 +13,17 @@ use Rattle.lls_prooflog.specs.Spent.{is_addition}
 use Rattle.lls_counting.proofs.Logs.{budgets_decide, kept_budgets_decide}
 use Rattle.lls_solver.specs.Searching.{IsModel, IsRefutation, IsExhausted, KeepsAll, additions}
 use Rattle.lls_lrat.specs.Verdict.{Accepted, verdict}
+use Rattle.lls_cli.specs.declared.question.Question.TheVariants as questions
+use Rattle.lls_cli.specs.declared.question.Effort.{Effort}
+use Rattle.lls_cli.specs.declared.answer_file.AnswerFile.{AnswerFile}
+use Rattle.lls_cli.specs.declared.answer.Answer.{Answer}
 use Rattle.lls_cli.specs.declared.question.Asked.{Asked}
 use Rattle.lls_cli.specs.declared.status.Status.TheVariants as statuses
-use Rattle.lls_cli.specs.Question.{Effort, formula_asked, searches, decides}
-use Rattle.lls_cli.specs.Evidence.{NamedFile, HasProof, HasSpentLog}
+use Rattle.lls_cli.specs.Question.{formula_asked}
+use Rattle.lls_cli.specs.Evidence.{HasProof, HasSpentLog}
 use Rattle.lls_cli.specs.ModelText.{model_text}
 use Rattle.lls_cli.specs.PatternText.{pattern_text}
-use Rattle.lls_cli.specs.Answer.{GivenAnswer, IsAnswer, IsShort, shown, said_behind, none_behind, satisfied, unsatisfied, unknown, found, absent, undecided}
+use Rattle.lls_cli.specs.Answer.{IsAnswer, IsShort, shown, said_behind, none_behind, satisfied, unsatisfied, unknown, found, absent, undecided}
 
 -- steps with one more behind them
 one_more : (learnt : List Step) (last : Step) (steps : List Step) (budget : ℕ) → steps ≡ learnt ++ last ∷ [] → additions learnt ≤ budget → additions steps ≤ budget + 1
@@ -36,7 +40,7 @@ short_of formula effort steps kept exhausted = record {
 }
 
 -- the file of a refutation has a proof
-proof_of : (formula : Cnf) (effort : Effort) (steps : List Step) (file : NamedFile) → file ≡ record { name = effort.proof; bytes = log_text steps } → KeepsAll effort.keep_all steps → IsRefutation formula effort.budget steps
+proof_of : (formula : Cnf) (effort : Effort) (steps : List Step) (file : AnswerFile) → file ≡ record { name = effort.proof; bytes = log_text steps } → KeepsAll effort.keep_all steps → IsRefutation formula effort.budget steps
     → verdict formula file.bytes ≡ Accepted → HasProof formula effort file
 proof_of formula effort steps file is kept refutation accepted = record {
   steps = steps;
@@ -45,7 +49,7 @@ proof_of formula effort steps file is kept refutation accepted = record {
   accepted = accepted;
 }
 
-pub log_of : (formula : Cnf) (effort : Effort) (steps : List Step) (file : NamedFile) → file ≡ record { name = effort.proof; bytes = log_text steps } → KeepsAll effort.keep_all steps → IsExhausted formula effort.budget steps
+pub log_of : (formula : Cnf) (effort : Effort) (steps : List Step) (file : AnswerFile) → file ≡ record { name = effort.proof; bytes = log_text steps } → KeepsAll effort.keep_all steps → IsExhausted formula effort.budget steps
     → HasSpentLog formula effort file
 log_of formula effort steps file is kept exhausted = record {
   steps = steps;
@@ -53,44 +57,41 @@ log_of formula effort steps file is kept exhausted = record {
   spent = exhausted.spent;
 }
 
--- a file that has this name and these bytes
-pub same_file : (file : NamedFile) (name bytes : List ℕ) → file.name ≡ name → file.bytes ≡ bytes → file ≡ record { name = name; bytes = bytes }
-same_file file name bytes named filled = rw (← named, ← filled) refl
-
-pub satisfied_answer : (formula : Cnf) (effort : Effort) (values : List Bool) (answer : GivenAnswer) → IsModel formula values → answer ≡ shown statuses.Pattern (model_text values)
-    → IsAnswer (decides formula effort) answer
+pub satisfied_answer : (formula : Cnf) (effort : Effort) (values : List Bool) (answer : Answer) → IsModel formula values → answer ≡ shown statuses.Pattern (model_text values)
+    → IsAnswer (questions.Decide formula effort) answer
 satisfied_answer formula effort values answer model is =
-    subst (IsAnswer (decides formula effort)) (sym is) (record { answers = satisfied values model; holds = (values, model) })
+    subst (IsAnswer (questions.Decide formula effort)) (sym is) (record { answers = satisfied values model; holds = (values, model) })
 
-pub unsatisfied_answer : (formula : Cnf) (effort : Effort) (steps : List Step) (file : NamedFile) (answer : GivenAnswer) → file ≡ record { name = effort.proof; bytes = log_text steps }
+pub unsatisfied_answer : (formula : Cnf) (effort : Effort) (steps : List Step) (file : AnswerFile) (answer : Answer) → file ≡ record { name = effort.proof; bytes = log_text steps }
     → KeepsAll effort.keep_all steps → IsRefutation formula effort.budget steps → verdict formula file.bytes ≡ Accepted → IsUnsatisfiable formula → answer ≡ said_behind file statuses.NoPattern (codes "s UNSATISFIABLE")
-    → IsAnswer (decides formula effort) answer
+    → IsAnswer (questions.Decide formula effort) answer
 unsatisfied_answer formula effort steps file answer named kept refutation accepted none is =
-    subst (IsAnswer (decides formula effort)) (sym is) (record { answers = unsatisfied file (proof_of formula effort steps file named kept refutation accepted); holds = none })
+    subst (IsAnswer (questions.Decide formula effort)) (sym is) (record { answers = unsatisfied file (proof_of formula effort steps file named kept refutation accepted); holds = none })
 
-pub unknown_answer : (formula : Cnf) (effort : Effort) (steps : List Step) (file : NamedFile) (answer : GivenAnswer) → file ≡ record { name = effort.proof; bytes = log_text steps }
-    → KeepsAll effort.keep_all steps → IsExhausted formula effort.budget steps → answer ≡ said_behind file statuses.Undecided (codes "s UNKNOWN") → IsAnswer (decides formula effort) answer
+pub unknown_answer : (formula : Cnf) (effort : Effort) (steps : List Step) (file : AnswerFile) (answer : Answer) → file ≡ record { name = effort.proof; bytes = log_text steps }
+    → KeepsAll effort.keep_all steps → IsExhausted formula effort.budget steps → answer ≡ said_behind file statuses.Undecided (codes "s UNKNOWN") → IsAnswer (questions.Decide formula effort) answer
 unknown_answer formula effort steps file answer named kept exhausted is =
-    subst (IsAnswer (decides formula effort)) (sym is)
+    subst (IsAnswer (questions.Decide formula effort)) (sym is)
     (record { answers = unknown file (log_of formula effort steps file named kept exhausted); holds = short_of formula effort steps kept exhausted })
 
-pub found_answer : (asked : Asked) (effort : Effort) (rle : Bool) (history : History) (answer : GivenAnswer) → IsSolution asked.problem history
-    → answer ≡ shown statuses.Pattern (pattern_text rle asked.problem.rule history) → IsAnswer (searches asked effort rle) answer
+pub found_answer : (asked : Asked) (effort : Effort) (rle : Bool) (history : History) (answer : Answer) → IsSolution asked.problem history
+    → answer ≡ shown statuses.Pattern (pattern_text rle asked.problem.rule history) → IsAnswer (questions.Search asked effort rle) answer
 found_answer asked effort rle history answer solution is =
     let law = plane_law asked.problem history solution in
-    subst (IsAnswer (searches asked effort rle)) (sym is) (record { answers = found history solution law; holds = (history, solution, law) })
+    subst (IsAnswer (questions.Search asked effort rle)) (sym is) (record { answers = found history solution law; holds = (history, solution, law) })
 
-pub absent_answer : (asked : Asked) (effort : Effort) (rle : Bool) (steps : List Step) (file : NamedFile) → file ≡ record { name = effort.proof; bytes = log_text steps }
+pub absent_answer : (asked : Asked) (effort : Effort) (rle : Bool) (steps : List Step) (file : AnswerFile) (answer : Answer) → file ≡ record { name = effort.proof; bytes = log_text steps }
     → KeepsAll effort.keep_all steps → IsRefutation (formula_asked asked) effort.budget steps → verdict (formula_asked asked) file.bytes ≡ Accepted → IsAbsent asked.problem
-    → IsAnswer (searches asked effort rle) (none_behind file)
-absent_answer asked effort rle steps file named kept refutation accepted none =
-    record { answers = absent file (proof_of (formula_asked asked) effort steps file named kept refutation accepted); holds = none }
+    → answer ≡ none_behind file → IsAnswer (questions.Search asked effort rle) answer
+absent_answer asked effort rle steps file answer named kept refutation accepted none is =
+    subst (IsAnswer (questions.Search asked effort rle)) (sym is)
+    (record { answers = absent file (proof_of (formula_asked asked) effort steps file named kept refutation accepted); holds = none })
 
-pub undecided_answer : (asked : Asked) (effort : Effort) (rle : Bool) (steps : List Step) (file : NamedFile) (answer : GivenAnswer) → file ≡ record { name = effort.proof; bytes = log_text steps }
+pub undecided_answer : (asked : Asked) (effort : Effort) (rle : Bool) (steps : List Step) (file : AnswerFile) (answer : Answer) → file ≡ record { name = effort.proof; bytes = log_text steps }
     → KeepsAll effort.keep_all steps → IsExhausted (formula_asked asked) effort.budget steps → answer ≡ said_behind file statuses.Undecided (codes "undecided")
-    → IsAnswer (searches asked effort rle) answer
+    → IsAnswer (questions.Search asked effort rle) answer
 undecided_answer asked effort rle steps file answer named kept exhausted is =
-    subst (IsAnswer (searches asked effort rle)) (sym is)
+    subst (IsAnswer (questions.Search asked effort rle)) (sym is)
     (record { answers = undecided file (log_of (formula_asked asked) effort steps file named kept exhausted); holds = short_of (formula_asked asked) effort steps kept exhausted })
 
 -- there is a variable for each cell

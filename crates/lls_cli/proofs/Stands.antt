@@ -7,11 +7,15 @@ use Rattle.lls_base.proofs.FileMaps.{get-insert_same}
 use Rattle.lls_words.specs.declared.error.WordsError.{WordsError}
 use Rattle.lls_words.specs.declared.job.Job.{Job}
 use Rattle.lls_words.specs.declared.job.Job.TheVariants as jobs
+use Rattle.lls_cli.specs.declared.question.Question.{Question}
+use Rattle.lls_cli.specs.declared.question.Question.TheVariants as questions
+use Rattle.lls_cli.specs.declared.question.Effort.{Effort}
+use Rattle.lls_cli.specs.declared.answer_file.AnswerFile.{AnswerFile}
+use Rattle.lls_cli.specs.declared.answer.Answer.{Answer}
 use Rattle.lls_cli.specs.declared.status.Status.{Status}
 use Rattle.lls_cli.specs.declared.status.Status.TheVariants as statuses
-use Rattle.lls_cli.specs.Question.{Question, Effort, checks, refutes, judges, searches, decides, encodes, prints, makes, default_effort, Asks}
-use Rattle.lls_cli.specs.Evidence.{NamedFile}
-use Rattle.lls_cli.specs.Answer.{GivenAnswer, Answers}
+use Rattle.lls_cli.specs.Question.{default_effort, Asks}
+use Rattle.lls_cli.specs.Answer.{Answers}
 use Rattle.lls_cli.specs.Making.{made_file}
 use Rattle.lls_cli.specs.Moment.{ShelfMoment, Moment, files_at}
 use Rattle.lls_cli.specs.Ends.{WroteFile, End, ahead_of, IsEnd}
@@ -24,14 +28,14 @@ use Rattle.lls_cli.proofs.Files.{outputs_asked, asked_outputs, answer_leaves}
 
 -- the files that a question writes have different names
 abbrev NamesApart : Question → Type 0
-NamesApart (makes seed size name effort) = name ≢ effort.proof
+NamesApart (questions.Make seed size name effort) = name ≢ effort.proof
 NamesApart question = Unit {0}
 
-made_apart : (job : Job) (files : Option Files) (seed size : ℕ) (name : List ℕ) (effort : Effort) → IsApart job → Asks job files (Ok (makes seed size name effort)) → name ≢ effort.proof
-made_apart job files seed size name effort apart asked = by_job job apart asked (asked_outputs job files (makes seed size name effort) statuses.Pattern asked) where
-  by_job : (job : Job) → IsApart job → Asks job files (Ok (makes seed size name effort)) → outputs_asked (makes seed size name effort) statuses.Pattern ≡ outputs_of job statuses.Pattern → name ≢ effort.proof
+made_apart : (job : Job) (files : Option Files) (seed size : ℕ) (name : List ℕ) (effort : Effort) → IsApart job → Asks job files (Ok (questions.Make seed size name effort)) → name ≢ effort.proof
+made_apart job files seed size name effort apart asked = by_job job apart asked (asked_outputs job files (questions.Make seed size name effort) statuses.Pattern asked) where
+  by_job : (job : Job) → IsApart job → Asks job files (Ok (questions.Make seed size name effort)) → outputs_asked (questions.Make seed size name effort) statuses.Pattern ≡ outputs_of job statuses.Pattern → name ≢ effort.proof
   by_job (jobs.Make other_seed other_size search_file proof) apart asked same = λ equal.
-      let is : makes seed size name effort ≡ makes other_seed other_size search_file (default_effort proof) = cc in
+      let is : questions.Make seed size name effort ≡ questions.Make other_seed other_size search_file (default_effort proof) = cc in
       let names : name ≡ search_file = cc in
       let efforts : effort ≡ default_effort proof = cc in
       let proofs : effort.proof ≡ proof = ap (λ (e : Effort). e.proof) efforts in
@@ -45,14 +49,14 @@ made_apart job files seed size name effort apart asked = by_job job apart asked 
   by_job (jobs.Rule rule) apart asked same = absurd cc
 
 names_apart : (job : Result Job WordsError) (files : Option Files) (question : Question) → AreApart job → IsAsked job files question → NamesApart question
-names_apart (Ok job) files (makes seed size name effort) apart asked = made_apart job files seed size name effort apart asked
-names_apart (Ok job) files (checks of bytes) apart asked = tt
-names_apart (Ok job) files (refutes formula bytes) apart asked = tt
-names_apart (Ok job) files (judges problem history) apart asked = tt
-names_apart (Ok job) files (searches of effort rle) apart asked = tt
-names_apart (Ok job) files (decides formula effort) apart asked = tt
-names_apart (Ok job) files (encodes of) apart asked = tt
-names_apart (Ok job) files (prints rule) apart asked = tt
+names_apart (Ok job) files (questions.Make seed size name effort) apart asked = made_apart job files seed size name effort apart asked
+names_apart (Ok job) files (questions.Check of bytes) apart asked = tt
+names_apart (Ok job) files (questions.Refute formula bytes) apart asked = tt
+names_apart (Ok job) files (questions.Judge problem history) apart asked = tt
+names_apart (Ok job) files (questions.Search of effort rle) apart asked = tt
+names_apart (Ok job) files (questions.Decide formula effort) apart asked = tt
+names_apart (Ok job) files (questions.Encode of) apart asked = tt
+names_apart (Ok job) files (questions.Print rule) apart asked = tt
 names_apart (Err error) files question apart asked = absurd asked
 
 nothing_ahead : (files : Option Files) → HasWhole files None
@@ -60,7 +64,7 @@ nothing_ahead None = tt
 nothing_ahead (Some files) = tt
 
 -- a file that was written, and that nothing changed then
-stands_from : (file : NamedFile) (before mid after : Option Files) → mid ≡ option_map (λ files. map.insert files file.name file.bytes) before → Same file.name mid after → HasWhole after (Some file)
+stands_from : (file : AnswerFile) (before mid after : Option Files) → mid ≡ option_map (λ files. map.insert files file.name file.bytes) before → Same file.name mid after → HasWhole after (Some file)
 stands_from file before mid None is same = tt
 stands_from file None mid (Some files) is same =
     let none : Some (map.get files file.name) ≡ None = same ∙ ap (option_map (λ known. map.get known file.name)) is in
@@ -70,19 +74,19 @@ stands_from file (Some known) mid (Some files) is same =
     let equal : map.get files file.name ≡ map.get (map.insert known file.name file.bytes) file.name = cc in
     equal ∙ get-insert_same known file.name file.bytes
 
-stands_in : (question : Question) (answer : GivenAnswer) (before mid after : ShelfMoment) → NamesApart question → Answers question answer → WroteAhead (ahead_of question) before mid
+stands_in : (question : Question) (answer : Answer) (before mid after : ShelfMoment) → NamesApart question → Answers question answer → WroteAhead (ahead_of question) before mid
     → WroteFile answer.file mid after → HasWhole (files_at after) (ahead_of question)
-stands_in (makes seed size name effort) answer before mid after apart right ahead wrote =
+stands_in (questions.Make seed size name effort) answer before mid after apart right ahead wrote =
     let file = made_file seed size name in
     stands_from file (files_at before) (files_at mid) (files_at after) (wrote_some (Some file) file before mid refl ahead)
-    (answer_leaves (makes seed size name effort) answer mid after name right apart wrote)
-stands_in (checks asked bytes) answer before mid after apart right ahead wrote = nothing_ahead (files_at after)
-stands_in (refutes formula bytes) answer before mid after apart right ahead wrote = nothing_ahead (files_at after)
-stands_in (judges problem history) answer before mid after apart right ahead wrote = nothing_ahead (files_at after)
-stands_in (searches asked effort rle) answer before mid after apart right ahead wrote = nothing_ahead (files_at after)
-stands_in (decides formula effort) answer before mid after apart right ahead wrote = nothing_ahead (files_at after)
-stands_in (encodes asked) answer before mid after apart right ahead wrote = nothing_ahead (files_at after)
-stands_in (prints rule) answer before mid after apart right ahead wrote = nothing_ahead (files_at after)
+    (answer_leaves (questions.Make seed size name effort) answer mid after name right apart wrote)
+stands_in (questions.Check asked bytes) answer before mid after apart right ahead wrote = nothing_ahead (files_at after)
+stands_in (questions.Refute formula bytes) answer before mid after apart right ahead wrote = nothing_ahead (files_at after)
+stands_in (questions.Judge problem history) answer before mid after apart right ahead wrote = nothing_ahead (files_at after)
+stands_in (questions.Search asked effort rle) answer before mid after apart right ahead wrote = nothing_ahead (files_at after)
+stands_in (questions.Decide formula effort) answer before mid after apart right ahead wrote = nothing_ahead (files_at after)
+stands_in (questions.Encode asked) answer before mid after apart right ahead wrote = nothing_ahead (files_at after)
+stands_in (questions.Print rule) answer before mid after apart right ahead wrote = nothing_ahead (files_at after)
 
 pub stands : (job : Result Job WordsError) (before after : Moment) (status : Status) → AreApart job → (end : End) × IsEnd job before after status end → IsAnswered status
     → OfQuestion (λ question. HasWhole (files_at after.shelf) (ahead_of question)) job (files_at before.shelf)

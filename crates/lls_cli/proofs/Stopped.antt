@@ -2,14 +2,15 @@
 use Rattle.std.proofs.Common.{ℕ, List, [], Option, None, Some, Result, Ok, Err, refl, ap, arith}
 use Rattle.lls_base.specs.Results.{and_then}
 use Rattle.lls_base.specs.Shelf.{Files}
+use Rattle.lls_cli.specs.declared.question.Question.{Question}
 use Rattle.lls_cli.specs.declared.fault.Fault.{Fault}
 use Rattle.lls_cli.specs.declared.fault.Fault.TheVariants as faults
 use Rattle.lls_cli.specs.declared.fault.OutsideFault.TheVariants as outside
 use Rattle.lls_cli.specs.Moment.{ShelfMoment}
-use Rattle.lls_cli.specs.Question.{Question, IsInput, MadeOfOne, MadeOf, input_of}
-use Rattle.lls_cli.specs.Steps.{Stops}
+use Rattle.lls_cli.specs.Question.{IsInput, MadeOfOne, MadeOf, input_of}
+use Rattle.lls_cli.specs.Steps.{Reads, Stops}
 
-pub Stops-along : (fault : Fault) (One Two : Fault → Type 0) (before after : ShelfMoment) → (One fault → Two fault) → Stops fault One before after → Stops fault Two before after
+Stops-along : (fault : Fault) (One Two : Fault → Type 0) (before after : ShelfMoment) → (One fault → Two fault) → Stops fault One before after → Stops fault Two before after
 Stops-along faults.Memory One Two before after along stops = tt
 Stops-along (faults.Outside outside.OpenFailed) One Two before after along stops = stops
 Stops-along (faults.Outside outside.ReadFailed) One Two before after along stops = stops
@@ -31,7 +32,7 @@ some_input None name limit = (Ok [], omega arith)
 some_input (Some files) name limit = (input_of files name limit, refl)
 
 -- a refusal of the first of two inputs is that of both
-pub first_refused : {Y : Type 0} (files : Option Files) (one two : List ℕ) (one_limit two_limit : ℕ)
+first_refused : {Y : Type 0} (files : Option Files) (one two : List ℕ) (one_limit two_limit : ℕ)
     (make : Result (List ℕ) Fault → Result Y Fault) (more : Result (List ℕ) Fault → Y → Result Question Fault) (fault : Fault)
     → MadeOfOne files one one_limit make (Err fault) → MadeOf files one one_limit two two_limit (λ first second. and_then (make first) (more second)) (Err fault)
 first_refused files one two one_limit two_limit make more fault refused =
@@ -45,7 +46,30 @@ first_refused files one two one_limit two_limit make more fault refused =
     }
 
 -- and a refusal of the only input is the question's
-pub only_refused : {Y : Type 0} (files : Option Files) (one : List ℕ) (limit : ℕ) (make : Result (List ℕ) Fault → Result Y Fault) (more : Y → Result Question Fault) (fault : Fault)
+only_refused : {Y : Type 0} (files : Option Files) (one : List ℕ) (limit : ℕ) (make : Result (List ℕ) Fault → Result Y Fault) (more : Y → Result Question Fault) (fault : Fault)
     → MadeOfOne files one limit make (Err fault) → MadeOfOne files one limit (λ input. and_then (make input) more) (Err fault)
 only_refused files one limit make more fault refused =
     record { input = refused.input; input_is = refused.input_is; made = ap (λ part. and_then part more) refused.made }
+
+-- a reading that stops at the first of two inputs
+pub first_stopped : {Y : Type 0} (files : Option Files) (one two : List ℕ) (one_limit two_limit : ℕ)
+    (make : Result (List ℕ) Fault → Result Y Fault) (more : Result (List ℕ) Fault → Y → Result Question Fault) (fault : Fault) (before after : ShelfMoment)
+    → Reads (MadeOfOne files one one_limit make) (Err fault) before after
+    → Reads (MadeOf files one one_limit two two_limit (λ first second. and_then (make first) (more second))) (Err fault) before after
+first_stopped files one two one_limit two_limit make more fault before after read = record {
+  kept = read.kept;
+  counts = read.counts;
+  ok = tt;
+  err = Stops-along fault _ _ before after (first_refused files one two one_limit two_limit make more fault) read.err;
+}
+
+-- and at the only one
+pub only_stopped : {Y : Type 0} (files : Option Files) (one : List ℕ) (limit : ℕ) (make : Result (List ℕ) Fault → Result Y Fault) (more : Y → Result Question Fault)
+    (fault : Fault) (before after : ShelfMoment) → Reads (MadeOfOne files one limit make) (Err fault) before after
+    → Reads (MadeOfOne files one limit (λ input. and_then (make input) more)) (Err fault) before after
+only_stopped files one limit make more fault before after read = record {
+  kept = read.kept;
+  counts = read.counts;
+  ok = tt;
+  err = Stops-along fault _ _ before after (only_refused files one limit make more fault) read.err;
+}

@@ -3,13 +3,13 @@ use Rattle.std.proofs.Common.{◌≡◌, Option, Result, Ok, Err, refl, sym, ◌
 use Rattle.lls_base.specs.Shelf.{Files}
 use Rattle.lls_words.specs.declared.error.WordsError.{WordsError}
 use Rattle.lls_words.specs.declared.job.Job.{Job}
+use Rattle.lls_cli.specs.declared.answer_file.AnswerFile.{AnswerFile}
 use Rattle.lls_cli.specs.declared.fault.Fault.{Fault}
 use Rattle.lls_cli.specs.declared.fault.Fault.TheVariants as faults
 use Rattle.lls_cli.specs.declared.fault.OutsideFault.TheVariants as outside
 use Rattle.lls_cli.specs.declared.status.Status.{Status}
 use Rattle.lls_cli.specs.declared.status.Status.TheVariants as statuses
 use Rattle.lls_cli.specs.Fault.{status_of}
-use Rattle.lls_cli.specs.Evidence.{NamedFile}
 use Rattle.lls_cli.specs.Moment.{ShelfMoment, Moment, files_at}
 use Rattle.lls_cli.specs.Ends.{IsOfInput, LeavesPart, FileFailed, End, refused, lacked, input_failed, ahead_failed, answered, file_failed, output_failed, IsEnd}
 use Rattle.lls_cli.specs.Claims.{IsFaultStatus, SaysWhy}
@@ -29,7 +29,7 @@ input_status (faults.TooLong limit) after is = absurd is
 input_status faults.Memory after is = absurd is
 
 -- and so is that of a file that wasn't written
-part_status : (fault : Fault) (file : NamedFile) (before after : Option Files) → LeavesPart fault file before after → status_of fault ≡ statuses.Outside
+part_status : (fault : Fault) (file : AnswerFile) (before after : Option Files) → LeavesPart fault file before after → status_of fault ≡ statuses.Outside
 part_status (faults.Outside fault) file before after part = refl
 part_status (faults.Words error) file before after part = absurd part
 part_status (faults.Posed error) file before after part = absurd part
@@ -40,7 +40,7 @@ part_status (faults.Rle error) file before after part = absurd part
 part_status (faults.TooLong limit) file before after part = absurd part
 part_status faults.Memory file before after part = absurd part
 
-file_says : (written : Option NamedFile) (fault : Fault) (before after : Moment) (status : Status) → FileFailed written fault before after status → SaysWhy status before.err after.err
+file_says : (written : Option AnswerFile) (fault : Fault) (before after : Moment) (status : Status) → FileFailed written fault before after status → SaysWhy status before.err after.err
 file_says written fault before after status failed =
     (fault, failed.status_is ∙ sym (part_status fault failed.file (files_at before.shelf) (files_at after.shelf) failed.part), failed.err)
 

@@ -10,7 +10,7 @@ use Rattle.lls_base.specs.Writing.{with_output, without_output}
 use Rattle.lls_base.specs.declared.sink.Failed.{Failed}
 use Rattle.lls_base.specs.declared.writing.FileFault.{FileFault}
 use Rattle.lls_base.specs.declared.writing.FileFault.TheVariants as writes
-use Rattle.lls_cli.specs.Evidence.{NamedFile}
+use Rattle.lls_cli.specs.declared.answer_file.AnswerFile.{AnswerFile}
 use Rattle.lls_cli.specs.Moment.{SinkMoment, ShelfMoment}
 use Rattle.lls_cli.specs.Ends.{GrewBy}
 use Rattle.lls_cli.specs.Steps.{Unwritten, file_fault}
@@ -34,7 +34,7 @@ files_at-with_output : (name bytes : List ℕ) (told : Option Contents)
 files_at-with_output name bytes None = refl
 files_at-with_output name bytes (Some c) = refl
 
-pub unwritten : (fault : FileFault) (file : NamedFile) (before after : ShelfMoment)
+pub unwritten : (fault : FileFault) (file : AnswerFile) (before after : ShelfMoment)
     → (fault ≡ writes.CreateFailed → after.told ≡ option_map without_output before.told)
     → (fault ≡ writes.WriteFailed → (n : ℕ) × (n ≤ length file.bytes) × (after.told ≡ option_map (with_output file.name (take n file.bytes)) before.told))
     → Counts before.faults after.faults → Rose before.faults after.faults → Unwritten (Some file) (file_fault fault) before after

@@ -11,17 +11,21 @@ use Rattle.lls_encode.specs.Formula.{formula_of}
 use Rattle.lls_gen.specs.Made.{made_problem}
 use Rattle.lls_words.specs.declared.job.Job.{Job}
 use Rattle.lls_words.specs.declared.job.Job.TheVariants as jobs
+use Rattle.lls_cli.specs.declared.question.Question.{Question}
+use Rattle.lls_cli.specs.declared.question.Question.TheVariants as questions
+use Rattle.lls_cli.specs.declared.question.Effort.{Effort}
+use Rattle.lls_cli.specs.declared.answer_file.AnswerFile.{AnswerFile}
+use Rattle.lls_cli.specs.declared.answer.Answer.{Answer}
 use Rattle.lls_cli.specs.declared.fault.Fault.{Fault}
 use Rattle.lls_cli.specs.declared.fault.Fault.TheVariants as faults
 use Rattle.lls_cli.specs.declared.fault.OutsideFault.TheVariants as outside
 use Rattle.lls_cli.specs.declared.question.Asked.{Asked}
 use Rattle.lls_cli.specs.declared.status.Status.{Status}
 use Rattle.lls_cli.specs.declared.status.Status.TheVariants as statuses
-use Rattle.lls_cli.specs.Question.{Question, Effort, formula_asked, checks, searches, decides, makes, proof_limit, question_of, Asks}
-use Rattle.lls_cli.specs.Evidence.{NamedFile}
+use Rattle.lls_cli.specs.Question.{formula_asked, proof_limit, question_of, Asks}
 use Rattle.lls_cli.specs.Fault.{fault_line, status_of}
 use Rattle.lls_cli.specs.Ends.{GrewBy, ahead_of, with_file}
-use Rattle.lls_cli.specs.Answer.{GivenAnswer, Holds, IsAnswer, YesHolds}
+use Rattle.lls_cli.specs.Answer.{Holds, IsAnswer, YesHolds}
 use Rattle.lls_cli.specs.Moment.{SinkMoment, Moment, files_at}
 
 -- a fact of the question that words and files ask. Where the shelf doesn't tell its files, it is a question that the words ask of
@@ -94,7 +98,7 @@ ChangesOnly (name ∷ names) before after =
     (other : List ℕ) → All (λ changed. other ≢ changed) (name ∷ names) → option_map (λ files. map.get files other) after ≡ option_map (λ files. map.get files other) before
 
 -- a file that wasn't written, or not whole: no file changed, or its name stands for first bytes of its text, perhaps none
-abbrev pub IsBegun : Option NamedFile → Option Files → Option Files → Type 0
+abbrev pub IsBegun : Option AnswerFile → Option Files → Option Files → Type 0
 IsBegun None before after = after ≡ before
 IsBegun (Some file) before after =
     (after ≡ before) ⊎ ((n : ℕ) × (after ≡ option_map (λ files. map.insert files file.name (take n file.bytes)) before))
@@ -103,26 +107,26 @@ IsBegun (Some file) before after =
 abbrev pub IsBegunFor : Option Files → Option Files → Question → Type 0
 IsBegunFor before after question =
     IsBegun (ahead_of question) before after
-    ⊎ ((answer : GivenAnswer) × IsAnswer question answer × IsBegun answer.file (option_map (with_file (ahead_of question)) before) after)
+    ⊎ ((answer : Answer) × IsAnswer question answer × IsBegun answer.file (option_map (with_file (ahead_of question)) before) after)
 
 -- what a failure of the outside leaves: the files as they were, or those of a question that is asked, begun
 abbrev pub LeavesBegun : Result Job WordsError → Option Files → Option Files → Type 0
 LeavesBegun job before after = (after ≡ before) ⊎ OfQuestion (IsBegunFor before after) job before
 
 -- a fact of the file that a name stands for
-abbrev pub OfFile : (NamedFile → Type 0) → List ℕ → Option Files → Type 0
+abbrev pub OfFile : (AnswerFile → Type 0) → List ℕ → Option Files → Type 0
 OfFile Fact name None = Unit {0}
 OfFile Fact name (Some files) = (bytes : List ℕ) × (map.get files name ≡ Some bytes) × Fact (record { name = name; bytes = bytes })
 
 -- what a search leaves in its file, by the formula that it searches
-abbrev pub Leaves : (Cnf → Effort → NamedFile → Type 0) → Option Files → Question → Type 0
-Leaves Has files (searches asked effort rle) = OfFile (Has (formula_asked asked) effort) effort.proof files
-Leaves Has files (decides formula effort) = OfFile (Has formula effort) effort.proof files
-Leaves Has files (makes seed size name effort) = OfFile (Has (formula_of (made_problem seed size) Rows) effort) effort.proof files
+abbrev pub Leaves : (Cnf → Effort → AnswerFile → Type 0) → Option Files → Question → Type 0
+Leaves Has files (questions.Search asked effort rle) = OfFile (Has (formula_asked asked) effort) effort.proof files
+Leaves Has files (questions.Decide formula effort) = OfFile (Has formula effort) effort.proof files
+Leaves Has files (questions.Make seed size name effort) = OfFile (Has (formula_of (made_problem seed size) Rows) effort) effort.proof files
 Leaves Has files question = ⊥
 
 -- a file that is written before the answer is looked for stands whole
-abbrev pub HasWhole : Option Files → Option NamedFile → Type 0
+abbrev pub HasWhole : Option Files → Option AnswerFile → Type 0
 HasWhole (Some files) (Some file) = map.get files file.name ≡ Some file.bytes
 HasWhole files file = Unit {0}
 
@@ -131,8 +135,8 @@ HasWhole files file = Unit {0}
 abbrev pub Publishes : Result Job WordsError → Option Files → Option Files → Type 0
 Publishes (Ok (jobs.Search search_file proof rule demands form budget keep_all rle)) (Some before) (Some after) =
     (asked : Asked) × (bytes : List ℕ) × (map.get after proof ≡ Some bytes)
-    × (length bytes ≤ proof_limit → question_of (jobs.Check search_file proof rule demands form) after ≡ Ok (checks asked bytes))
-    × YesHolds (checks asked bytes)
+    × (length bytes ≤ proof_limit → question_of (jobs.Check search_file proof rule demands form) after ≡ Ok (questions.Check asked bytes))
+    × YesHolds (questions.Check asked bytes)
 Publishes job before after = Unit {0}
 
 -- where the inputs ask a question, and no call of the shelf or of the standard output failed, it is answered, but for want of

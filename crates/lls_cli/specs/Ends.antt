@@ -8,16 +8,19 @@ use Rattle.lls_base.specs.Shelf.{Files, known_target}
 use Rattle.lls_words.specs.declared.error.WordsError.{WordsError}
 use Rattle.lls_words.specs.declared.job.Job.{Job}
 use Rattle.lls_words.specs.declared.job.Job.TheVariants as jobs
+use Rattle.lls_cli.specs.declared.question.Question.{Question}
+use Rattle.lls_cli.specs.declared.question.Question.TheVariants as questions
+use Rattle.lls_cli.specs.declared.answer_file.AnswerFile.{AnswerFile}
+use Rattle.lls_cli.specs.declared.answer.Answer.{Answer}
 use Rattle.lls_cli.specs.declared.fault.Fault.{Fault}
 use Rattle.lls_cli.specs.declared.fault.Fault.TheVariants as faults
 use Rattle.lls_cli.specs.declared.fault.OutsideFault.TheVariants as outside
 use Rattle.lls_cli.specs.declared.status.Status.{Status}
 use Rattle.lls_cli.specs.declared.status.Status.TheVariants as statuses
 use Rattle.lls_cli.specs.Fault.{fault_line, status_of}
-use Rattle.lls_cli.specs.Question.{Question, makes, Asks}
-use Rattle.lls_cli.specs.Evidence.{NamedFile}
+use Rattle.lls_cli.specs.Question.{Asks}
 use Rattle.lls_cli.specs.Making.{made_file}
-use Rattle.lls_cli.specs.Answer.{GivenAnswer, IsAnswer}
+use Rattle.lls_cli.specs.Answer.{IsAnswer}
 use Rattle.lls_cli.specs.Moment.{ShelfMoment, SinkMoment, Moment, with_shelf, files_at}
 
 -- a sink grew by some first bytes of a text, and by all of it but where its count of faults rose
@@ -72,23 +75,23 @@ pub record InputFailed (fault : Fault) (before after : Moment) (status : Status)
   pub err : GrewBy (fault_line fault) before.err after.err
 
 -- the files with the one of an answer
-abbrev pub with_file : Option NamedFile → Files → Files
+abbrev pub with_file : Option AnswerFile → Files → Files
 with_file None files = files
 with_file (Some file) files = map.insert files file.name file.bytes
 
 -- where an answer has no file, the current output is as before
-abbrev pub KeepsOutput : Option NamedFile → ShelfMoment → ShelfMoment → Type 0
+abbrev pub KeepsOutput : Option AnswerFile → ShelfMoment → ShelfMoment → Type 0
 KeepsOutput None before after = (known_target after.told ≡ known_target before.told) × (after.has_output ≡ before.has_output)
 KeepsOutput (Some file) before after = Unit {0}
 
 -- the file of an answer stands whole, if it has one
-pub record WroteFile (file : Option NamedFile) (before after : ShelfMoment) : Type 0 where
+pub record WroteFile (file : Option AnswerFile) (before after : ShelfMoment) : Type 0 where
   pub files : files_at after ≡ option_map (with_file file) (files_at before)
   pub output : KeepsOutput file before after
   pub faults : after.faults ≡ before.faults
 
 -- an answer was given whole: its file, then its text
-pub record Delivered (answer : GivenAnswer) (before after : Moment) (status : Status) : Type 0 where
+pub record Delivered (answer : Answer) (before after : Moment) (status : Status) : Type 0 where
   pub status_is : status ≡ answer.status
   pub shelf : WroteFile answer.file before.shelf after.shelf
   pub out : after.out.written ≡ append_known before.out.written answer.text
@@ -96,15 +99,15 @@ pub record Delivered (answer : GivenAnswer) (before after : Moment) (status : St
   pub err : after.err ≡ before.err
 
 -- what a file stands for that wasn't made, or wasn't written whole: what it did, nothing or first bytes
-abbrev pub LeavesPart : Fault → NamedFile → Option Files → Option Files → Type 0
+abbrev pub LeavesPart : Fault → AnswerFile → Option Files → Option Files → Type 0
 LeavesPart (faults.Outside outside.CreateFailed) file before after = after ≡ before
 LeavesPart (faults.Outside outside.WriteFailed) file before after =
     (n : ℕ) × (n ≤ length file.bytes) × (after ≡ option_map (λ files. map.insert files file.name (take n file.bytes)) before)
 LeavesPart fault file before after = ⊥
 
 -- a file failed: a call of the shelf did. The standard output has nothing new
-pub record FileFailed (written : Option NamedFile) (fault : Fault) (before after : Moment) (status : Status) : Type 0 where
-  pub file : NamedFile
+pub record FileFailed (written : Option AnswerFile) (fault : Fault) (before after : Moment) (status : Status) : Type 0 where
+  pub file : AnswerFile
   pub file_is : written ≡ Some file
   pub part : LeavesPart fault file (files_at before.shelf) (files_at after.shelf)
   pub status_is : status ≡ statuses.Outside
@@ -114,7 +117,7 @@ pub record FileFailed (written : Option NamedFile) (fault : Fault) (before after
   pub err : GrewBy (fault_line fault) before.err after.err
 
 -- the standard output failed: its file stands whole, and the output has first bytes of the text
-pub record OutputFailed (answer : GivenAnswer) (before after : Moment) (status : Status) : Type 0 where
+pub record OutputFailed (answer : Answer) (before after : Moment) (status : Status) : Type 0 where
   pub status_is : status ≡ statuses.Outside
   pub shelf : WroteFile answer.file before.shelf after.shelf
   pub out : (n : ℕ) × (n ≤ length answer.text) × (after.out.written ≡ append_known before.out.written (take n answer.text))
@@ -128,9 +131,9 @@ pub data End : Type 0 where
   lacked : End
   input_failed : Fault → End
   ahead_failed : Fault → End
-  answered : GivenAnswer → End
-  file_failed : GivenAnswer → Fault → End
-  output_failed : GivenAnswer → End
+  answered : Answer → End
+  file_failed : Answer → Fault → End
+  output_failed : Answer → End
 
 -- how a question ends: with a right answer that is given, or that the outside refuses, or for want of memory. A file that is
 -- written before the answer is looked for stands by then
@@ -144,13 +147,13 @@ IsEndOf question before after status (input_failed fault) = ⊥
 IsEndOf question before after status (ahead_failed fault) = ⊥
 
 -- the file that is written before the answer is looked for: a made problem's search file, and no other
-abbrev pub ahead_of : Question → Option NamedFile
-ahead_of (makes seed size name effort) = Some (made_file seed size name)
+abbrev pub ahead_of : Question → Option AnswerFile
+ahead_of (questions.Make seed size name effort) = Some (made_file seed size name)
 ahead_of question = None
 
 -- how a question ends behind its file: the file wasn't made or written whole; or there was no memory to make it; or it stands whole,
 -- and the question ends from there
-abbrev pub IsEndBehind : Option NamedFile → Question → Moment → Moment → Status → End → Type 0
+abbrev pub IsEndBehind : Option AnswerFile → Question → Moment → Moment → Status → End → Type 0
 IsEndBehind None question before after status end = IsEndOf question before after status end
 IsEndBehind (Some file) question before after status (ahead_failed fault) = FileFailed (Some file) fault before after status
 IsEndBehind (Some file) question before after status lacked =

@@ -1,32 +1,28 @@
 -- What a search leaves in its file: a proof that there is nothing to find, or the log of a budget that is spent.
-use Rattle.std.specs.Prelude.{◌≡◌, ◌≤◌, ℕ, ◌+◌, true, List, count_by}
+use Rattle.std.specs.Prelude.{◌≡◌, ◌≤◌, ◌+◌, true, List, count_by}
 use Rattle.std.specs.List.{list_all}
 use Rattle.lls_lit.specs.Formula.{Cnf}
 use Rattle.lls_prooflog.specs.declared.step.Step.{Step}
 use Rattle.lls_prooflog.specs.Log.{log_text}
 use Rattle.lls_prooflog.specs.Spent.{IsSpent, is_addition}
 use Rattle.lls_lrat.specs.Verdict.{Accepted, verdict}
-use Rattle.lls_cli.specs.Question.{Effort}
-
--- a file that is written: its name and its bytes
-pub record NamedFile : Type 0 where
-  pub name : List ℕ
-  pub bytes : List ℕ
+use Rattle.lls_cli.specs.declared.question.Effort.{Effort}
+use Rattle.lls_cli.specs.declared.answer_file.AnswerFile.{AnswerFile}
 
 -- the file has the text of these steps, none of which is a deletion where all clauses are kept
-pub record HasLog (effort : Effort) (steps : List Step) (file : NamedFile) : Type 0 where
+pub record HasLog (effort : Effort) (steps : List Step) (file : AnswerFile) : Type 0 where
   pub file_is : file ≡ record { name = effort.proof; bytes = log_text steps }
   pub all_kept : effort.keep_all ≡ true → list_all is_addition steps ≡ true
 
 -- a proof that the checker accepts: as many clauses as the search may learn at most, and the empty clause
-pub record HasProof (formula : Cnf) (effort : Effort) (file : NamedFile) : Type 0 where
+pub record HasProof (formula : Cnf) (effort : Effort) (file : AnswerFile) : Type 0 where
   pub steps : List Step
   pub log : HasLog effort steps file
   pub within : count_by is_addition steps ≤ effort.budget + 1
   pub accepted : verdict formula file.bytes ≡ Accepted
 
 -- the log of a search that learnt as many clauses as it may, each of them fresh, and wasn't done
-pub record HasSpentLog (formula : Cnf) (effort : Effort) (file : NamedFile) : Type 0 where
+pub record HasSpentLog (formula : Cnf) (effort : Effort) (file : AnswerFile) : Type 0 where
   pub steps : List Step
   pub log : HasLog effort steps file
   pub spent : IsSpent formula steps effort.budget

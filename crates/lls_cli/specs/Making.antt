@@ -10,10 +10,10 @@ use Rattle.lls_gen.specs.declared.making.Made.{Made}
 use Rattle.lls_gen.specs.Made.{made, made_problem}
 use Rattle.lls_problem.specs.declared.form.Form.TheVariants.{Rows}
 use Rattle.lls_encode.specs.Formula.{formula_of}
-use Rattle.lls_cli.specs.Evidence.{NamedFile}
+use Rattle.lls_cli.specs.declared.answer_file.AnswerFile.{AnswerFile}
 
 -- the search file of a made problem
-abbrev pub made_file : ℕ → ℕ → List ℕ → NamedFile
+abbrev pub made_file : ℕ → ℕ → List ℕ → AnswerFile
 made_file seed size name = record { name = name; bytes = posed_text (made_problem seed size).posed }
 
 -- a cell whose value is fixed

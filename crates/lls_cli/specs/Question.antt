@@ -25,6 +25,9 @@ use Rattle.lls_encode.specs.Formula.{formula_of}
 use Rattle.lls_words.specs.Values.{default_budget}
 use Rattle.lls_words.specs.declared.job.Job.{Job}
 use Rattle.lls_words.specs.declared.job.Job.TheVariants as jobs
+use Rattle.lls_cli.specs.declared.question.Question.{Question}
+use Rattle.lls_cli.specs.declared.question.Question.TheVariants as questions
+use Rattle.lls_cli.specs.declared.question.Effort.{Effort}
 use Rattle.lls_cli.specs.declared.fault.Fault.{Fault}
 use Rattle.lls_cli.specs.declared.fault.Fault.TheVariants as faults
 use Rattle.lls_cli.specs.declared.fault.OutsideFault.TheVariants as outside
@@ -37,26 +40,6 @@ asked_with form problem = record { problem = problem; form = form }
 -- the formula that is asked about
 abbrev pub formula_asked : Asked → Cnf
 formula_asked asked = formula_of asked.problem asked.form
-
--- how a search is made: how many clauses it may learn, whether it keeps all of them, and the name of the file of its log
-pub record Effort : Type 0 where
-  pub budget : ℕ
-  pub keep_all : Bool
-  pub proof : List ℕ
-
--- check this proof's bytes against this problem, or against this formula; judge this history by this problem; find a
--- solution of this problem, which is printed as a picture or as rows, or an assignment that satisfies this formula, or show
--- that there is none; print this problem's formula; print this rule; make a problem from this seed and of this size, write it to
--- the file of this name, and search it
-pub data Question : Type 0 where
-  checks : Asked → List ℕ → Question
-  refutes : Cnf → List ℕ → Question
-  judges : PosedProblem → History → Question
-  searches : Asked → Effort → Bool → Question
-  decides : Cnf → Effort → Question
-  encodes : Asked → Question
-  prints : List Bool → Question
-  makes : ℕ → ℕ → List ℕ → Effort → Question
 
 -- how many bytes an input has at most: a search file or a pattern; a proof; a formula
 abbrev pub search_limit : ℕ
@@ -125,21 +108,21 @@ formula_in bytes = formula_read (dimacs bytes)
 -- what two inputs ask, or one: a check, a judging, the text of a formula
 abbrev pub check_question : List Bool → Demands → Form → Result (List ℕ) Fault → Result (List ℕ) Fault → Result Question Fault
 check_question rule demands form first second =
-    and_then (and_then first (problem_in rule demands)) (λ problem. and_then second (λ proof. Ok (checks (asked_with form problem) proof)))
+    and_then (and_then first (problem_in rule demands)) (λ problem. and_then second (λ proof. Ok (questions.Check (asked_with form problem) proof)))
 
 abbrev pub judge_question : List Bool → Demands → Bool → Result (List ℕ) Fault → Result (List ℕ) Fault → Result Question Fault
 judge_question rule demands rle first second =
-    and_then (and_then first (problem_in rule demands)) (λ problem. and_then (and_then second (pattern_in rle problem)) (λ history. Ok (judges problem history)))
+    and_then (and_then first (problem_in rule demands)) (λ problem. and_then (and_then second (pattern_in rle problem)) (λ history. Ok (questions.Judge problem history)))
 
 abbrev pub refute_question : Result (List ℕ) Fault → Result (List ℕ) Fault → Result Question Fault
 refute_question first second =
-    and_then (and_then first formula_in) (λ formula. and_then second (λ proof. Ok (refutes formula proof)))
+    and_then (and_then first formula_in) (λ formula. and_then second (λ proof. Ok (questions.Refute formula proof)))
 
 abbrev pub search_question : List Bool → Demands → Form → Effort → Bool → Result (List ℕ) Fault → Result Question Fault
-search_question rule demands form effort rle input = and_then (and_then input (problem_in rule demands)) (λ problem. Ok (searches (asked_with form problem) effort rle))
+search_question rule demands form effort rle input = and_then (and_then input (problem_in rule demands)) (λ problem. Ok (questions.Search (asked_with form problem) effort rle))
 
 abbrev pub decide_question : Effort → Result (List ℕ) Fault → Result Question Fault
-decide_question effort input = and_then (and_then input formula_in) (λ formula. Ok (decides formula effort))
+decide_question effort input = and_then (and_then input formula_in) (λ formula. Ok (questions.Decide formula effort))
 
 abbrev pub effort_of : ℕ → Bool → List ℕ → Effort
 effort_of budget keep_all proof = record { budget = budget; keep_all = keep_all; proof = proof }
@@ -149,7 +132,7 @@ abbrev pub default_effort : List ℕ → Effort
 default_effort proof = effort_of default_budget false proof
 
 abbrev pub encode_question : List Bool → Demands → Form → Result (List ℕ) Fault → Result Question Fault
-encode_question rule demands form input = and_then (and_then input (problem_in rule demands)) (λ problem. Ok (encodes (asked_with form problem)))
+encode_question rule demands form input = and_then (and_then input (problem_in rule demands)) (λ problem. Ok (questions.Encode (asked_with form problem)))
 
 -- what a job asks of its inputs: of none, of one or of two, each by its name and with at most so many bytes, and the question that
 -- what was read of them makes
@@ -166,8 +149,8 @@ asking_of (jobs.Search search_file proof rule demands form budget keep_all rle) 
 asking_of (jobs.Sat formula proof budget keep_all) = of_one formula formula_limit (decide_question (effort_of budget keep_all proof))
 asking_of (jobs.Cnf search_file rule demands form) = of_one search_file search_limit (encode_question rule demands form)
 asking_of (jobs.Lrat formula proof) = of_two formula formula_limit proof proof_limit refute_question
-asking_of (jobs.Rule rule) = of_none (prints rule)
-asking_of (jobs.Make seed size search_file proof) = of_none (makes seed size search_file (default_effort proof))
+asking_of (jobs.Rule rule) = of_none (questions.Print rule)
+asking_of (jobs.Make seed size search_file proof) = of_none (questions.Make seed size search_file (default_effort proof))
 
 -- the question, or the first refusal, where each input is read so, by its name and its limit
 abbrev pub question_by : (List ℕ → ℕ → Result (List ℕ) Fault) → Asking → Result Question Fault

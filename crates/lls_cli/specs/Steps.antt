@@ -1,11 +1,16 @@
 -- For private contracts alone: the steps of a run, from reading an input to giving an answer.
-use Rattle.std.specs.Prelude.{◌≡◌, ◌≤◌, ◌⊎◌, ℕ, true, false, List, length, take, Option, None, Some, Result, Ok, Err, IfOk, IfErr}
+use Rattle.std.specs.Prelude.{◌≡◌, ◌≤◌, ◌⊎◌, ℕ, true, false, List, length, take, Option, None, Some, Result, Ok, Err, IfOk, IfErr, OnOk, OnErr}
 use Rattle.std.specs.Io.KnownBytes.{append_known}
 use Rattle.lls_base.specs.Faults.{Counts, Rose}
 use Rattle.lls_base.specs.declared.reading.ReadError.{ReadError}
 use Rattle.lls_base.specs.declared.reading.ReadError.TheVariants as reads
+use Rattle.lls_base.specs.declared.sink.Failed.{Failed}
 use Rattle.lls_base.specs.declared.writing.FileFault.{FileFault}
 use Rattle.lls_base.specs.declared.writing.FileFault.TheVariants as writes
+use Rattle.lls_cli.specs.declared.question.Question.{Question}
+use Rattle.lls_cli.specs.declared.question.Question.TheVariants as questions
+use Rattle.lls_cli.specs.declared.answer_file.AnswerFile.{AnswerFile}
+use Rattle.lls_cli.specs.declared.answer.Answer.{Answer}
 use Rattle.lls_cli.specs.declared.fault.Fault.{Fault}
 use Rattle.lls_cli.specs.declared.fault.Fault.TheVariants as faults
 use Rattle.lls_cli.specs.declared.fault.OutsideFault.{OutsideFault}
@@ -13,9 +18,6 @@ use Rattle.lls_cli.specs.declared.fault.OutsideFault.TheVariants as outside
 use Rattle.lls_cli.specs.declared.status.Status.{Status}
 use Rattle.lls_cli.specs.declared.status.Status.TheVariants as statuses
 use Rattle.lls_cli.specs.Fault.{fault_line, status_of}
-use Rattle.lls_cli.specs.Question.{Question, prints}
-use Rattle.lls_cli.specs.Evidence.{NamedFile}
-use Rattle.lls_cli.specs.Answer.{GivenAnswer}
 use Rattle.lls_cli.specs.Moment.{ShelfMoment, SinkMoment, Moment, files_at}
 use Rattle.lls_cli.specs.Ends.{GrewBy, KeepsFiles, LeavesPart, Delivered, FileFailed, OutputFailed, End, refused, lacked, input_failed, ahead_failed, answered, file_failed, output_failed}
 
@@ -31,11 +33,19 @@ Stops (faults.Words error) Says before after = ⊥
 Stops fault Says before after = Says fault × (after.faults ≡ before.faults)
 
 -- what a reading of inputs answered and did to the shelf
-pub record Reads {X Y : Type 0} (view : X → Y) (Says : Result Y Fault → Type 0) (result : Result X Fault) (before after : ShelfMoment) : Type 0 where
+pub record Reads {X : Type 0} (Says : Result X Fault → Type 0) (result : Result X Fault) (before after : ShelfMoment) : Type 0 where
   pub kept : KeepsFiles before after
   pub counts : Counts before.faults after.faults
-  pub ok : IfOk result (λ value. Says (Ok (view value)) × (after.faults ≡ before.faults))
+  pub ok : IfOk result (λ value. Says (Ok value) × (after.faults ≡ before.faults))
   pub err : IfErr result (λ fault. Stops fault (λ f. Says (Err f)) before after)
+
+-- a whole write to a sink. After a failure it has first bytes of the text
+pub record Writes (text : List ℕ) (result : Result (Unit {0}) Failed) (before after : SinkMoment) : Type 0 where
+  pub ok : OnOk result (after.written ≡ append_known before.written text)
+  pub err : OnErr result ((n : ℕ) × (n ≤ length text) × (after.written ≡ append_known before.written (take n text)))
+  pub counts : Counts before.faults after.faults
+  pub failed : OnErr result (Rose before.faults after.faults)
+  pub no_fault : OnOk result (after.faults ≡ before.faults)
 
 -- the fault of an input that wasn't read
 abbrev pub input_fault : ReadError → Fault
@@ -55,31 +65,13 @@ file_fault writes.CreateFailed = outside.CreateFailed
 file_fault writes.WriteFailed = outside.WriteFailed
 
 -- the file of an answer wasn't written
-pub record Unwritten (file : Option NamedFile) (fault : OutsideFault) (before after : ShelfMoment) : Type 0 where
-  pub file_is : (named : NamedFile) × (file ≡ Some named) × LeavesPart (faults.Outside fault) named (files_at before) (files_at after)
+pub record Unwritten (file : Option AnswerFile) (fault : OutsideFault) (before after : ShelfMoment) : Type 0 where
+  pub file_is : (named : AnswerFile) × (file ≡ Some named) × LeavesPart (faults.Outside fault) named (files_at before) (files_at after)
   pub counts : Counts before.faults after.faults
   pub rose : Rose before.faults after.faults
 
--- a text was given whole, or the standard output failed
-pub record GaveWhole (status : Status) (text : List ℕ) (out_before out_after err_before err_after : SinkMoment) (ended : Status) : Type 0 where
-  pub status_is : ended ≡ status
-  pub out : out_after.written ≡ append_known out_before.written text
-  pub out_faults : out_after.faults ≡ out_before.faults
-  pub err : err_after ≡ err_before
-
-pub record GavePart (text : List ℕ) (out_before out_after err_before err_after : SinkMoment) (ended : Status) : Type 0 where
-  pub status_is : ended ≡ statuses.Outside
-  pub out : (n : ℕ) × (n ≤ length text) × (out_after.written ≡ append_known out_before.written (take n text))
-  pub out_counts : Counts out_before.faults out_after.faults
-  pub out_rose : Rose out_before.faults out_after.faults
-  pub err : GrewBy (fault_line (faults.Outside outside.OutFailed)) err_before err_after
-
-abbrev pub Gave : Status → List ℕ → SinkMoment → SinkMoment → SinkMoment → SinkMoment → Status → Type 0
-Gave status text out_before out_after err_before err_after ended =
-    GaveWhole status text out_before out_after err_before err_after ended ⊎ GavePart text out_before out_after err_before err_after ended
-
 -- how an answer was given
-abbrev pub IsDelivery : GivenAnswer → Moment → Moment → Status → End → Type 0
+abbrev pub IsDelivery : Answer → Moment → Moment → Status → End → Type 0
 IsDelivery answer before after status (answered given) = (given ≡ answer) × Delivered given before after status
 IsDelivery answer before after status (file_failed given fault) = (given ≡ answer) × FileFailed given.file fault before after status
 IsDelivery answer before after status (output_failed given) = (given ≡ answer) × OutputFailed given before after status
@@ -89,11 +81,11 @@ IsDelivery answer before after status (input_failed fault) = ⊥
 IsDelivery answer before after status (ahead_failed fault) = ⊥
 
 -- an answer without a file leaves the shelf alone
-abbrev pub LeavesAlone : Option NamedFile → ShelfMoment → ShelfMoment → Type 0
+abbrev pub LeavesAlone : Option AnswerFile → ShelfMoment → ShelfMoment → Type 0
 LeavesAlone None before after = after ≡ before
 LeavesAlone (Some file) before after = Unit {0}
 
 -- and so does the printing of a rule
 abbrev pub LeavesPrinting : Question → ShelfMoment → ShelfMoment → Type 0
-LeavesPrinting (prints rule) before after = after ≡ before
+LeavesPrinting (questions.Print rule) before after = after ≡ before
 LeavesPrinting question before after = Unit {0}

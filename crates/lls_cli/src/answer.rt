@@ -1,42 +1,32 @@
 // The answer to a question.
 ghost use Rattle.std.specs.Prelude.{◌≡◌, IfOk};
-ghost use Rattle.std.specs.Option.{option_map};
-ghost use Rattle.lls_cli.specs.Seen.{seen_answer, seen_file};
 
+use crate::answer_file::AnswerFile;
 use crate::status::Status;
-use lls_base::{Memory, Name};
+use crate::text::Text;
+use lls_base::Memory;
 use std::alloc::Global;
 
-/// A file that an answer writes.
+/// The answer to a question: the status, what is said on the standard output, and the file that is written before it. A file that
+/// is written before the answer is looked for is none of it.
 #[derive(Drop)]
-pub struct AnswerFile {
-    pub name: Name,
-    pub bytes: Vec<u8>,
-}
-
-/// The answer to a question: the status, the text for the standard output, and the file that is written before it.
-#[derive(Drop)]
-pub struct Answer {
+pub struct Answer<'f> {
     pub status: Status,
-    pub text: Vec<u8>,
+    pub text: Text<'f>,
     pub file: Option<AnswerFile>,
 }
 
-impl Answer {
+impl<'f> Answer<'f> {
     /// The answer of a text that is known beforehand.
     pub fn of_text(
         alloc: Global,
         status: Status,
         text: &[u8],
         file: Option<AnswerFile>,
-    ) -> Result<Answer, Memory>
-        ensures { IfOk result (λ answer. seen_answer answer ≡ record {
-          status = status;
-          text = text.now;
-          file = option_map seen_file file;
-        }) }
+    ) -> Result<Answer<'f>, Memory>
+        ensures { IfOk result (λ answer. answer ≡ record { status = status; text = text.now; file = file }) }
     {
-        let text = Vec::from_slice(alloc, text)?;
+        let text = Text::plain(Vec::from_slice(alloc, text)?);
         Ok(Answer { status, text, file })
     }
 }

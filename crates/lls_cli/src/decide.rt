@@ -1,15 +1,15 @@
 // The search for an assignment that satisfies a formula.
 ghost use Rattle.std.specs.Prelude.{◌≤◌, IfOk};
 ghost use Rattle.lls_solver.specs.declared.solving.TheConstants.{MOST_BUDGET};
+ghost use Rattle.lls_cli.specs.declared.question.Question.TheVariants as questions;
 ghost use Rattle.lls_cli.specs.Answer.{IsAnswer};
-ghost use Rattle.lls_cli.specs.Question.{decides};
-ghost use Rattle.lls_cli.specs.Seen.{seen_answer, seen_effort};
 
 use crate::answer::Answer;
 use crate::evidence::{check_proof, log_file};
 use crate::model::print_model;
 use crate::question::Effort;
 use crate::status::Status;
+use crate::text::Text;
 use lls_base::Memory;
 use lls_cnf::Formula;
 use lls_prooflog::Log;
@@ -17,9 +17,9 @@ use lls_solver::{Outcome, solve};
 use std::alloc::Global;
 
 /// The answer to the search for an assignment that satisfies a formula.
-pub fn decide(alloc: Global, formula: &Formula, effort: Effort) -> Result<Answer, Memory>
+pub fn decide(alloc: Global, formula: &Formula, effort: Effort) -> Result<Answer<'static>, Memory>
     requires { effort.budget ≤ MOST_BUDGET }
-    ensures { IfOk result (λ answer. IsAnswer (decides formula.now (seen_effort effort)) (seen_answer answer)) }
+    ensures { IfOk result (IsAnswer (questions.Decide formula.now effort)) }
 {
     // What holds of every formula is known from here on.
     let _vars = formula.vars();
@@ -27,7 +27,7 @@ pub fn decide(alloc: Global, formula: &Formula, effort: Effort) -> Result<Answer
     match solve(alloc, formula, effort.budget, effort.keep_all, &mut log)? {
         Outcome::Sat(assignment) => Ok(Answer {
             status: Status::Pattern,
-            text: print_model(alloc, &assignment)?,
+            text: Text::plain(print_model(alloc, &assignment)?),
             file: None,
         }),
         Outcome::Unsat => {

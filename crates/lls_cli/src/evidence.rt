@@ -5,9 +5,9 @@ ghost use Rattle.lls_prooflog.specs.Log.{ReadsAs, log_text};
 ghost use Rattle.lls_prooflog.specs.UnitWalk.{numbered};
 ghost use Rattle.lls_prooflog.specs.Steps.{are_accepted};
 ghost use Rattle.lls_lrat.specs.Verdict.{Accepted, verdict};
-ghost use Rattle.lls_cli.specs.Seen.{seen_file};
 
-use crate::answer::AnswerFile;
+use crate::answer_file::AnswerFile;
+use crate::bytes::Bytes;
 use lls_base::{Memory, Name};
 use lls_cnf::Formula;
 use lls_lrat::{CheckError, Checked, check};
@@ -16,11 +16,10 @@ use std::alloc::Global;
 
 /// The file of a log.
 pub fn log_file(alloc: Global, log: &Log, name: Name) -> Result<AnswerFile, Memory>
-    ensures name { IfOk result (λ file. file.name ≡ name) }
-    ensures text { IfOk result (λ file. file.bytes.items ≡ log_text log.now.steps) }
-    ensures read_again { IfOk result (λ file. ReadsAs file.bytes.items log.now.steps) }
+    ensures file { IfOk result (λ file. file ≡ record { name = name; bytes = log_text log.now.steps }) }
+    ensures read_again { IfOk result (λ file. ReadsAs file.bytes log.now.steps) }
 {
-    let bytes = print_log(alloc, log)?;
+    let bytes = Bytes::new(print_log(alloc, log)?);
     Ok(AnswerFile { name, bytes })
 }
 

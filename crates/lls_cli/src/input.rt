@@ -3,10 +3,11 @@ ghost use Rattle.std.specs.Prelude.{◌≡◌, ◌≤◌, length, IfOk};
 ghost use Rattle.lls_base.specs.Results.{and_then, Gives};
 ghost use Rattle.lls_search_file.specs.Reading.{posed_of};
 ghost use Rattle.lls_words.specs.Job.{AreWithinLimits};
-ghost use Rattle.lls_cli.specs.Moment.{shelf_moment, files_at};
+ghost use Rattle.lls_cli.specs.Moment.{files_of, shelf_at};
 ghost use Rattle.lls_cli.specs.Question.{IsInput, MadeOfOne, posed_in, problem_in, formula_in, history_in, pattern_in, pictured_in};
 ghost use Rattle.lls_cli.specs.Steps.{Reads, input_fault};
 
+use crate::bytes::Bytes;
 use crate::fault::{Fault, OutsideFault};
 use lls_base::{Name, ReadError, Shelf, read_all};
 use lls_cnf::{DimacsError, Formula, MOST_DIMACS_BYTES, read_dimacs};
@@ -42,15 +43,13 @@ pub fn read_input<S: Shelf>(
     shelf: &mut S,
     name: &Name,
     limit: u64,
-) -> Result<Vec<u8>, Fault>
-    ensures read { Reads (λ bytes. bytes.items) (IsInput (files_at (shelf_moment (S.told shelf.old) (S.has_input shelf.old) (S.has_output shelf.old) (S.faults shelf.old))) name.now limit) result
-        (shelf_moment (S.told shelf.old) (S.has_input shelf.old) (S.has_output shelf.old) (S.faults shelf.old))
-        (shelf_moment (S.told shelf.new) (S.has_input shelf.new) (S.has_output shelf.new) (S.faults shelf.new)) }
-    ensures fits { IfOk result (λ bytes. length bytes.items ≤ limit) }
+) -> Result<Bytes, Fault>
+    ensures read { Reads (IsInput (files_of S.Shelf shelf.old) name.now limit) result (shelf_at S.Shelf shelf.old) (shelf_at S.Shelf shelf.new) }
+    ensures fits { IfOk result (λ bytes. length bytes ≤ limit) }
 {
     let mut bytes = Vec::new(alloc);
     match read_all(shelf, name, limit, &mut bytes) {
-        Ok(()) => Ok(bytes),
+        Ok(()) => Ok(Bytes::new(bytes)),
         Err(error) => Err(input_fault(error)),
     }
 }
@@ -90,14 +89,12 @@ pub fn read_problem<S: Shelf>(
     demands: Demands,
 ) -> Result<Problem, Fault>
     requires { AreWithinLimits demands }
-    ensures read { Reads (λ problem. problem) (MadeOfOne (files_at (shelf_moment (S.told shelf.old) (S.has_input shelf.old) (S.has_output shelf.old) (S.faults shelf.old))) search.now SEARCH_LIMIT
-        (λ first. and_then first (problem_in rule demands))) result
-        (shelf_moment (S.told shelf.old) (S.has_input shelf.old) (S.has_output shelf.old) (S.faults shelf.old))
-        (shelf_moment (S.told shelf.new) (S.has_input shelf.new) (S.has_output shelf.new) (S.faults shelf.new)) }
+    ensures read { Reads (MadeOfOne (files_of S.Shelf shelf.old) search.now SEARCH_LIMIT
+        (λ first. and_then first (problem_in rule demands))) result (shelf_at S.Shelf shelf.old) (shelf_at S.Shelf shelf.new) }
     ensures rule { IfOk result (λ problem. problem.rule ≡ rule) }
 {
     let bytes = read_input(alloc, shelf, search, SEARCH_LIMIT)?;
-    problem_input(alloc, &bytes, rule, demands)
+    problem_input(alloc, bytes.items(), rule, demands)
 }
 
 /// The formula that the bytes of a formula's file write.
@@ -118,13 +115,11 @@ pub fn read_formula<S: Shelf>(
     shelf: &mut S,
     formula: &Name,
 ) -> Result<Formula, Fault>
-    ensures { Reads (λ formula. formula) (MadeOfOne (files_at (shelf_moment (S.told shelf.old) (S.has_input shelf.old) (S.has_output shelf.old) (S.faults shelf.old))) formula.now MOST_DIMACS_BYTES
-        (λ first. and_then first formula_in)) result
-        (shelf_moment (S.told shelf.old) (S.has_input shelf.old) (S.has_output shelf.old) (S.faults shelf.old))
-        (shelf_moment (S.told shelf.new) (S.has_input shelf.new) (S.has_output shelf.new) (S.faults shelf.new)) }
+    ensures { Reads (MadeOfOne (files_of S.Shelf shelf.old) formula.now MOST_DIMACS_BYTES
+        (λ first. and_then first formula_in)) result (shelf_at S.Shelf shelf.old) (shelf_at S.Shelf shelf.new) }
 {
     let bytes = read_input(alloc, shelf, formula, MOST_DIMACS_BYTES as u64)?;
-    formula_input(alloc, &bytes)
+    formula_input(alloc, bytes.items())
 }
 
 /// The history of a pattern's bytes.
@@ -178,11 +173,9 @@ pub fn read_pattern<S: Shelf>(
     problem: &Problem,
     rle: bool,
 ) -> Result<History, Fault>
-    ensures { Reads (λ history. history) (MadeOfOne (files_at (shelf_moment (S.told shelf.old) (S.has_input shelf.old) (S.has_output shelf.old) (S.faults shelf.old))) pattern.now SEARCH_LIMIT
-        (λ second. and_then second (pattern_in rle problem.now))) result
-        (shelf_moment (S.told shelf.old) (S.has_input shelf.old) (S.has_output shelf.old) (S.faults shelf.old))
-        (shelf_moment (S.told shelf.new) (S.has_input shelf.new) (S.has_output shelf.new) (S.faults shelf.new)) }
+    ensures { Reads (MadeOfOne (files_of S.Shelf shelf.old) pattern.now SEARCH_LIMIT
+        (λ second. and_then second (pattern_in rle problem.now))) result (shelf_at S.Shelf shelf.old) (shelf_at S.Shelf shelf.new) }
 {
     let bytes = read_input(alloc, shelf, pattern, SEARCH_LIMIT)?;
-    pattern_input(alloc, &bytes, problem, rle)
+    pattern_input(alloc, bytes.items(), problem, rle)
 }

@@ -1,19 +1,19 @@
 // The judging of a history.
 ghost use Rattle.std.specs.Prelude.{◌≡◌, IfOk};
+ghost use Rattle.lls_cli.specs.declared.question.Question.TheVariants as questions;
 ghost use Rattle.lls_cli.specs.Answer.{judge_answer, IsAnswer};
-ghost use Rattle.lls_cli.specs.Question.{judges};
-ghost use Rattle.lls_cli.specs.Seen.{seen_answer};
 
 use crate::answer::Answer;
 use crate::status::Status;
+use crate::text::Text;
 use lls_base::Memory;
 use lls_grid::History;
 use lls_problem::{Judgement, Problem};
 use std::alloc::Global;
 
 /// The answer of a judgement.
-fn judged(alloc: Global, judgement: &Judgement) -> Result<Answer, Memory>
-    ensures { IfOk result (λ answer. seen_answer answer ≡ judge_answer judgement.now) }
+fn judged(alloc: Global, judgement: &Judgement) -> Result<Answer<'static>, Memory>
+    ensures { IfOk result (λ answer. answer ≡ judge_answer judgement.now) }
 {
     if let Judgement::Meets = judgement {
         return Answer::of_text(alloc, Status::Done, b"meets\n", None);
@@ -21,14 +21,14 @@ fn judged(alloc: Global, judgement: &Judgement) -> Result<Answer, Memory>
     let text = format!(in alloc; "broken: {judgement}\n")?;
     Ok(Answer {
         status: Status::Refused,
-        text: text.into_bytes(),
+        text: Text::plain(text.into_bytes()),
         file: None,
     })
 }
 
 /// The answer to a history that is judged by a problem.
-pub fn judge(alloc: Global, problem: &Problem, history: &History) -> Result<Answer, Memory>
-    ensures { IfOk result (λ answer. IsAnswer (judges problem.now history.now) (seen_answer answer)) }
+pub fn judge(alloc: Global, problem: &Problem, history: &History) -> Result<Answer<'static>, Memory>
+    ensures { IfOk result (IsAnswer (questions.Judge problem.now history.now)) }
 {
     judged(alloc, &lls_problem::judge(problem, history))
 }

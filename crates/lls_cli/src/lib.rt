@@ -4,7 +4,9 @@
 
 mod absence;
 mod answer;
+mod answer_file;
 mod ask;
+pub mod bytes;
 mod check;
 mod decide;
 mod deliver;
@@ -14,11 +16,13 @@ mod input;
 mod judge;
 mod making;
 mod model;
+mod outside;
 mod pattern;
 mod print;
 pub mod question;
 pub mod run;
 mod search;
 pub mod status;
+mod text;
 
 pub use deliver::lack;

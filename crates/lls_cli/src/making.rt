@@ -3,16 +3,23 @@ ghost use Rattle.std.specs.Prelude.{◌≡◌, ◌≤◌, ℕ, List, length, str
 ghost use Rattle.lls_gen.specs.Made.{made};
 ghost use Rattle.lls_problem.specs.Solution.{IsSolution};
 ghost use Rattle.lls_solver.specs.declared.solving.TheConstants.{MOST_BUDGET};
+ghost use Rattle.lls_cli.specs.declared.question.Question.TheVariants as questions;
 ghost use Rattle.lls_cli.specs.Answer.{IsAnswer};
+ghost use Rattle.lls_cli.specs.Answerable.{IsSize};
+ghost use Rattle.lls_cli.specs.Ends.{End, Ends};
 ghost use Rattle.lls_cli.specs.Making.{is_known, known_count, made_file, problem_lines, search_lines, summary_of};
-ghost use Rattle.lls_cli.specs.Question.{makes};
-ghost use Rattle.lls_cli.specs.Seen.{seen_answer, seen_effort, seen_file, IsSize};
+ghost use Rattle.lls_cli.specs.Outside.{BorrowsSame, moment_of};
 
-use crate::answer::{Answer, AnswerFile};
+use crate::answer::Answer;
+use crate::answer_file::AnswerFile;
+use crate::bytes::Bytes;
+use crate::deliver::{give, lack, say, write_answer_file};
 use crate::evidence::log_file;
+use crate::outside::Outside;
 use crate::question::Effort;
 use crate::status::Status;
-use lls_base::{Memory, Name};
+use crate::text::Text;
+use lls_base::{Memory, Name, Shelf, Sink};
 use lls_cnf::Formula;
 use lls_encode::encode;
 use lls_gen::{Made, make};
@@ -23,20 +30,15 @@ use lls_solver::{Outcome, solve};
 use std::alloc::Global;
 
 /// The problem of a seed and a size with its solution, and the search file of this name that it is written to.
-pub fn make_file(
-    alloc: Global,
-    seed: u64,
-    size: u32,
-    name: Name,
-) -> Result<(Made, AnswerFile), Memory>
+fn make_file(alloc: Global, seed: u64, size: u32, name: Name) -> Result<(Made, AnswerFile), Memory>
     requires { IsSize size }
     ensures made { IfOk result (λ pair. pair.0 ≡ made seed size) }
-    ensures file { IfOk result (λ pair. seen_file pair.1 ≡ made_file seed size name) }
+    ensures file { IfOk result (λ pair. pair.1 ≡ made_file seed size name) }
     ensures solution { IfOk result (λ pair. IsSolution pair.0.problem pair.0.history) }
     ensures two { IfOk result (λ pair. length pair.0.history ≡ 2) }
 {
     let made = make(alloc, seed, size)?;
-    let bytes = print_posed(alloc, made.problem.posed())?;
+    let bytes = Bytes::new(print_posed(alloc, made.problem.posed())?);
     Ok((made, AnswerFile { name, bytes }))
 }
 
@@ -92,26 +94,50 @@ fn summary(alloc: Global, made: &Made, formula: &Formula, answer: &str) -> Resul
 }
 
 /// The answer to the search for the solution of a made problem.
-pub fn solve_made(alloc: Global, pair: &Made, effort: Effort) -> Result<Answer, Memory>
+fn solve_made(alloc: Global, pair: &Made, effort: Effort) -> Result<Answer<'static>, Memory>
     requires budget { effort.budget ≤ MOST_BUDGET }
     requires solution { IsSolution pair.now.problem pair.now.history }
     requires two { length pair.now.history ≡ 2 }
     ensures { (seed size : ℕ) (name : List ℕ) → pair.now ≡ made seed size →
-        IfOk result (λ answer. IsAnswer (makes seed size name (seen_effort effort)) (seen_answer answer)) }
+        IfOk result (IsAnswer (questions.Make seed size name effort)) }
 {
     let formula = encode(alloc, &pair.problem, Form::Rows)?;
     let mut log = Log::new(alloc);
     match solve(alloc, &formula, effort.budget, effort.keep_all, &mut log)? {
         Outcome::Sat(_) => Ok(Answer {
             status: Status::Pattern,
-            text: summary(alloc, pair, &formula, "pattern")?,
+            text: Text::plain(summary(alloc, pair, &formula, "pattern")?),
             file: None,
         }),
         Outcome::Unsat => unreachable!(),
         Outcome::Undecided => Ok(Answer {
             status: Status::Undecided,
-            text: summary(alloc, pair, &formula, "undecided")?,
+            text: Text::plain(summary(alloc, pair, &formula, "undecided")?),
             file: Some(log_file(alloc, &log, effort.proof)?),
         }),
+    }
+}
+
+/// Makes a problem, writes its search file, searches its solution, and gives what comes of it.
+pub fn give_making<S: Shelf, O: Sink, E: Sink>(
+    alloc: Global,
+    seed: u64,
+    size: u32,
+    search: Name,
+    effort: Effort,
+    outside: &mut Outside<S, O, E>,
+) -> Status
+    requires size { IsSize size }
+    requires budget { effort.budget ≤ MOST_BUDGET }
+    ensures end { (end : End) × Ends (questions.Make seed size search effort) (moment_of S.Shelf O.Sink E.Sink outside.old) (moment_of S.Shelf O.Sink E.Sink outside.new) result end }
+    ensures same { BorrowsSame outside.old outside.new }
+{
+    let (made, file) = match make_file(alloc, seed, size, search) {
+        Ok(pair) => pair,
+        Err(Memory) => return lack(outside.err),
+    };
+    match write_answer_file(&Some(file), outside.shelf) {
+        Ok(()) => give(solve_made(alloc, &made, effort), outside),
+        Err(fault) => say(fault, outside.err),
     }
 }

@@ -1,13 +1,13 @@
 // The texts of formulas and of rules.
 ghost use Rattle.std.specs.Prelude.{IfOk};
 ghost use Rattle.lls_hensel.specs.Isotropy.{IsIsotropic};
+ghost use Rattle.lls_cli.specs.declared.question.Question.TheVariants as questions;
 ghost use Rattle.lls_cli.specs.Answer.{IsAnswer};
-ghost use Rattle.lls_cli.specs.Question.{encodes, prints};
-ghost use Rattle.lls_cli.specs.Seen.{seen_answer};
 
 use crate::answer::Answer;
 use crate::question::Asked;
 use crate::status::Status;
+use crate::text::Text;
 use lls_base::Memory;
 use lls_cnf::print_dimacs;
 use lls_encode::encode;
@@ -16,21 +16,21 @@ use lls_rule::Rule;
 use std::alloc::Global;
 
 /// The formula of a problem in DIMACS CNF.
-pub fn print_formula(alloc: Global, asked: &Asked) -> Result<Answer, Memory>
-    ensures { IfOk result (λ answer. IsAnswer (encodes asked.now) (seen_answer answer)) }
+pub fn print_formula(alloc: Global, asked: &Asked) -> Result<Answer<'static>, Memory>
+    ensures { IfOk result (IsAnswer (questions.Encode asked.now)) }
 {
     let formula = encode(alloc, &asked.problem, asked.form)?;
     Ok(Answer {
         status: Status::Done,
-        text: print_dimacs(alloc, &formula)?,
+        text: Text::plain(print_dimacs(alloc, &formula)?),
         file: None,
     })
 }
 
 /// The canonical text of a rule, as a line.
-pub fn print_rule(alloc: Global, rule: &Rule) -> Result<Answer, Memory>
+pub fn print_rule(alloc: Global, rule: &Rule) -> Result<Answer<'static>, Memory>
     requires { IsIsotropic rule.now }
-    ensures { IfOk result (λ answer. IsAnswer (prints rule.now) (seen_answer answer)) }
+    ensures { IfOk result (IsAnswer (questions.Print rule.now)) }
 {
     let mut text = match lls_hensel::print_rule(alloc, rule) {
         Ok(text) => text,
@@ -40,7 +40,7 @@ pub fn print_rule(alloc: Global, rule: &Rule) -> Result<Answer, Memory>
     text.push(b'\n')?;
     Ok(Answer {
         status: Status::Done,
-        text,
+        text: Text::plain(text),
         file: None,
     })
 }

@@ -1,4 +1,5 @@
 // What a job asks.
+use crate::bytes::Bytes;
 use lls_base::Name;
 use lls_cnf::Formula;
 use lls_grid::History;
@@ -29,12 +30,12 @@ pub enum Question {
     /// Do the bytes of a proof show that the problem has no solution?
     Check {
         asked: Asked,
-        proof: Vec<u8>,
+        proof: Bytes,
     },
     /// Do the bytes of a proof show that no assignment satisfies the formula?
     Refute {
         formula: Formula,
-        proof: Vec<u8>,
+        proof: Bytes,
     },
     /// Is the history a solution of the problem?
     Judge {

@@ -2,45 +2,40 @@
 ghost use Rattle.std.specs.Prelude.{◌≡◌, ◌≤◌, IfOk};
 ghost use Rattle.lls_hensel.specs.Isotropy.{IsIsotropic};
 ghost use Rattle.lls_solver.specs.declared.solving.TheConstants.{MOST_BUDGET};
+ghost use Rattle.lls_cli.specs.declared.question.Question.TheVariants as questions;
 ghost use Rattle.lls_cli.specs.Answer.{IsAnswer};
-ghost use Rattle.lls_cli.specs.Question.{formula_asked, searches};
-ghost use Rattle.lls_cli.specs.Seen.{seen_effort, seen_finding, IsOfAsked};
+ghost use Rattle.lls_cli.specs.Ends.{End, IsEndOf};
+ghost use Rattle.lls_cli.specs.Outside.{BorrowsSame, moment_of};
+ghost use Rattle.lls_cli.specs.Question.{formula_asked};
 
-use crate::answer::{Answer, AnswerFile};
+use crate::absence::Absence;
+use crate::answer::Answer;
+use crate::deliver::{give, lack};
 use crate::evidence::{check_proof, log_file};
+use crate::outside::Outside;
 use crate::pattern::print_pattern;
 use crate::question::{Asked, Effort};
 use crate::status::Status;
-use lls_base::Memory;
+use crate::text::Text;
+use lls_base::{Memory, Shelf, Sink};
 use lls_cnf::Formula;
-use lls_encode::decode;
-use lls_lrat::Checked;
+use lls_encode::{decode, encode};
 use lls_prooflog::Log;
 use lls_solver::{Outcome, solve};
 use std::alloc::Global;
 
-/// What a search came to.
-#[derive(Drop)]
-pub enum Finding<'f> {
-    /// A pattern, or a budget that is spent.
-    Answered(Answer),
-    /// There is no pattern: the formula of which that was checked, and the file of the proof.
-    Absent(Checked<'f>, AnswerFile),
-}
-
-/// What the search for a solution of a problem comes to, over the problem's formula of the form.
-pub fn search<'f>(
+/// The answer to the search for a solution of a problem, over the problem's formula of the form.
+fn search<'f>(
     alloc: Global,
-    asked: &Asked,
+    asked: &'f Asked,
     formula: &'f Formula,
     effort: Effort,
     rle: bool,
-) -> Result<Finding<'f>, Memory>
+) -> Result<Answer<'f>, Memory>
     requires formula { formula.now ≡ formula_asked asked.now }
     requires budget { effort.budget ≤ MOST_BUDGET }
     requires isotropic { IsIsotropic asked.now.problem.rule }
-    ensures right { IfOk result (λ finding. IsAnswer (searches asked.now (seen_effort effort) rle) (seen_finding finding)) }
-    ensures stands { IfOk result (IsOfAsked asked.now) }
+    ensures { IfOk result (IsAnswer (questions.Search asked.now effort rle)) }
 {
     // What the type of a problem keeps is known from here on.
     let problem = &asked.problem;
@@ -50,20 +45,43 @@ pub fn search<'f>(
     match solve(alloc, formula, effort.budget, effort.keep_all, &mut log)? {
         Outcome::Sat(assignment) => {
             let history = decode(alloc, problem, &assignment)?;
-            Ok(Finding::Answered(Answer {
+            Ok(Answer {
                 status: Status::Pattern,
-                text: print_pattern(alloc, &history, problem.rule(), rle)?,
+                text: Text::plain(print_pattern(alloc, &history, problem.rule(), rle)?),
                 file: None,
-            }))
+            })
         }
         Outcome::Unsat => {
             let checked = check_proof(alloc, formula, &log)?;
-            Ok(Finding::Absent(checked, log_file(alloc, &log, effort.proof)?))
+            let file = log_file(alloc, &log, effort.proof)?;
+            Ok(Answer {
+                status: Status::NoPattern,
+                text: Text::absence(Absence::new(checked, asked)),
+                file: Some(file),
+            })
         }
         Outcome::Undecided => {
             let file = log_file(alloc, &log, effort.proof)?;
-            let answer = Answer::of_text(alloc, Status::Undecided, b"undecided\n", Some(file))?;
-            Ok(Finding::Answered(answer))
+            Answer::of_text(alloc, Status::Undecided, b"undecided\n", Some(file))
         }
+    }
+}
+
+/// Searches a solution of a problem, and gives what comes of it.
+pub fn give_search<S: Shelf, O: Sink, E: Sink>(
+    alloc: Global,
+    asked: &Asked,
+    effort: Effort,
+    rle: bool,
+    outside: &mut Outside<S, O, E>,
+) -> Status
+    requires budget { effort.budget ≤ MOST_BUDGET }
+    requires isotropic { IsIsotropic asked.now.problem.rule }
+    ensures end { (end : End) × IsEndOf (questions.Search asked.now effort rle) (moment_of S.Shelf O.Sink E.Sink outside.old) (moment_of S.Shelf O.Sink E.Sink outside.new) result end }
+    ensures same { BorrowsSame outside.old outside.new }
+{
+    match encode(alloc, &asked.problem, asked.form) {
+        Ok(formula) => give(search(alloc, asked, &formula, effort, rle), outside),
+        Err(Memory) => lack(outside.err),
     }
 }

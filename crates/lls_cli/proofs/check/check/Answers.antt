@@ -2,9 +2,8 @@
 use Rattle.std.proofs.Common.{sym, subst}
 use Rattle.std.proofs.lemmas.Result.{IfOk-weaker}
 use Rattle.lls_lit.specs.Formula.{IsUnsatisfiable}
+use Rattle.lls_cli.specs.declared.question.Question.TheVariants as questions
 use Rattle.lls_cli.specs.Answer.{IsAnswer}
-use Rattle.lls_cli.specs.Question.{refutes}
-use Rattle.lls_cli.specs.Seen.{seen_answer}
 use Rattle.lls_cli.proofs.RightAnswers.{checked_answer}
 use Rattle.lls_cli.proofs.check.check.Goals as goal
 
@@ -15,5 +14,5 @@ returns c =
     let made = c.in_ok-formula.ensures.formula in
     let absent = c.in_ok-formula.ensures.absent in
     IfOk-weaker c.refute.result _ _ (λ answer right.
-    checked_answer p proof (seen_answer answer) (λ unsatisfiable. absent (subst IsUnsatisfiable (sym made) unsatisfiable))
-    (subst (λ formula. IsAnswer (refutes formula proof) (seen_answer answer)) made right)) c.refute.ensures
+    checked_answer p proof answer (λ unsatisfiable. absent (subst IsUnsatisfiable (sym made) unsatisfiable))
+    (subst (λ formula. IsAnswer (questions.Refute formula proof) answer) made right)) c.refute.ensures

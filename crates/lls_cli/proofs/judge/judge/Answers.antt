@@ -1,5 +1,4 @@
 use Rattle.std.proofs.lemmas.Result.{IfOk-weaker}
-use Rattle.lls_cli.specs.Seen.{seen_answer}
 use Rattle.lls_cli.proofs.RightAnswers.{judged_answer}
 use Rattle.lls_cli.proofs.judge.judge.Goals as goal
 
@@ -7,4 +6,4 @@ pub returns : goal.returns
 returns c =
     let judgement = c.judge.ensures in
     IfOk-weaker c.judged.result _ _ (λ answer is.
-    judged_answer c.args.problem.now c.args.history.now c.judge.result (seen_answer answer) judgement.judgement judgement.meets judgement.broken is) c.judged.ensures
+    judged_answer c.args.problem.now c.args.history.now c.judge.result answer judgement.judgement judgement.meets judgement.broken is) c.judged.ensures

@@ -1,11 +1,9 @@
 -- A made problem has a solution, so no refutation of its formula is found.
-use Rattle.std.proofs.Common.{ap, Ok}
+use Rattle.std.proofs.Common.{ap, Ok, ◌∙◌}
 use Rattle.lls_prooflog.specs.UnitWalk.{numbered}
 use Rattle.lls_prooflog.proofs.Soundness.{KeepsSatisfiable-numbered, unsatisfiable_if_accepted}
 use Rattle.lls_cli.specs.declared.status.Status.TheVariants as statuses
 use Rattle.lls_cli.specs.Answer.{shown, summed_behind}
-use Rattle.lls_cli.specs.Seen.{seen_effort, seen_file}
-use Rattle.lls_cli.proofs.Searches.{same_file}
 use Rattle.lls_cli.proofs.Makings.{solved_answer, unsolved_answer}
 use Rattle.lls_cli.proofs.making.solve_made.Goals as goal
 
@@ -16,15 +14,15 @@ unreachable-requires c =
     let unsatisfiable = unsatisfiable_if_accepted formula (numbered formula.clauses) c.solve.new.log.steps (KeepsSatisfiable-numbered formula) refutation.accepted in
     c.in_ok-formula.ensures.absent unsatisfiable c.args.pair.now.history c.requires.solution
 
-pub returns-in_ok-summary-in-Sat : goal.returns-in_ok-summary-in-Sat
-returns-in_ok-summary-in-Sat c =
-    λ seed size name is. solved_answer seed size name (seen_effort c.args.effort) c.args.pair.now c.in_ok-formula.formula _ is c.in_ok-formula.ensures.formula c.requires.solution
-    (ap (shown statuses.Pattern) c.in_ok-summary-in-Sat.ensures)
+pub returns-in-Sat : goal.returns-in-Sat
+returns-in-Sat c =
+    λ seed size name is. solved_answer seed size name c.args.effort c.args.pair.now c.in_ok-formula.formula _ is c.in_ok-formula.ensures.formula c.requires.solution
+    (ap (shown statuses.Pattern) (c.plain.ensures ∙ c.in_ok-summary-in-Sat.ensures))
 
-pub returns-in_ok-log_file-in-Undecided : goal.returns-in_ok-log_file-in-Undecided
-returns-in_ok-log_file-in-Undecided c =
-    let file = seen_file c.in_ok-log_file-in-Undecided.field-0 in
+pub returns : goal.returns
+returns c =
+    let file = c.in_ok-log_file-in-Undecided.field-0 in
     let made = c.in_ok-log_file-in-Undecided.ensures in
-    λ seed size name is. unsolved_answer seed size name (seen_effort c.args.effort) c.args.pair.now c.in_ok-formula.formula c.solve.new.log.steps file _ is c.in_ok-formula.ensures.formula
-    (same_file file _ _ made.name made.text) c.solve.ensures.all_kept (c.in_ok-solve.ensures.undecided (ap Ok c.in-Undecided.is))
-    (ap (summed_behind file statuses.Undecided) c.in_ok-summary-in-Undecided.ensures)
+    λ seed size name is. unsolved_answer seed size name c.args.effort c.args.pair.now c.in_ok-formula.formula c.solve.new.log.steps file _ is c.in_ok-formula.ensures.formula
+    made.file c.solve.ensures.all_kept (c.in_ok-solve.ensures.undecided (ap Ok c.in-Undecided.is))
+    (ap (summed_behind file statuses.Undecided) (c.plain-in-Undecided.ensures ∙ c.in_ok-summary-in-Undecided.ensures))

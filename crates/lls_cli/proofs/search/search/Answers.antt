@@ -1,14 +1,14 @@
-use Rattle.std.proofs.Common.{◌≡◌, ap, subst, arith, Bool, List, Ok, ◌∙◌}
+use Rattle.std.proofs.Common.{◌≡◌, ap, subst, arith, Bool, List, Ok, ℕ, ◌∙◌}
+use Rattle.std.proofs.lemmas.Result.{IfOk-weaker}
 use Rattle.lls_lit.specs.Formula.{Cnf, IsUnsatisfiable}
 use Rattle.lls_encode.proofs.Complete.{absent_from}
 use Rattle.lls_solver.specs.Searching.{IsModel, IsRefutation, IsExhausted}
 use Rattle.lls_lrat.specs.Verdict.{Accepted, verdict}
 use Rattle.lls_cli.specs.declared.status.Status.TheVariants as statuses
-use Rattle.lls_cli.specs.Answer.{shown}
+use Rattle.lls_cli.specs.Answer.{shown, none_behind}
 use Rattle.lls_cli.specs.PatternText.{pattern_text}
 use Rattle.lls_cli.specs.Question.{formula_asked}
-use Rattle.lls_cli.specs.Seen.{seen_answer, seen_effort, seen_file}
-use Rattle.lls_cli.proofs.Searches.{same_file, found_answer, absent_answer, undecided_answer, cells_fit}
+use Rattle.lls_cli.proofs.Searches.{found_answer, absent_answer, undecided_answer, cells_fit}
 use Rattle.lls_cli.proofs.search.search.Goals as goal
 
 pub decode-requires : goal.decode-requires
@@ -16,34 +16,35 @@ decode-requires c =
     let model = c.in_ok-assignment.ensures.sat c.in-Sat.assignment (ap Ok c.in-Sat.is) in
     omega (arith, model.many, ap (λ (f : Cnf). f.vars) c.requires.formula, cells_fit c.args.asked.now)
 
-pub returns-in-Sat-clause-right : goal.returns-in-Sat-clause-right
-returns-in-Sat-clause-right c =
+pub returns-in-Sat : goal.returns-in-Sat
+returns-in-Sat c =
     let model = c.in_ok-assignment.ensures.sat c.in-Sat.assignment (ap Ok c.in-Sat.is) in
     let of_problem : IsModel (formula_asked c.args.asked.now) c.in-Sat.assignment = subst (λ (f : Cnf). IsModel f c.in-Sat.assignment) c.requires.formula model in
     let solution = c.in_ok-history-in-Sat.ensures.solution c.args.asked.now.form of_problem.satisfied in
-    found_answer c.args.asked.now (seen_effort c.args.effort) c.args.rle c.in_ok-history-in-Sat.history _ solution
-    (ap (shown statuses.Pattern) (c.in_ok-print_pattern-in-Sat.ensures ∙ ap (λ (rule : List Bool). pattern_text c.args.rle rule c.in_ok-history-in-Sat.history) c.rule.ensures))
+    found_answer c.args.asked.now c.args.effort c.args.rle c.in_ok-history-in-Sat.history _ solution
+    (ap (shown statuses.Pattern) (c.plain.ensures ∙ c.in_ok-print_pattern-in-Sat.ensures ∙ ap (λ (rule : List Bool). pattern_text c.args.rle rule c.in_ok-history-in-Sat.history) c.rule.ensures))
 
-pub returns-in-Unsat-clause-right : goal.returns-in-Unsat-clause-right
-returns-in-Unsat-clause-right c =
+pub returns-in-Unsat : goal.returns-in-Unsat
+returns-in-Unsat c =
     let asked = c.args.asked.now in
-    let file = seen_file c.in_ok-log_file-in-Unsat.field-0 in
-    let made = c.in_ok-log_file-in-Unsat.ensures in
+    let file = c.in_ok-file-in-Unsat.file in
+    let made = c.in_ok-file-in-Unsat.ensures in
     let checked = c.in_ok-checked-in-Unsat.ensures in
     let refutation : IsRefutation (formula_asked asked) c.args.effort.budget c.solve.new.log.steps =
     subst (λ (f : Cnf). IsRefutation f c.args.effort.budget c.solve.new.log.steps) c.requires.formula (c.in_ok-assignment.ensures.unsat (ap Ok c.in-Unsat.is)) in
     let accepted : verdict (formula_asked asked) file.bytes ≡ Accepted =
     subst (λ (f : Cnf). verdict f file.bytes ≡ Accepted) c.requires.formula (checked.accepted file.bytes made.read_again) in
     let none : IsUnsatisfiable (formula_asked asked) = subst IsUnsatisfiable c.requires.formula checked.unsatisfiable in
-    absent_answer asked (seen_effort c.args.effort) c.args.rle c.solve.new.log.steps file (same_file file _ _ made.name made.text) c.solve.ensures.all_kept refutation accepted
+    absent_answer asked c.args.effort c.args.rle c.solve.new.log.steps file _ made.file c.solve.ensures.all_kept refutation accepted
     (absent_from asked.problem asked.form c.posed-posed.ensures.kept c.demands-demands.ensures.kept none)
+    (ap (λ (text : List ℕ). record (none_behind file) { text = text }) c.absence.ensures)
 
-pub returns-clause-right : goal.returns-clause-right
-returns-clause-right c =
+pub returns : goal.returns
+returns c =
     let asked = c.args.asked.now in
-    let file = seen_file c.in_ok-file-in-Undecided.file in
+    let file = c.in_ok-file-in-Undecided.file in
     let made = c.in_ok-file-in-Undecided.ensures in
     let exhausted : IsExhausted (formula_asked asked) c.args.effort.budget c.solve.new.log.steps =
     subst (λ (f : Cnf). IsExhausted f c.args.effort.budget c.solve.new.log.steps) c.requires.formula (c.in_ok-assignment.ensures.undecided (ap Ok c.in-Undecided.is)) in
-    undecided_answer asked (seen_effort c.args.effort) c.args.rle c.solve.new.log.steps file (seen_answer c.in_ok-answer-in-Undecided.answer)
-    (same_file file _ _ made.name made.text) c.solve.ensures.all_kept exhausted c.in_ok-answer-in-Undecided.ensures
+    IfOk-weaker c.of_text.result _ _ (λ answer is.
+    undecided_answer asked c.args.effort c.args.rle c.solve.new.log.steps file answer made.file c.solve.ensures.all_kept exhausted is) c.of_text.ensures
