@@ -56,11 +56,9 @@ fn the_buffer_follows_the_live_clauses(rt: HostRuntime) -> Result<(), Fail> {
         compare(&rt, &checker, 0);
     }
     // those that stay, and one under an id of the formula
-    let mut live = 0;
-    for id in 1005..1205 {
-        add(&rt, alloc, &mut checker, id, 100)?;
-        live += 100;
-        compare(&rt, &checker, live);
+    for k in 0..200_u32 {
+        add(&rt, alloc, &mut checker, 1005 + k as u64, 100)?;
+        compare(&rt, &checker, 100 * k as usize + 100);
     }
     delete(&rt, alloc, &mut checker, &[1])?;
     add(&rt, alloc, &mut checker, 1, 9000)?;
