@@ -2,7 +2,7 @@
 use Rattle.std.proofs.Common.{◌≡◌, Option, None, Some, Ok, refl, sym, subst, inl, inr, ◌⊎◌}
 use Rattle.lls_base.specs.Shelf.{Files}
 use Rattle.lls_words.specs.declared.job.Job.{Job}
-use Rattle.lls_cli.specs.declared.question.Question.{Question}
+use Rattle.lls_cli.specs.Questions.{Question}
 use Rattle.lls_cli.specs.declared.answer_file.AnswerFile.{AnswerFile}
 use Rattle.lls_cli.specs.declared.status.Status.{Status}
 use Rattle.lls_cli.specs.Question.{Asks}

@@ -8,8 +8,8 @@ use Rattle.lls_words.specs.declared.error.WordsError.{WordsError}
 use Rattle.lls_words.specs.declared.error.WordsError.TheVariants as words
 use Rattle.lls_words.specs.declared.job.Job.{Job}
 use Rattle.lls_words.specs.declared.job.Job.TheVariants as jobs
-use Rattle.lls_cli.specs.declared.question.Question.{Question}
-use Rattle.lls_cli.specs.declared.question.Question.TheVariants as questions
+use Rattle.lls_cli.specs.Questions.{Question}
+use Rattle.lls_cli.specs.Questions as questions
 use Rattle.lls_cli.specs.declared.answer_file.AnswerFile.{AnswerFile}
 use Rattle.lls_cli.specs.declared.answer.Answer.{Answer}
 use Rattle.lls_cli.specs.declared.fault.Fault.{Fault}
@@ -23,7 +23,7 @@ use Rattle.lls_cli.specs.Answer.{IsAnswer}
 use Rattle.lls_cli.specs.Question.{Asks}
 use Rattle.lls_cli.specs.Moment.{ShelfMoment, SinkMoment, Moment, moment, files_at}
 use Rattle.lls_cli.specs.Ends.{GrewBy, KeepsFiles, LacksMemory, IsOfInput, WroteFile, FileFailed, LeavesPart, LeavesShelf, HasInputs, IsDecided, with_file, End, refused, lacked, input_failed, ahead_failed, answered, file_failed, output_failed, IsEndOf, IsEndBehind, Ends, ahead_of, IsEnd}
-use Rattle.lls_cli.specs.Steps.{Stops, Says, IsDelivery, LeavesPrinting}
+use Rattle.lls_cli.specs.Steps.{Reads, Stops, ComesTo, Says, IsDelivery, LeavesPrinting}
 
 -- a right answer that was delivered
 pub delivered : (question : Question) (answer : Answer) (before after : Moment) (status : Status) → IsAnswer question answer
@@ -36,7 +36,7 @@ delivered question answer before after status right (refused fault, d) = absurd 
 delivered question answer before after status right (input_failed fault, d) = absurd d
 delivered question answer before after status right (ahead_failed fault, d) = absurd d
 
-KeepsFiles-refl : (shelf : ShelfMoment) → KeepsFiles shelf shelf
+pub KeepsFiles-refl : (shelf : ShelfMoment) → KeepsFiles shelf shelf
 KeepsFiles-refl shelf = record { files = refl; target = refl; has_output = refl }
 
 -- want of memory, with the shelf and the output as they were
@@ -310,3 +310,31 @@ behind_file file question before mid after out_before out_after err_before err_a
 behind_file file question before mid after out_before out_after err_before err_after status wrote (refused fault, ended) = absurd ended
 behind_file file question before mid after out_before out_after err_before err_after status wrote (input_failed fault, ended) = absurd ended
 behind_file file question before mid after out_before out_after err_before err_after status wrote (ahead_failed fault, ended) = absurd ended
+
+leaves_shelf : (job : Job) (before after : ShelfMoment) → HasInputs job → LeavesShelf job before after
+leaves_shelf (jobs.Rule rule) before after inputs = absurd inputs
+leaves_shelf (jobs.Check one two rule demands form) before after inputs = tt
+leaves_shelf (jobs.Judge one two rule demands rle) before after inputs = tt
+leaves_shelf (jobs.Cnf one rule demands form) before after inputs = tt
+leaves_shelf (jobs.Lrat one two) before after inputs = tt
+leaves_shelf (jobs.Search one two rule demands form budget keep_all rle) before after inputs = tt
+leaves_shelf (jobs.Sat one two budget keep_all) before after inputs = tt
+leaves_shelf (jobs.Make seed size one two) before after inputs = absurd inputs
+
+-- the inputs of a job came to an answer, and it was given
+pub read_answered : (job : Job) (answer : Answer) (before mid after : ShelfMoment) (out_before out_after err_before err_after : SinkMoment) (status : Status) → HasInputs job
+    → Reads (ComesTo job (files_at before)) (Ok answer) before mid
+    → ((question : Question) → IsAnswer question answer → (end : End) × IsEndOf question (moment mid out_before err_before) (moment after out_after err_after) status end)
+    → ((question : Question) → IsAnswer question answer → LeavesPrinting question mid after)
+    → (end : End) × IsEnd (Ok job) (moment before out_before err_before) (moment after out_after err_after) status end
+read_answered job answer before mid after out_before out_after err_before err_after status inputs read ended printing =
+    let (question, asked, none, right) = read.ok.0 in
+    job_ended job question before mid after out_before out_after err_before err_after status asked (leaves_shelf job before mid inputs) (printing question right) read.kept read.ok.1
+    (subst (λ ahead. (end : End) × IsEndBehind ahead question (moment mid out_before err_before) (moment after out_after err_after) status end) (sym none) (ended question right))
+
+-- or to a fault, and it was said
+pub read_stopped : (job : Job) (fault : Fault) (before after : ShelfMoment) (out err_before err_after : SinkMoment) (status : Status) → HasInputs job
+    → Reads (ComesTo job (files_at before)) (Err fault) before after → Says fault status err_before err_after
+    → (end : End) × IsEnd (Ok job) (moment before out err_before) (moment after out err_after) status end
+read_stopped job fault before after out err_before err_after status inputs read said =
+    stopped job fault before after out err_before err_after status (leaves_shelf job before after inputs) read.kept read.counts inputs read.err said

@@ -8,12 +8,12 @@ use Rattle.lls_problem.specs.declared.form.Form.TheVariants.{Rows}
 use Rattle.lls_encode.specs.Formula.{formula_of}
 use Rattle.lls_lrat.specs.declared.error.CheckError.{CheckError}
 use Rattle.lls_prooflog.specs.declared.step.Step.{Step}
-use Rattle.lls_cli.specs.declared.question.Question.{Question}
-use Rattle.lls_cli.specs.declared.question.Question.TheVariants as questions
-use Rattle.lls_cli.specs.declared.question.Effort.{Effort}
+use Rattle.lls_cli.specs.Questions.{Question}
+use Rattle.lls_cli.specs.Questions as questions
+use Rattle.lls_cli.specs.declared.effort.Effort.{Effort}
 use Rattle.lls_cli.specs.declared.answer_file.AnswerFile.{AnswerFile}
 use Rattle.lls_cli.specs.declared.answer.Answer.{Answer}
-use Rattle.lls_cli.specs.declared.question.Asked.{Asked}
+use Rattle.lls_cli.specs.declared.asked.Asked.{Asked}
 use Rattle.lls_cli.specs.declared.status.Status.{Status}
 use Rattle.lls_cli.specs.declared.status.Status.TheVariants as statuses
 use Rattle.lls_cli.specs.Question.{formula_asked}

@@ -2,6 +2,8 @@ pub mod Consequences
 pub mod Ending
 pub mod Behind
 pub mod Stopped
+pub mod Coming
+pub mod FedProofs
 pub mod Written
 pub mod RightAnswers
 pub mod Made

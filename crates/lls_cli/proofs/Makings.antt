@@ -11,8 +11,8 @@ use Rattle.lls_encode.specs.Formula.{formula_of}
 use Rattle.lls_prooflog.specs.declared.step.Step.{Step}
 use Rattle.lls_prooflog.specs.Log.{log_text}
 use Rattle.lls_solver.specs.Searching.{IsExhausted, KeepsAll}
-use Rattle.lls_cli.specs.declared.question.Question.TheVariants as questions
-use Rattle.lls_cli.specs.declared.question.Effort.{Effort}
+use Rattle.lls_cli.specs.Questions as questions
+use Rattle.lls_cli.specs.declared.effort.Effort.{Effort}
 use Rattle.lls_cli.specs.declared.answer_file.AnswerFile.{AnswerFile}
 use Rattle.lls_cli.specs.declared.answer.Answer.{Answer}
 use Rattle.lls_cli.specs.declared.status.Status.TheVariants as statuses

@@ -11,9 +11,9 @@ use Rattle.lls_problem.specs.Problem.{PosedProblem}
 use Rattle.lls_words.specs.declared.error.WordsError.{WordsError}
 use Rattle.lls_words.specs.declared.job.Job.{Job}
 use Rattle.lls_words.specs.declared.job.Job.TheVariants as jobs
-use Rattle.lls_cli.specs.declared.question.Question.{Question}
-use Rattle.lls_cli.specs.declared.question.Question.TheVariants as questions
-use Rattle.lls_cli.specs.declared.question.Effort.{Effort}
+use Rattle.lls_cli.specs.Questions.{Question}
+use Rattle.lls_cli.specs.Questions as questions
+use Rattle.lls_cli.specs.declared.effort.Effort.{Effort}
 use Rattle.lls_cli.specs.declared.status.Status.{Status}
 use Rattle.lls_cli.specs.declared.status.Status.TheVariants as statuses
 use Rattle.lls_cli.specs.declared.fault.Fault.{Fault}

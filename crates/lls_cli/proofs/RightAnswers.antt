@@ -8,10 +8,10 @@ use Rattle.lls_problem.specs.Problem.{PosedProblem}
 use Rattle.lls_problem.specs.Judgement.{IsJudgement}
 use Rattle.lls_problem.specs.Solution.{IsSolution, IsAbsent}
 use Rattle.lls_problem.proofs.Plane.{plane_law}
-use Rattle.lls_cli.specs.declared.question.Question.{Question}
-use Rattle.lls_cli.specs.declared.question.Question.TheVariants as questions
+use Rattle.lls_cli.specs.Questions.{Question}
+use Rattle.lls_cli.specs.Questions as questions
 use Rattle.lls_cli.specs.declared.answer.Answer.{Answer}
-use Rattle.lls_cli.specs.declared.question.Asked.{Asked}
+use Rattle.lls_cli.specs.declared.asked.Asked.{Asked}
 use Rattle.lls_cli.specs.declared.status.Status.{Status}
 use Rattle.lls_cli.specs.declared.status.Status.TheVariants as statuses
 use Rattle.lls_cli.specs.Answer.{judge_answer, Holds, IsAnswer}

@@ -13,11 +13,11 @@ use Rattle.lls_prooflog.specs.Spent.{is_addition}
 use Rattle.lls_counting.proofs.Logs.{budgets_decide, kept_budgets_decide}
 use Rattle.lls_solver.specs.Searching.{IsModel, IsRefutation, IsExhausted, KeepsAll, additions}
 use Rattle.lls_lrat.specs.Verdict.{Accepted, verdict}
-use Rattle.lls_cli.specs.declared.question.Question.TheVariants as questions
-use Rattle.lls_cli.specs.declared.question.Effort.{Effort}
+use Rattle.lls_cli.specs.Questions as questions
+use Rattle.lls_cli.specs.declared.effort.Effort.{Effort}
 use Rattle.lls_cli.specs.declared.answer_file.AnswerFile.{AnswerFile}
 use Rattle.lls_cli.specs.declared.answer.Answer.{Answer}
-use Rattle.lls_cli.specs.declared.question.Asked.{Asked}
+use Rattle.lls_cli.specs.declared.asked.Asked.{Asked}
 use Rattle.lls_cli.specs.declared.status.Status.TheVariants as statuses
 use Rattle.lls_cli.specs.Question.{formula_asked}
 use Rattle.lls_cli.specs.Evidence.{HasProof, HasSpentLog}

@@ -2,7 +2,7 @@
 use Rattle.std.proofs.Common.{ℕ, List, [], Option, None, Some, Result, Ok, Err, refl, ap, arith}
 use Rattle.lls_base.specs.Results.{and_then}
 use Rattle.lls_base.specs.Shelf.{Files}
-use Rattle.lls_cli.specs.declared.question.Question.{Question}
+use Rattle.lls_cli.specs.Questions.{Question}
 use Rattle.lls_cli.specs.declared.fault.Fault.{Fault}
 use Rattle.lls_cli.specs.declared.fault.Fault.TheVariants as faults
 use Rattle.lls_cli.specs.declared.fault.OutsideFault.TheVariants as outside
@@ -10,7 +10,7 @@ use Rattle.lls_cli.specs.Moment.{ShelfMoment}
 use Rattle.lls_cli.specs.Question.{IsInput, MadeOfOne, MadeOf, input_of}
 use Rattle.lls_cli.specs.Steps.{Reads, Stops}
 
-Stops-along : (fault : Fault) (One Two : Fault → Type 0) (before after : ShelfMoment) → (One fault → Two fault) → Stops fault One before after → Stops fault Two before after
+pub Stops-along : (fault : Fault) (One Two : Fault → Type 0) (before after : ShelfMoment) → (One fault → Two fault) → Stops fault One before after → Stops fault Two before after
 Stops-along faults.Memory One Two before after along stops = tt
 Stops-along (faults.Outside outside.OpenFailed) One Two before after along stops = stops
 Stops-along (faults.Outside outside.ReadFailed) One Two before after along stops = stops
@@ -44,6 +44,11 @@ first_refused files one two one_limit two_limit make more fault refused =
       second_is = other.1;
       made = ap (λ part. and_then part (more other.0)) refused.made;
     }
+
+-- what the only input makes asks the question
+pub only_made : {Y : Type 0} (files : Option Files) (one : List ℕ) (limit : ℕ) (make : Result (List ℕ) Fault → Result Y Fault) (more : Y → Result Question Fault) (part : Y)
+    → MadeOfOne files one limit make (Ok part) → MadeOfOne files one limit (λ input. and_then (make input) more) (more part)
+only_made files one limit make more part made = record { input = made.input; input_is = made.input_is; made = ap (λ read. and_then read more) made.made }
 
 -- and a refusal of the only input is the question's
 only_refused : {Y : Type 0} (files : Option Files) (one : List ℕ) (limit : ℕ) (make : Result (List ℕ) Fault → Result Y Fault) (more : Y → Result Question Fault) (fault : Fault)

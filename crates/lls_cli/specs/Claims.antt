@@ -11,15 +11,15 @@ use Rattle.lls_encode.specs.Formula.{formula_of}
 use Rattle.lls_gen.specs.Made.{made_problem}
 use Rattle.lls_words.specs.declared.job.Job.{Job}
 use Rattle.lls_words.specs.declared.job.Job.TheVariants as jobs
-use Rattle.lls_cli.specs.declared.question.Question.{Question}
-use Rattle.lls_cli.specs.declared.question.Question.TheVariants as questions
-use Rattle.lls_cli.specs.declared.question.Effort.{Effort}
+use Rattle.lls_cli.specs.Questions.{Question}
+use Rattle.lls_cli.specs.Questions as questions
+use Rattle.lls_cli.specs.declared.effort.Effort.{Effort}
 use Rattle.lls_cli.specs.declared.answer_file.AnswerFile.{AnswerFile}
 use Rattle.lls_cli.specs.declared.answer.Answer.{Answer}
 use Rattle.lls_cli.specs.declared.fault.Fault.{Fault}
 use Rattle.lls_cli.specs.declared.fault.Fault.TheVariants as faults
 use Rattle.lls_cli.specs.declared.fault.OutsideFault.TheVariants as outside
-use Rattle.lls_cli.specs.declared.question.Asked.{Asked}
+use Rattle.lls_cli.specs.declared.asked.Asked.{Asked}
 use Rattle.lls_cli.specs.declared.status.Status.{Status}
 use Rattle.lls_cli.specs.declared.status.Status.TheVariants as statuses
 use Rattle.lls_cli.specs.Question.{formula_asked, proof_limit, question_of, Asks}

@@ -6,7 +6,7 @@ use Rattle.lls_prooflog.specs.declared.step.Step.{Step}
 use Rattle.lls_prooflog.specs.Log.{log_text}
 use Rattle.lls_prooflog.specs.Spent.{IsSpent, is_addition}
 use Rattle.lls_lrat.specs.Verdict.{Accepted, verdict}
-use Rattle.lls_cli.specs.declared.question.Effort.{Effort}
+use Rattle.lls_cli.specs.declared.effort.Effort.{Effort}
 use Rattle.lls_cli.specs.declared.answer_file.AnswerFile.{AnswerFile}
 
 -- the file has the text of these steps, none of which is a deletion where all clauses are kept

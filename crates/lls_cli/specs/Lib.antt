@@ -2,7 +2,8 @@ pub mod CommandLine
 pub mod Status
 pub mod Fault
 pub mod Question
-pub mod Answerable
+pub mod Fed
+pub mod Questions
 pub mod Absence
 pub mod Said
 pub mod Evidence

@@ -1,5 +1,5 @@
 -- A made problem: the search file that it is written to, and what is said of the search for its solution.
-use Rattle.std.specs.Prelude.{ℕ, ◌*◌, ◌++◌, Bool, true, false, List, codes, count_by, decimal, length, take}
+use Rattle.std.specs.Prelude.{◌≤◌, ℕ, ◌*◌, ◌++◌, Bool, true, false, List, codes, count_by, decimal, length, take}
 use Rattle.lls_lit.specs.Formula.{Cnf}
 use Rattle.lls_grid.specs.Changes.{population}
 use Rattle.lls_search_file.specs.declared.cell.Kind.{Kind}
@@ -7,10 +7,14 @@ use Rattle.lls_search_file.specs.declared.cell.Kind.TheVariants.{Dead, Live}
 use Rattle.lls_search_file.specs.Posed.{PosedFile}
 use Rattle.lls_search_file.specs.Printing.{posed_text}
 use Rattle.lls_gen.specs.declared.making.Made.{Made}
-use Rattle.lls_gen.specs.Made.{made, made_problem}
+use Rattle.lls_gen.specs.Made.{made, made_problem, most_size}
 use Rattle.lls_problem.specs.declared.form.Form.TheVariants.{Rows}
 use Rattle.lls_encode.specs.Formula.{formula_of}
 use Rattle.lls_cli.specs.declared.answer_file.AnswerFile.{AnswerFile}
+
+-- a size that a problem can be made of
+abbrev pub IsSize : ℕ → Type 0
+IsSize size = (1 ≤ size) × (size ≤ most_size)
 
 -- the search file of a made problem
 abbrev pub made_file : ℕ → ℕ → List ℕ → AnswerFile

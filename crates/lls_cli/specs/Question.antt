@@ -25,13 +25,13 @@ use Rattle.lls_encode.specs.Formula.{formula_of}
 use Rattle.lls_words.specs.Values.{default_budget}
 use Rattle.lls_words.specs.declared.job.Job.{Job}
 use Rattle.lls_words.specs.declared.job.Job.TheVariants as jobs
-use Rattle.lls_cli.specs.declared.question.Question.{Question}
-use Rattle.lls_cli.specs.declared.question.Question.TheVariants as questions
-use Rattle.lls_cli.specs.declared.question.Effort.{Effort}
+use Rattle.lls_cli.specs.Questions.{Question}
+use Rattle.lls_cli.specs.Questions as questions
+use Rattle.lls_cli.specs.declared.effort.Effort.{Effort}
 use Rattle.lls_cli.specs.declared.fault.Fault.{Fault}
 use Rattle.lls_cli.specs.declared.fault.Fault.TheVariants as faults
 use Rattle.lls_cli.specs.declared.fault.OutsideFault.TheVariants as outside
-use Rattle.lls_cli.specs.declared.question.Asked.{Asked}
+use Rattle.lls_cli.specs.declared.asked.Asked.{Asked}
 
 -- what is asked about a problem: the problem, and the form of its formula
 abbrev pub asked_with : Form → PosedProblem → Asked

@@ -7,7 +7,7 @@ ghost use Rattle.lls_cli.specs.Moment.{sink_at};
 ghost use Rattle.lls_cli.specs.Question.{formula_asked};
 ghost use Rattle.lls_cli.specs.Steps.{Writes};
 
-use crate::question::Asked;
+use crate::asked::Asked;
 use lls_base::{Failed, Sink, write_all};
 use lls_lrat::Checked;
 use lls_problem::{Form, Problem};
@@ -22,7 +22,7 @@ pub struct Absence<'f> {
 
 impl<'f> Model for Absence<'f> {
     ghost use Rattle.std.specs.Prelude.{◌≡◌};
-    ghost use Rattle.lls_cli.specs.declared.question.Asked.{Asked};
+    ghost use Rattle.lls_cli.specs.declared.asked.Asked.{Asked};
     ghost use Rattle.lls_cli.specs.Question.{formula_asked};
 
     ghost Value = { Asked };

@@ -1,23 +1,28 @@
 // The checks of proofs, against a formula and against a problem.
-ghost use Rattle.std.specs.Prelude.{IfOk};
-ghost use Rattle.lls_cli.specs.declared.question.Question.TheVariants as questions;
+ghost use Rattle.std.specs.Prelude.{◌≡◌, ℕ, List, IfOk};
 ghost use Rattle.lls_cli.specs.Answer.{IsAnswer};
+ghost use Rattle.lls_cli.specs.Fed.{ProofComesTo, fed_with};
+ghost use Rattle.lls_cli.specs.Moment.{files_of, shelf_at};
+ghost use Rattle.lls_cli.specs.Questions as questions;
+ghost use Rattle.lls_cli.specs.Steps.{Reads};
 
 use crate::answer::Answer;
-use crate::question::Asked;
+use crate::asked::Asked;
+use crate::fault::Fault;
+use crate::feeding::feed_file;
 use crate::status::Status;
 use crate::text::Text;
-use lls_base::Memory;
+use lls_base::{Memory, Name, Shelf};
 use lls_cnf::Formula;
 use lls_encode::encode;
-use lls_lrat::{CheckError, check_bytes};
+use lls_lrat::{CheckError, Feed};
 use std::alloc::Global;
 
-/// The answer to a proof that no assignment satisfies a formula.
-pub fn refute(alloc: Global, formula: &Formula, proof: &[u8]) -> Result<Answer<'static>, Memory>
-    ensures { IfOk result (IsAnswer (questions.Refute formula.now proof.now)) }
+// The answer to a proof that ends here.
+fn end_proof(alloc: Global, feed: Feed) -> Result<Answer<'static>, Memory>
+    ensures { (bytes : List ℕ) → feed.entry ≡ fed_with feed.entry.formula bytes → IfOk result (IsAnswer (questions.Refute feed.entry.formula bytes)) }
 {
-    match check_bytes(alloc, formula, proof) {
+    match feed.end() {
         Ok(_checked) => Answer::of_text(alloc, Status::Done, b"accepted\n", None),
         Err(CheckError::Memory) => Err(Memory),
         Err(error) => Ok(Answer {
@@ -28,10 +33,28 @@ pub fn refute(alloc: Global, formula: &Formula, proof: &[u8]) -> Result<Answer<'
     }
 }
 
+/// The answer to a proof that no assignment satisfies a formula.
+pub fn refute<S: Shelf>(
+    alloc: Global,
+    shelf: &mut S,
+    formula: &Formula,
+    proof: &Name,
+) -> Result<Answer<'static>, Fault>
+    ensures { Reads (ProofComesTo (questions.Refute formula.now) (files_of S.Shelf shelf.old) proof.now) result (shelf_at S.Shelf shelf.old) (shelf_at S.Shelf shelf.new) }
+{
+    let feed = feed_file(alloc, shelf, proof, formula)?;
+    Ok(end_proof(alloc, feed)?)
+}
+
 /// The answer to a proof that a problem has no solution, by its formula of the form.
-pub fn check(alloc: Global, asked: &Asked, proof: &[u8]) -> Result<Answer<'static>, Memory>
-    ensures { IfOk result (IsAnswer (questions.Check asked.now proof.now)) }
+pub fn check<S: Shelf>(
+    alloc: Global,
+    shelf: &mut S,
+    asked: &Asked,
+    proof: &Name,
+) -> Result<Answer<'static>, Fault>
+    ensures { Reads (ProofComesTo (questions.Check asked.now) (files_of S.Shelf shelf.old) proof.now) result (shelf_at S.Shelf shelf.old) (shelf_at S.Shelf shelf.new) }
 {
     let formula = encode(alloc, &asked.problem, asked.form)?;
-    refute(alloc, &formula, proof)
+    refute(alloc, shelf, &formula, proof)
 }

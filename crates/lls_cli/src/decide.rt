@@ -1,13 +1,13 @@
 // The search for an assignment that satisfies a formula.
 ghost use Rattle.std.specs.Prelude.{◌≤◌, IfOk};
 ghost use Rattle.lls_solver.specs.declared.solving.TheConstants.{MOST_BUDGET};
-ghost use Rattle.lls_cli.specs.declared.question.Question.TheVariants as questions;
+ghost use Rattle.lls_cli.specs.Questions as questions;
 ghost use Rattle.lls_cli.specs.Answer.{IsAnswer};
 
 use crate::answer::Answer;
 use crate::evidence::{check_proof, log_file};
 use crate::model::print_model;
-use crate::question::Effort;
+use crate::effort::Effort;
 use crate::status::Status;
 use crate::text::Text;
 use lls_base::Memory;

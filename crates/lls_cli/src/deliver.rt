@@ -1,7 +1,7 @@
 // The delivery of answers and faults: the file first, then the text; or the line of a fault.
 ghost use Rattle.std.specs.Prelude.{◌≡◌, IfErr, IfOk, OnOk};
 ghost use Rattle.lls_cli.specs.declared.fault.Fault.TheVariants.{Outside as OfOutside};
-ghost use Rattle.lls_cli.specs.declared.question.Question as questions;
+ghost use Rattle.lls_cli.specs.Questions as questions;
 ghost use Rattle.lls_cli.specs.Answer.{IsAnswer};
 ghost use Rattle.lls_cli.specs.Ends.{End, GrewBy, IsEndOf, WroteFile};
 ghost use Rattle.lls_cli.specs.Fault.{fault_line};

@@ -1,6 +1,6 @@
 // The judging of a history.
 ghost use Rattle.std.specs.Prelude.{◌≡◌, IfOk};
-ghost use Rattle.lls_cli.specs.declared.question.Question.TheVariants as questions;
+ghost use Rattle.lls_cli.specs.Questions as questions;
 ghost use Rattle.lls_cli.specs.Answer.{judge_answer, IsAnswer};
 
 use crate::answer::Answer;

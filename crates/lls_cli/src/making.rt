@@ -3,11 +3,10 @@ ghost use Rattle.std.specs.Prelude.{◌≡◌, ◌≤◌, ℕ, List, length, str
 ghost use Rattle.lls_gen.specs.Made.{made};
 ghost use Rattle.lls_problem.specs.Solution.{IsSolution};
 ghost use Rattle.lls_solver.specs.declared.solving.TheConstants.{MOST_BUDGET};
-ghost use Rattle.lls_cli.specs.declared.question.Question.TheVariants as questions;
+ghost use Rattle.lls_cli.specs.Questions as questions;
 ghost use Rattle.lls_cli.specs.Answer.{IsAnswer};
-ghost use Rattle.lls_cli.specs.Answerable.{IsSize};
 ghost use Rattle.lls_cli.specs.Ends.{End, Ends};
-ghost use Rattle.lls_cli.specs.Making.{is_known, known_count, made_file, problem_lines, search_lines, summary_of};
+ghost use Rattle.lls_cli.specs.Making.{IsSize, is_known, known_count, made_file, problem_lines, search_lines, summary_of};
 ghost use Rattle.lls_cli.specs.Outside.{BorrowsSame, moment_of};
 
 use crate::answer::Answer;
@@ -16,7 +15,7 @@ use crate::bytes::Bytes;
 use crate::deliver::{give, lack, say, write_answer_file};
 use crate::evidence::log_file;
 use crate::outside::Outside;
-use crate::question::Effort;
+use crate::effort::Effort;
 use crate::status::Status;
 use crate::text::Text;
 use lls_base::{Memory, Name, Shelf, Sink};

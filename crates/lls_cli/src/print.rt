@@ -1,11 +1,11 @@
 // The texts of formulas and of rules.
 ghost use Rattle.std.specs.Prelude.{IfOk};
 ghost use Rattle.lls_hensel.specs.Isotropy.{IsIsotropic};
-ghost use Rattle.lls_cli.specs.declared.question.Question.TheVariants as questions;
+ghost use Rattle.lls_cli.specs.Questions as questions;
 ghost use Rattle.lls_cli.specs.Answer.{IsAnswer};
 
 use crate::answer::Answer;
-use crate::question::Asked;
+use crate::asked::Asked;
 use crate::status::Status;
 use crate::text::Text;
 use lls_base::Memory;

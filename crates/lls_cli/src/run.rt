@@ -1,82 +1,200 @@
 // The program: from words to a status.
-ghost use Rattle.std.specs.Prelude.{◌≡◌, ◌⊎◌, IsErr};
+ghost use Rattle.std.specs.Prelude.{◌≡◌, ◌≤◌, ◌⊎◌, IsErr, Ok};
+ghost use Rattle.lls_hensel.specs.Isotropy.{IsIsotropic};
+ghost use Rattle.lls_solver.specs.declared.solving.TheConstants.{MOST_BUDGET};
+ghost use Rattle.lls_words.specs.Job.{AreWithinLimits, KeepsLimits};
+ghost use Rattle.lls_words.specs.declared.job.Job as jobs;
+ghost use Rattle.lls_words.specs.declared.job.Job.TheVariants as all_jobs;
 ghost use Rattle.lls_cli.specs.Answer.{HasShortBudget, NoHolds, NoneHolds, SomeHolds, YesHolds};
-ghost use Rattle.lls_cli.specs.Answerable.{CanAnswer};
 ghost use Rattle.lls_cli.specs.Claims.{ChangesOnly, CountsNeverFall, HasCause, IsAnswered, IsComplete, IsFaultStatus, IsSilent, Leaves, LeavesBegun, NothingFailed, OfQuestion, Publishes, SaysWhy, HasWhole, outputs_of_words};
 ghost use Rattle.lls_cli.specs.CommandLine.{job_in};
 ghost use Rattle.lls_cli.specs.Evidence.{HasProof, HasSpentLog};
-ghost use Rattle.lls_cli.specs.Ends.{End, Ends, IsEnd, ahead_of};
-ghost use Rattle.lls_cli.specs.Moment.{files_of, moment_at, shelf_at, sink_at};
+ghost use Rattle.lls_cli.specs.Ends.{End, HasInputs, IsEnd, ahead_of};
+ghost use Rattle.lls_cli.specs.Making.{IsSize};
+ghost use Rattle.lls_cli.specs.Moment.{ShelfMoment, files_at, files_of, moment_at, sink_at, with_shelf};
 ghost use Rattle.lls_cli.specs.Outside.{BorrowsSame, moment_of};
-ghost use Rattle.lls_cli.specs.Steps.{LeavesPrinting};
+ghost use Rattle.lls_cli.specs.Steps.{ComesTo, Reads};
 
-use crate::ask::ask;
-use crate::check::{check, refute};
-use crate::decide::decide;
+use crate::answer::Answer;
+use crate::answering::{answer_check, answer_cnf, answer_judge, answer_lrat, answer_sat};
+use crate::asked::Asked;
 use crate::deliver::{give, refuse};
+use crate::effort::Effort;
 use crate::fault::Fault;
-use crate::judge::judge;
+use crate::input::read_problem;
 use crate::making::give_making;
 use crate::outside::Outside;
-use crate::print::{print_formula, print_rule};
-use crate::question::Question;
+use crate::print::print_rule;
 use crate::search::give_search;
 use crate::status::Status;
-use lls_base::{Shelf, Sink};
-use lls_words::read_job;
+use lls_base::{Name, Shelf, Sink};
+use lls_problem::{Demands, Form};
+use lls_rule::Rule;
+use lls_words::{DEFAULT_BUDGET, Job, read_job};
 use std::alloc::Global;
 
-/// Answers a question, and gives the answer.
-fn answer<S: Shelf, O: Sink, E: Sink>(
+// Gives what the inputs of a job came to: the answer, or why there is none.
+fn give_read<S: Shelf, O: Sink, E: Sink>(
     alloc: Global,
-    question: Question,
+    answer: Result<Answer<'static>, Fault>,
     outside: &mut Outside<S, O, E>,
 ) -> Status
-    requires { CanAnswer question }
-    ensures end { (end : End) × Ends question (moment_of S.Shelf O.Sink E.Sink outside.old) (moment_of S.Shelf O.Sink E.Sink outside.new) result end }
-    ensures shelf { LeavesPrinting question (moment_of S.Shelf O.Sink E.Sink outside.old).shelf (moment_of S.Shelf O.Sink E.Sink outside.new).shelf }
+    ensures end { (job : jobs.Job) → (before : ShelfMoment) → HasInputs job
+        → Reads (ComesTo job (files_at before)) answer.entry before (moment_of S.Shelf O.Sink E.Sink outside.old).shelf
+        → (end : End) × IsEnd (Ok job) (with_shelf (moment_of S.Shelf O.Sink E.Sink outside.old) before) (moment_of S.Shelf O.Sink E.Sink outside.new) result end }
     ensures same { BorrowsSame outside.old outside.new }
 {
-    match question {
-        Question::Check { asked, proof } => give(check(alloc, &asked, proof.items()), outside),
-        Question::Refute { formula, proof } => {
-            give(refute(alloc, &formula, proof.items()), outside)
-        }
-        Question::Judge { problem, history } => give(judge(alloc, &problem, &history), outside),
-        Question::Search { asked, effort, rle } => {
-            give_search(alloc, &asked, effort, rle, outside)
-        }
-        Question::Decide { formula, effort } => give(decide(alloc, &formula, effort), outside),
-        Question::Encode { asked } => give(print_formula(alloc, &asked), outside),
-        Question::Print { rule } => give(print_rule(alloc, &rule), outside),
-        Question::Make {
-            seed,
-            size,
-            search,
-            effort,
-        } => give_making(alloc, seed, size, search, effort, outside),
+    match answer {
+        Ok(answer) => give(Ok(answer), outside),
+        Err(fault) => refuse(alloc, fault, outside.err),
     }
 }
 
-/// Answers a question that is at hand, and gives the answer.
-pub fn give_answer<S: Shelf, O: Sink, E: Sink>(
+// Runs `search`: the problem is read, and then searched.
+fn run_search<S: Shelf, O: Sink, E: Sink>(
     alloc: Global,
-    question: Question,
-    shelf: &mut S,
-    out: &mut O,
-    err: &mut E,
+    search: &Name,
+    rule: Rule,
+    demands: Demands,
+    form: Form,
+    effort: Effort,
+    rle: bool,
+    outside: &mut Outside<S, O, E>,
 ) -> Status
-    requires { CanAnswer question }
-    ensures end { (end : End) × Ends question
-        (moment_at S.Shelf O.Sink E.Sink shelf.old out.old err.old) (moment_at S.Shelf O.Sink E.Sink shelf.new out.new err.new) result end }
-    ensures shelf { LeavesPrinting question (shelf_at S.Shelf shelf.old) (shelf_at S.Shelf shelf.new) }
+    requires demands { AreWithinLimits demands }
+    requires isotropic { IsIsotropic rule }
+    requires budget { effort.budget ≤ MOST_BUDGET }
+    ensures end { (end : End) × IsEnd (Ok (all_jobs.Search search.now effort.proof rule demands form effort.budget effort.keep_all rle))
+        (moment_of S.Shelf O.Sink E.Sink outside.old) (moment_of S.Shelf O.Sink E.Sink outside.new) result end }
+    ensures same { BorrowsSame outside.old outside.new }
 {
-    let mut outside = Outside { shelf, out, err };
-    answer(alloc, question, &mut outside)
+    match read_problem(alloc, outside.shelf, search, rule, demands) {
+        Ok(problem) => give_search(alloc, &Asked { problem, form }, effort, rle, outside),
+        Err(fault) => refuse(alloc, fault, outside.err),
+    }
 }
 
-/// Reads the job of a command line, asks its question and answers it.
+// Runs `make`, which reads nothing.
+fn run_make<S: Shelf, O: Sink, E: Sink>(
+    alloc: Global,
+    seed: u64,
+    size: u32,
+    search: Name,
+    proof: Name,
+    outside: &mut Outside<S, O, E>,
+) -> Status
+    requires { IsSize size }
+    ensures end { (end : End) × IsEnd (Ok (all_jobs.Make seed size search proof)) (moment_of S.Shelf O.Sink E.Sink outside.old) (moment_of S.Shelf O.Sink E.Sink outside.new) result end }
+    ensures same { BorrowsSame outside.old outside.new }
+{
+    let effort = Effort {
+        budget: DEFAULT_BUDGET,
+        keep_all: false,
+        proof,
+    };
+    give_making(alloc, seed, size, search, effort, outside)
+}
+
+// Runs `rule`, which reads nothing.
+fn run_rule<S: Shelf, O: Sink, E: Sink>(
+    alloc: Global,
+    rule: &Rule,
+    outside: &mut Outside<S, O, E>,
+) -> Status
+    requires { IsIsotropic rule.now }
+    ensures end { (end : End) × IsEnd (Ok (all_jobs.Rule rule.now)) (moment_of S.Shelf O.Sink E.Sink outside.old) (moment_of S.Shelf O.Sink E.Sink outside.new) result end }
+    ensures same { BorrowsSame outside.old outside.new }
+{
+    give(print_rule(alloc, rule), outside)
+}
+
+// Runs a job: its inputs are read, and its answer is given.
 fn run_job<S: Shelf, O: Sink, E: Sink>(
+    alloc: Global,
+    job: Job,
+    outside: &mut Outside<S, O, E>,
+) -> Status
+    requires { KeepsLimits job }
+    ensures end { (end : End) × IsEnd (Ok job) (moment_of S.Shelf O.Sink E.Sink outside.old) (moment_of S.Shelf O.Sink E.Sink outside.new) result end }
+    ensures same { BorrowsSame outside.old outside.new }
+{
+    match job {
+        Job::Check {
+            search,
+            proof,
+            rule,
+            demands,
+            form,
+        } => {
+            let answer = answer_check(alloc, outside.shelf, &search, &proof, rule, demands, form);
+            give_read(alloc, answer, outside)
+        }
+        Job::Judge {
+            search,
+            pattern,
+            rule,
+            demands,
+            rle,
+        } => {
+            let answer = answer_judge(alloc, outside.shelf, &search, &pattern, rule, demands, rle);
+            give_read(alloc, answer, outside)
+        }
+        Job::Search {
+            search,
+            proof,
+            rule,
+            demands,
+            form,
+            budget,
+            keep_all,
+            rle,
+        } => {
+            let effort = Effort {
+                budget,
+                keep_all,
+                proof,
+            };
+            run_search(alloc, &search, rule, demands, form, effort, rle, outside)
+        }
+        Job::Sat {
+            formula,
+            proof,
+            budget,
+            keep_all,
+        } => {
+            let effort = Effort {
+                budget,
+                keep_all,
+                proof,
+            };
+            let answer = answer_sat(alloc, outside.shelf, &formula, effort);
+            give_read(alloc, answer, outside)
+        }
+        Job::Cnf {
+            search,
+            rule,
+            demands,
+            form,
+        } => {
+            let answer = answer_cnf(alloc, outside.shelf, &search, rule, demands, form);
+            give_read(alloc, answer, outside)
+        }
+        Job::Lrat { formula, proof } => {
+            let answer = answer_lrat(alloc, outside.shelf, &formula, &proof);
+            give_read(alloc, answer, outside)
+        }
+        Job::Rule { rule } => run_rule(alloc, &rule, outside),
+        Job::Make {
+            seed,
+            size,
+            search,
+            proof,
+        } => run_make(alloc, seed, size, search, proof, outside),
+    }
+}
+
+// Reads the job of a command line, and runs it.
+fn run_line<S: Shelf, O: Sink, E: Sink>(
     alloc: Global,
     words: &[String],
     outside: &mut Outside<S, O, E>,
@@ -84,17 +202,13 @@ fn run_job<S: Shelf, O: Sink, E: Sink>(
     ensures end { (end : End) × IsEnd (job_in words.now) (moment_of S.Shelf O.Sink E.Sink outside.old) (moment_of S.Shelf O.Sink E.Sink outside.new) result end }
     ensures same { BorrowsSame outside.old outside.new }
 {
-    let job = match read_job(alloc, words) {
-        Ok(job) => job,
-        Err(error) => return refuse(alloc, Fault::from(error), outside.err),
-    };
-    match ask(alloc, outside.shelf, job) {
-        Ok(question) => answer(alloc, question, outside),
-        Err(fault) => refuse(alloc, fault, outside.err),
+    match read_job(alloc, words) {
+        Ok(job) => run_job(alloc, job, outside),
+        Err(error) => refuse(alloc, Fault::from(error), outside.err),
     }
 }
 
-/// Runs a command line, and ends as its words, its inputs and the outside decide.
+// Runs a command line, and ends as its words, its inputs and the outside decide.
 fn run_words<S: Shelf, O: Sink, E: Sink>(
     alloc: Global,
     words: &[String],
@@ -106,7 +220,7 @@ fn run_words<S: Shelf, O: Sink, E: Sink>(
         (moment_at S.Shelf O.Sink E.Sink shelf.old out.old err.old) (moment_at S.Shelf O.Sink E.Sink shelf.new out.new err.new) result end }
 {
     let mut outside = Outside { shelf, out, err };
-    run_job(alloc, words, &mut outside)
+    run_line(alloc, words, &mut outside)
 }
 
 /// Runs a command line: the words behind the program's name, over files and two sinks.

@@ -2,7 +2,7 @@
 ghost use Rattle.std.specs.Prelude.{◌≡◌, ◌≤◌, IfOk};
 ghost use Rattle.lls_hensel.specs.Isotropy.{IsIsotropic};
 ghost use Rattle.lls_solver.specs.declared.solving.TheConstants.{MOST_BUDGET};
-ghost use Rattle.lls_cli.specs.declared.question.Question.TheVariants as questions;
+ghost use Rattle.lls_cli.specs.Questions as questions;
 ghost use Rattle.lls_cli.specs.Answer.{IsAnswer};
 ghost use Rattle.lls_cli.specs.Ends.{End, IsEndOf};
 ghost use Rattle.lls_cli.specs.Outside.{BorrowsSame, moment_of};
@@ -14,7 +14,8 @@ use crate::deliver::{give, lack};
 use crate::evidence::{check_proof, log_file};
 use crate::outside::Outside;
 use crate::pattern::print_pattern;
-use crate::question::{Asked, Effort};
+use crate::asked::Asked;
+use crate::effort::Effort;
 use crate::status::Status;
 use crate::text::Text;
 use lls_base::{Memory, Shelf, Sink};

@@ -1,7 +1,7 @@
 -- The problem's file stands, and then the search's answer is given; or the file failed.
 use Rattle.std.proofs.Common.{Some, inl}
 use Rattle.lls_cli.specs.declared.fault.Fault.TheVariants.{Outside}
-use Rattle.lls_cli.specs.declared.question.Question.TheVariants as questions
+use Rattle.lls_cli.specs.Questions as questions
 use Rattle.lls_cli.specs.Ends.{lacked, ahead_failed}
 use Rattle.lls_cli.specs.Making.{made_file}
 use Rattle.lls_cli.proofs.Deliveries.{failed}

@@ -1,18 +1,22 @@
-use Rattle.lls_cli.proofs.Ending.{words_ended, stopped, job_ended}
+use Rattle.lls_words.specs.declared.job.Job.TheVariants as jobs
 use Rattle.lls_cli.proofs.run.run_job.Goals as goal
 
-pub returns-in-Err-clause-end : goal.returns-in-Err-clause-end
-returns-in-Err-clause-end g c =
-    words_ended c.in-Err.error _ _ _ _ _ _ (g.met.S.Shelf.faults_fit c.args.outside.now.shelf.now) c.in-Err.ensures.job (rw c.from.ensures at c.refuse.ensures)
+pub returns-in-Check-clause-end : goal.returns-in-Check-clause-end
+returns-in-Check-clause-end g c =
+    rw c.in-Check.is (c.give_read.ensures.end (jobs.Check c.in-Check.search c.in-Check.proof c.in-Check.rule c.in-Check.demands c.in-Check.form) _ tt c.answer_check-answer.ensures)
 
-pub returns-in-Err-ask-clause-end : goal.returns-in-Err-ask-clause-end
-returns-in-Err-ask-clause-end g c =
-    let read = c.in-Err-ask.ensures in
-    rw c.in-Ok.ensures.job
-    (stopped c.in-Ok.job c.in-Err-ask.fault _ _ _ _ _ _ read.leaves read.read.kept read.read.counts read.inputs read.read.err c.refuse-in-Err-ask.ensures)
+pub returns-in-Judge-clause-end : goal.returns-in-Judge-clause-end
+returns-in-Judge-clause-end g c =
+    rw c.in-Judge.is (c.give_read-in-Judge.ensures.end (jobs.Judge c.in-Judge.search c.in-Judge.pattern c.in-Judge.rule c.in-Judge.demands c.in-Judge.rle) _ tt c.answer_judge-answer.ensures)
 
-pub returns-in-Ok-ask-clause-end : goal.returns-in-Ok-ask-clause-end
-returns-in-Ok-ask-clause-end g c =
-    let read = c.in-Ok-ask.ensures in
-    rw c.in-Ok.ensures.job
-    (job_ended c.in-Ok.job c.in-Ok-ask.question _ _ _ _ _ _ _ _ read.read.ok.0 read.leaves c.answer.ensures.shelf read.read.kept read.read.ok.1 c.answer.ensures.end)
+pub returns-in-Sat-clause-end : goal.returns-in-Sat-clause-end
+returns-in-Sat-clause-end g c =
+    rw c.in-Sat.is (c.give_read-in-Sat.ensures.end (jobs.Sat c.in-Sat.formula c.in-Sat.proof c.in-Sat.budget c.in-Sat.keep_all) _ tt c.answer_sat-answer.ensures)
+
+pub returns-in-Cnf-clause-end : goal.returns-in-Cnf-clause-end
+returns-in-Cnf-clause-end g c =
+    rw c.in-Cnf.is (c.give_read-in-Cnf.ensures.end (jobs.Cnf c.in-Cnf.search c.in-Cnf.rule c.in-Cnf.demands c.in-Cnf.form) _ tt c.answer_cnf-answer.ensures)
+
+pub returns-in-Lrat-clause-end : goal.returns-in-Lrat-clause-end
+returns-in-Lrat-clause-end g c =
+    rw c.in-Lrat.is (c.give_read-in-Lrat.ensures.end (jobs.Lrat c.in-Lrat.formula c.in-Lrat.proof) _ tt c.answer_lrat-answer.ensures)

@@ -1,4 +1,4 @@
-use Rattle.lls_cli.specs.declared.question.Question.TheVariants as questions
+use Rattle.lls_cli.specs.Questions as questions
 use Rattle.lls_cli.specs.Ends.{lacked}
 use Rattle.lls_cli.proofs.Ending.{lacks}
 use Rattle.lls_cli.proofs.search.give_search.Goals as goal

@@ -1,0 +1,52 @@
+-- A proof that goes through its checker as its file is read.
+use Rattle.std.proofs.Common.{◌≡◌, ◌≢◌, ◌<◌, ◌≤◌, ◌+◌, ℕ, List, ◌++◌, length, drop, take, Option, Some, None, Result, Ok, Err, IfSome, IsSome, refl, sym, ap, ◌∙◌, arith, length-drop}
+use Rattle.std.specs.Option.{option_map}
+use Rattle.std.proofs.lemmas.List.{length-append, length-take-le, take_all}
+use Rattle.lls_base.specs.Shelf.{ReadsFront}
+use Rattle.lls_base.proofs.Rest.{IsFront, IsFront-more}
+use Rattle.lls_lit.specs.Formula.{Cnf}
+use Rattle.lls_lrat.specs.declared.checker.Progress.{Progress}
+use Rattle.lls_lrat.specs.declared.error.CheckError.{CheckError}
+use Rattle.lls_lrat.specs.declared.error.CheckError.TheVariants as errors
+use Rattle.lls_lrat.specs.Feeding.{Feeding, FeedState, begun, fed, piece_answer}
+use Rattle.lls_lrat.proofs.Feedings.{fed_fed}
+use Rattle.lls_cli.specs.Fed.{fed_with}
+
+-- one more piece has come
+fed_more : (formula : Cnf) (old now : Option Feeding) (bytes piece : List ℕ) → old ≡ Some (fed (begun formula) bytes) → now ≡ option_map (λ f. fed f piece) old
+    → now ≡ Some (fed (begun formula) (bytes ++ piece))
+fed_more formula old now bytes piece first next = next ∙ ap (option_map (λ f. fed f piece)) first ∙ ap Some (fed_fed (begun formula) bytes piece)
+
+-- what has come of an input: its first n bytes
+pub record HasFed (formula : Cnf) (feeding : Option Feeding) (rest : Option (List ℕ)) (n : ℕ) : Type 0 where
+  pub bytes : List ℕ
+  pub many : length bytes ≡ n
+  pub fed_is : feeding ≡ Some (fed (begun formula) bytes)
+  pub front : IfSome rest (IsFront n bytes)
+
+-- a read of k bytes was fed
+pub HasFed-more : (formula : Cnf) (old now : Option Feeding) (rest : Option (List ℕ)) (n k : ℕ) (buffer : List ℕ) → k ≤ length buffer → HasFed formula old rest n
+    → now ≡ option_map (λ f. fed f (take k buffer)) old → IfSome (option_map (drop n) rest) (λ left. ReadsFront k left buffer) → HasFed formula now rest (n + k)
+HasFed-more formula old now rest n k buffer within has next read = record {
+  bytes = has.bytes ++ take k buffer;
+  many = length-append has.bytes (take k buffer) ∙ omega (arith, has.many, length-take-le k buffer within);
+  fed_is = fed_more formula old now has.bytes (take k buffer) has.fed_is next;
+  front = IsFront-more rest n k has.bytes buffer has.front read;
+}
+
+-- where memory didn't lack, there is a check
+pub some_fed : (feeding : Option Feeding) (result : Result Progress CheckError) → result ≡ piece_answer feeding → result ≢ Err errors.Memory → IsSome feeding
+some_fed None result is other = absurd (other is)
+some_fed (Some f) result is other = refl
+
+pub fed_with-is : (state : FeedState) (formula : Cnf) (bytes : List ℕ) → state.formula ≡ formula → state.feeding ≡ Some (fed (begun formula) bytes) → state ≡ fed_with state.formula bytes
+fed_with-is state formula bytes same is = ap (λ (feeding : Option Feeding). record { formula = state.formula; feeding = feeding }) (is ∙ ap (λ (f : Cnf). Some (fed (begun f) bytes)) (sym same))
+
+-- the bytes that came are all, once a read takes none
+pub all_read : (rest : Option (List ℕ)) (n : ℕ) (bytes buffer : List ℕ) → IfSome rest (IsFront n bytes) → IfSome (option_map (drop n) rest) (λ left. ReadsFront 0 left buffer) → 0 < length buffer
+    → IfSome rest (λ all. all ≡ bytes)
+all_read None n bytes buffer front end room = tt
+all_read (Some rest) n bytes buffer front end room =
+    let none : length (drop n rest) ≡ 0 = ap length (end.end refl room) in
+    let short : length rest ≤ n = omega (arith, none, length-drop n rest) in
+    sym (front.whole ∙ take_all n rest short)
