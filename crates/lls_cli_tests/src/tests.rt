@@ -4,8 +4,10 @@ mod demands;
 mod faults;
 mod formulas;
 mod judging;
+mod long_shelf;
 mod making;
 mod outside;
+mod pieces;
 mod searches;
 
 use lls_base::{MemShelf, MemSink, Name, Plan};

@@ -1,8 +1,10 @@
 // The command that makes a problem. What it makes is as tools/made.py makes it.
 use super::{Ended, Failing, NOTHING, is_fault, run_over, shelf_of, words_of};
 use lls_base::{MemSink, Name};
-use lls_cli::question::{Effort, Question};
-use lls_cli::run::{give_answer, run};
+use lls_cli::effort::Effort;
+use lls_cli::making::give_making;
+use lls_cli::outside::Outside;
+use lls_cli::run::run;
 use lls_cli::status::Status;
 use std::alloc::Global;
 use std::test::Fail;
@@ -114,17 +116,18 @@ fn undecided(alloc: Global, failing: Failing) -> Result<Ended, Fail> {
     let mut shelf = shelf_of(alloc, b"", b"", failing)?;
     let mut out = MemSink::new(alloc, vec![in alloc; failing.out]?, 3);
     let mut err = MemSink::new(alloc, vec![in alloc; failing.err]?, 1000);
-    let question = Question::Make {
-        seed: 4,
-        size: 15,
-        search: Name::new(String::from_str(alloc, "s")?),
-        effort: Effort {
-            budget: 1,
-            keep_all: false,
-            proof: Name::new(String::from_str(alloc, "q")?),
-        },
+    let search = Name::new(String::from_str(alloc, "s")?);
+    let effort = Effort {
+        budget: 1,
+        keep_all: false,
+        proof: Name::new(String::from_str(alloc, "q")?),
     };
-    let status = give_answer(alloc, question, &mut shelf, &mut out, &mut err);
+    let mut outside = Outside {
+        shelf: &mut shelf,
+        out: &mut out,
+        err: &mut err,
+    };
+    let status = give_making(alloc, 4, 15, search, effort, &mut outside);
     Ok(Ended {
         status,
         shelf,
