@@ -8,7 +8,7 @@ use std::env;
 use std::io::ErrorKind;
 use std::process::ExitCode;
 
-/// The status where the system gives no words.
+// The status where the system gives no words.
 const NO_WORDS: u8 = 7;
 
 fn main(rt: HostRuntime) -> ExitCode {

@@ -32,7 +32,7 @@ impl CounterVars {
     }
 }
 
-/// Pushes the clauses of the variables of the kth cell.
+// Pushes the clauses of the variables of the kth cell.
 fn push_row(formula: &mut Formula, counter: CounterVars, cell: Lit, k: u32) -> Result<(), Memory>
     requires cell { is_literal_of formula.old.vars cell ≡ true }
     requires row { counter.base + (k + 1) * counter.top ≤ formula.old.vars }
@@ -48,7 +48,7 @@ fn push_row(formula: &mut Formula, counter: CounterVars, cell: Lit, k: u32) -> R
     Ok(())
 }
 
-/// Pushes the clauses of all variables of a counter.
+// Pushes the clauses of all variables of a counter.
 fn push_rows(formula: &mut Formula, counter: CounterVars, cells: &[Lit]) -> Result<(), Memory>
     requires cells { is_within formula.old.vars cells.now ≡ true }
     requires few { length cells.now ≤ CounterVars.MOST }

@@ -12,7 +12,7 @@ use lls_lit::{Lit, Var};
 /// The greatest number of clauses of one variable.
 pub const MOST_CLAUSES_EACH: usize = 4;
 
-/// Pushes that at least one cell up to the first is live exactly where the first is.
+// Pushes that at least one cell up to the first is live exactly where the first is.
 fn push_corner(formula: &mut Formula, cell: Lit, this: Lit) -> Result<(), Memory>
     requires within { is_within formula.old.vars (cell ∷ this ∷ []) ≡ true }
     requires room { HasRoom formula.old MOST_CLAUSES_EACH }
@@ -23,7 +23,7 @@ fn push_corner(formula: &mut Formula, cell: Lit, this: Lit) -> Result<(), Memory
     formula.push(&[this.negated(), cell])
 }
 
-/// Pushes that no more than one cell up to the first is live.
+// Pushes that no more than one cell up to the first is live.
 fn push_first_cell(formula: &mut Formula, cell: Lit, this: Lit) -> Result<(), Memory>
     requires within { is_within formula.old.vars (cell ∷ this ∷ []) ≡ true }
     requires room { HasRoom formula.old MOST_CLAUSES_EACH }
@@ -34,7 +34,7 @@ fn push_first_cell(formula: &mut Formula, cell: Lit, this: Lit) -> Result<(), Me
     formula.push(&[this.negated()])
 }
 
-/// Pushes that at least one cell is live exactly where one before the last is (`more`), or the last.
+// Pushes that at least one cell is live exactly where one before the last is (`more`), or the last.
 fn push_first_count(formula: &mut Formula, cell: Lit, this: Lit, more: Lit) -> Result<(), Memory>
     requires within { is_within formula.old.vars (cell ∷ this ∷ more ∷ []) ≡ true }
     requires room { HasRoom formula.old MOST_CLAUSES_EACH }
@@ -46,8 +46,8 @@ fn push_first_count(formula: &mut Formula, cell: Lit, this: Lit, more: Lit) -> R
     formula.push(&[this.negated(), more, cell])
 }
 
-/// Pushes that so many cells are live exactly where as many before the last are (`more`), or the last and one fewer
-/// before it (`fewer`).
+// Pushes that so many cells are live exactly where as many before the last are (`more`), or the last and one fewer
+// before it (`fewer`).
 fn push_inner(
     formula: &mut Formula,
     cell: Lit,

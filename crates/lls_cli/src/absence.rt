@@ -49,8 +49,8 @@ impl<'f> Absence<'f> {
     }
 }
 
-/// Says that a problem has no solution. Whoever calls it has a proof that no assignment satisfies the problem's formula of that
-/// form.
+// Says that a problem has no solution. Whoever calls it has a proof that no assignment satisfies the problem's formula of that
+// form.
 fn print_none<'f, O: Sink>(
     proof: &Checked<'f>,
     problem: &Problem,

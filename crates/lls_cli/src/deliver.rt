@@ -17,7 +17,7 @@ use crate::status::Status;
 use lls_base::{FileFault, Memory, Shelf, Sink, write_all, write_file};
 use std::alloc::Global;
 
-/// Writes a line to the standard error. A fault of it changes nothing.
+// Writes a line to the standard error. A fault of it changes nothing.
 fn write_line<E: Sink>(err: &mut E, line: &[u8])
     ensures { GrewBy line.now (sink_at E.Sink err.old) (sink_at E.Sink err.new) }
 {
@@ -55,7 +55,7 @@ pub fn refuse<E: Sink>(alloc: Global, fault: Fault, err: &mut E) -> Status
     }
 }
 
-/// The failure of the outside that a file's fault is.
+// The failure of the outside that a file's fault is.
 fn file_fault(fault: FileFault) -> OutsideFault
     ensures { result ≡ file_fault fault }
 {
@@ -83,7 +83,7 @@ pub fn write_answer_file<S: Shelf>(
     }
 }
 
-/// Delivers an answer: its file, then its text. Where one of them fails, the standard error says so.
+// Delivers an answer: its file, then its text. Where one of them fails, the standard error says so.
 fn deliver<'f, S: Shelf, O: Sink, E: Sink>(
     answer: &Answer<'f>,
     outside: &mut Outside<S, O, E>,

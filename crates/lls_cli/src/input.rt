@@ -24,7 +24,7 @@ pub const SEARCH_LIMIT: u64 = 1_048_576;
 /// The longest proof in bytes.
 pub const PROOF_LIMIT: u64 = 1_073_741_824;
 
-/// The fault of an input that wasn't read.
+// The fault of an input that wasn't read.
 fn input_fault(error: ReadError) -> Fault
     ensures { result ≡ input_fault error }
 {
@@ -54,7 +54,7 @@ pub fn read_input<S: Shelf>(
     }
 }
 
-/// The posed file of a search file's bytes.
+// The posed file of a search file's bytes.
 fn posed_input(alloc: Global, bytes: &[u8]) -> Result<Posed, Fault>
     ensures { Gives Fault.Memory (λ posed. posed) result (posed_in (posed_of bytes.now)) }
 {
@@ -65,7 +65,7 @@ fn posed_input(alloc: Global, bytes: &[u8]) -> Result<Posed, Fault>
     }
 }
 
-/// The problem that the bytes of a search file pose.
+// The problem that the bytes of a search file pose.
 fn problem_input(
     alloc: Global,
     bytes: &[u8],
@@ -97,7 +97,7 @@ pub fn read_problem<S: Shelf>(
     problem_input(alloc, bytes.items(), rule, demands)
 }
 
-/// The formula that the bytes of a formula's file write.
+// The formula that the bytes of a formula's file write.
 fn formula_input(alloc: Global, bytes: &[u8]) -> Result<Formula, Fault>
     requires { length bytes.now ≤ MOST_DIMACS_BYTES }
     ensures { Gives Fault.Memory (λ formula. formula) result (formula_in bytes.now) }
@@ -122,7 +122,7 @@ pub fn read_formula<S: Shelf>(
     formula_input(alloc, bytes.items())
 }
 
-/// The history of a pattern's bytes.
+// The history of a pattern's bytes.
 fn history_input(alloc: Global, bytes: &[u8]) -> Result<History, Fault>
     ensures { Gives Fault.Memory (λ history. history) result (history_in bytes.now) }
 {
@@ -134,7 +134,7 @@ fn history_input(alloc: Global, bytes: &[u8]) -> Result<History, Fault>
     }
 }
 
-/// The history that a picture's bytes begin.
+// The history that a picture's bytes begin.
 fn picture_input(alloc: Global, bytes: &[u8], problem: &Problem) -> Result<History, Fault>
     requires { length bytes.now ≤ SEARCH_LIMIT }
     ensures { Gives Fault.Memory (λ history. history) result (pictured_in problem.now bytes.now) }
@@ -148,7 +148,7 @@ fn picture_input(alloc: Global, bytes: &[u8], problem: &Problem) -> Result<Histo
     Ok(History::evolve(alloc, problem.rule(), &first, posed.generations)?)
 }
 
-/// The history of a pattern's bytes, which are a picture where `rle` says so.
+// The history of a pattern's bytes, which are a picture where `rle` says so.
 fn pattern_input(
     alloc: Global,
     bytes: &[u8],

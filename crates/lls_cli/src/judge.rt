@@ -11,7 +11,7 @@ use lls_grid::History;
 use lls_problem::{Judgement, Problem};
 use std::alloc::Global;
 
-/// The answer of a judgement.
+// The answer of a judgement.
 fn judged(alloc: Global, judgement: &Judgement) -> Result<Answer<'static>, Memory>
     ensures { IfOk result (λ answer. answer ≡ judge_answer judgement.now) }
 {

@@ -28,7 +28,7 @@ use lls_search_file::{Kind, Posed, print_posed};
 use lls_solver::{Outcome, solve};
 use std::alloc::Global;
 
-/// The problem of a seed and a size with its solution, and the search file of this name that it is written to.
+// The problem of a seed and a size with its solution, and the search file of this name that it is written to.
 fn make_file(alloc: Global, seed: u64, size: u32, name: Name) -> Result<(Made, AnswerFile), Memory>
     requires { IsSize size }
     ensures made { IfOk result (λ pair. pair.0 ≡ made seed size) }
@@ -41,14 +41,14 @@ fn make_file(alloc: Global, seed: u64, size: u32, name: Name) -> Result<(Made, A
     Ok((made, AnswerFile { name, bytes }))
 }
 
-/// Whether a cell's value is fixed.
+// Whether a cell's value is fixed.
 fn is_known(kind: Kind) -> bool
     ensures { result ≡ is_known kind }
 {
     matches!(kind, Kind::Dead | Kind::Live)
 }
 
-/// How many cells of generation 0 are fixed.
+// How many cells of generation 0 are fixed.
 fn known_count(posed: &Posed) -> usize
     ensures { result ≡ known_count posed.now }
 {
@@ -59,7 +59,7 @@ fn known_count(posed: &Posed) -> usize
         .count()
 }
 
-/// The lines on a made problem: its size, its known cells, and the live cells of its solution.
+// The lines on a made problem: its size, its known cells, and the live cells of its solution.
 fn problem_lines(alloc: Global, made: &Made) -> Result<String, Memory>
     requires { length made.now.history ≡ 2 }
     ensures { IfOk result (λ text. string_bytes text ≡ problem_lines made.now) }
@@ -72,7 +72,7 @@ fn problem_lines(alloc: Global, made: &Made) -> Result<String, Memory>
     Ok(format!(in alloc; "size {size}\nknown {known}\nlive {first} {second}\n")?)
 }
 
-/// The lines on the search over a formula: the formula's sizes, and how the search ended.
+// The lines on the search over a formula: the formula's sizes, and how the search ended.
 fn search_lines(alloc: Global, formula: &Formula, answer: &str) -> Result<String, Memory>
     ensures { IfOk result (λ text. string_bytes text ≡ search_lines formula.now answer.now) }
 {
@@ -81,7 +81,7 @@ fn search_lines(alloc: Global, formula: &Formula, answer: &str) -> Result<String
     Ok(format!(in alloc; "variables {vars}\nclauses {clauses}\nanswer {answer}\n")?)
 }
 
-/// What is said of a made problem and of the search over its formula.
+// What is said of a made problem and of the search over its formula.
 fn summary(alloc: Global, made: &Made, formula: &Formula, answer: &str) -> Result<Vec<u8>, Memory>
     requires { length made.now.history ≡ 2 }
     ensures { IfOk result (λ text. text.items ≡ summary_of made.now formula.now answer.now) }
@@ -92,7 +92,7 @@ fn summary(alloc: Global, made: &Made, formula: &Formula, answer: &str) -> Resul
     Ok(text)
 }
 
-/// The answer to the search for the solution of a made problem.
+// The answer to the search for the solution of a made problem.
 fn solve_made(alloc: Global, pair: &Made, effort: Effort) -> Result<Answer<'static>, Memory>
     requires budget { effort.budget ≤ MOST_BUDGET }
     requires solution { IsSolution pair.now.problem pair.now.history }

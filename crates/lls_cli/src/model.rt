@@ -8,7 +8,7 @@ use lls_cnf::Assignment;
 use lls_lit::Var;
 use std::alloc::Global;
 
-/// How many numbers a line holds.
+// How many numbers a line holds.
 const NUMBERS_A_LINE: usize = 10;
 
 /// The text of an assignment that satisfies a formula, as the SAT competitions ask for it.

@@ -25,7 +25,7 @@ use lls_prooflog::Log;
 use lls_solver::{Outcome, solve};
 use std::alloc::Global;
 
-/// The answer to the search for a solution of a problem, over the problem's formula of the form.
+// The answer to the search for a solution of a problem, over the problem's formula of the form.
 fn search<'f>(
     alloc: Global,
     asked: &'f Asked,

@@ -14,7 +14,7 @@ pub struct Text<'f> {
     said: Said<'f>,
 }
 
-/// A text, or an absence, whose words have what stands behind them.
+// A text, or an absence, whose words have what stands behind them.
 #[derive(Drop)]
 enum Said<'f> {
     Plain(Vec<u8>),

@@ -17,7 +17,7 @@ use std::alloc::{AllocError, Global};
 use std::process::Abort;
 use std::test::Fail;
 
-/// The words of a command line, separated by single blanks.
+// The words of a command line, separated by single blanks.
 fn words_of(alloc: Global, text: &str) -> Result<Vec<String>, AllocError> {
     let mut words = Vec::new(alloc);
     for word in text.split(' ') {
@@ -26,7 +26,7 @@ fn words_of(alloc: Global, text: &str) -> Result<Vec<String>, AllocError> {
     Ok(words)
 }
 
-/// Which calls fail, by their numbers from 1 on, 0 for none; and how many bytes a read or a write of a file takes at most.
+// Which calls fail, by their numbers from 1 on, 0 for none; and how many bytes a read or a write of a file takes at most.
 #[derive(Clone, Copy)]
 struct Failing {
     open: u64,
@@ -48,7 +48,7 @@ const NOTHING: Failing = Failing {
     most: 1000,
 };
 
-/// A shelf with the files `f` and `p`.
+// A shelf with the files `f` and `p`.
 fn shelf_of(alloc: Global, f: &[u8], p: &[u8], failing: Failing) -> Result<MemShelf, AllocError> {
     let mut files = Vec::new(alloc);
     files.push((Name::new(String::from_str(alloc, "f")?), f.to_vec(alloc)?))?;
@@ -62,7 +62,7 @@ fn shelf_of(alloc: Global, f: &[u8], p: &[u8], failing: Failing) -> Result<MemSh
     Ok(MemShelf::new(alloc, files, plan, failing.most.max(1)))
 }
 
-/// How a run ends, with what it wrote.
+// How a run ends, with what it wrote.
 #[derive(Drop)]
 struct Ended {
     status: Status,
@@ -71,7 +71,7 @@ struct Ended {
     err: MemSink,
 }
 
-/// Runs words over a shelf with these files. A write to the standard output takes three bytes.
+// Runs words over a shelf with these files. A write to the standard output takes three bytes.
 fn run_over(
     alloc: Global,
     words: &[String],
@@ -91,7 +91,7 @@ fn run_over(
     })
 }
 
-/// A command line, the files `f` and `p`, the status that is wanted, and the text.
+// A command line, the files `f` and `p`, the status that is wanted, and the text.
 type Row = (
     &'static str,
     &'static str,
@@ -100,7 +100,7 @@ type Row = (
     &'static str,
 );
 
-/// Runs a row whose answer goes to the standard output.
+// Runs a row whose answer goes to the standard output.
 fn answers(rt: &impl Abort, alloc: Global, row: Row) -> Result<(), Fail> {
     let (words, f, p, status, text) = row;
     let words = words_of(alloc, words)?;
@@ -111,7 +111,7 @@ fn answers(rt: &impl Abort, alloc: Global, row: Row) -> Result<(), Fail> {
     Ok(())
 }
 
-/// That a run ended with a fault, whose line is `lls: `, the text and an LF.
+// That a run ended with a fault, whose line is `lls: `, the text and an LF.
 fn is_fault(
     rt: &impl Abort,
     alloc: Global,

@@ -3,7 +3,7 @@ ghost use Rattle.std.specs.Prelude.{◌≡◌, ◌<◌, ◌^◌, IfSome};
 ghost use Rattle.lls_lit.specs.Literal.{variable_of};
 ghost use Rattle.lls_cnf.specs.Number.{natural_number, negative, whole_number};
 
-/// The most digits of a number.
+// The most digits of a number.
 const MOST_DIGITS: usize = 18;
 
 /// The whole number that a word writes: digits, or `-` and digits that aren't all zeros.

@@ -2,10 +2,10 @@
 ghost use Rattle.std.specs.Prelude.{◌≡◌, ◌≤◌, ◌^◌, IfSome, IfNone, if◌then◌else◌};
 ghost use Rattle.lls_counting.specs.Counting.{AddedClausesAreFew, AdditionsAreFew, BudgetsDecide, ClausesAreNumbered, FreshClausesDiffer, KeptBudgetsDecide, NumbersTellClauses};
 
-/// How many different clauses over a variable there are: without it, with it, with its negation.
+// How many different clauses over a variable there are: without it, with it, with its negation.
 const KEPT: u64 = 3;
 
-/// The same where clauses are deleted, which then may be learnt again.
+// The same where clauses are deleted, which then may be learnt again.
 const DELETED: u64 = 9;
 
 /// A budget with which a search over this many variables never ends undecided: 3 to their number where no learnt clause is deleted,

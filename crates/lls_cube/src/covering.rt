@@ -36,7 +36,7 @@ pub fn cover<const K: usize, const W: usize>(
     Ok(cubes)
 }
 
-/// Pushes the widest cube of a row, where it is forbidden and in no cube yet.
+// Pushes the widest cube of a row, where it is forbidden and in no cube yet.
 fn push_widest<const K: usize, const W: usize>(
     cubes: &mut Vec<Cube>,
     table: &Table<K, W>,
@@ -52,14 +52,14 @@ fn push_widest<const K: usize, const W: usize>(
     Ok(())
 }
 
-/// Whether some cube contains a row.
+// Whether some cube contains a row.
 fn is_in_any(row: usize, cubes: &[Cube]) -> bool
     ensures { result ≡ list_any (contains row) cubes.now }
 {
     cubes.iter().any(|cube| cube.contains(row))
 }
 
-/// The cube that a row chooses.
+// The cube that a row chooses.
 fn widest<const K: usize, const W: usize>(table: &Table<K, W>, row: usize) -> Cube
     requires { row < 2 ^ K }
     ensures { result ≡ widest table.now K row }

@@ -105,7 +105,7 @@ impl<const K: usize, const W: usize> Table<K, W> {
         true
     }
 
-    /// Whether every row of a word that a cube contains is forbidden.
+    // Whether every row of a word that a cube contains is forbidden.
     fn forbids_all_in(&self, word: usize, cube: Cube) -> bool
         requires { word < W }
         ensures { result ≡ forbids_between self.now cube (WORD_BITS * word) WORD_BITS }

@@ -24,7 +24,7 @@ pub fn cell_literal(k: usize) -> Lit
     Lit::from_number(1 + k as i32).unwrap()
 }
 
-/// Pushes the clause of the kth cell, where it is fixed.
+// Pushes the clause of the kth cell, where it is fixed.
 fn push_fixed_cell(formula: &mut Formula, k: usize, kind: Kind) -> Result<(), Memory>
     requires cell { k < formula.old.vars }
     requires most { formula.old.vars ≤ History.MOST_CELLS }
@@ -52,7 +52,7 @@ pub fn push_fixed(formula: &mut Formula, cells: &[Cell]) -> Result<(), Memory>
     Ok(())
 }
 
-/// Pushes that two literals are equal.
+// Pushes that two literals are equal.
 fn push_same(formula: &mut Formula, a: Lit, b: Lit) -> Result<(), Memory>
     requires within { is_within formula.old.vars (a ∷ b ∷ []) ≡ true }
     requires room { HasRoom formula.old 2 }
@@ -62,7 +62,7 @@ fn push_same(formula: &mut Formula, a: Lit, b: Lit) -> Result<(), Memory>
     formula.push(&[a, b.negated()])
 }
 
-/// The literal by which the kth cell says its name's value.
+// The literal by which the kth cell says its name's value.
 fn name_literal(k: usize, kind: Kind) -> Lit
     requires { k < History.MOST_CELLS }
     ensures { result ≡ name_literal k kind }
@@ -75,8 +75,8 @@ fn name_literal(k: usize, kind: Kind) -> Lit
     }
 }
 
-/// Pushes that the kth cell agrees with the first cell of its name, where that is an earlier one.
-/// `firsts` has the literals of the first cells, and gets that of a new name.
+// Pushes that the kth cell agrees with the first cell of its name, where that is an earlier one.
+// `firsts` has the literals of the first cells, and gets that of a new name.
 fn push_name(
     formula: &mut Formula,
     firsts: &mut Vec<Option<Lit>>,
@@ -107,7 +107,7 @@ fn push_name(
     }
 }
 
-/// As many names, none of which has a first cell yet.
+// As many names, none of which has a first cell yet.
 fn no_firsts(alloc: Global, names: usize) -> Result<Vec<Option<Lit>>, AllocError>
     ensures { IfOk result (λ firsts. firsts.items ≡ replicate names None) }
 {

@@ -16,7 +16,7 @@ use std::alloc::Global;
 /// Two clauses a cell, and one that some cell differs.
 pub const MOST_CLAUSES_DIFFERENCE: usize = 2 * History::MOST_CELLS as usize + 1;
 
-/// The literal of the kth variable behind the first `base`.
+// The literal of the kth variable behind the first `base`.
 fn difference_variable(base: u32, k: u32) -> Lit
     requires { base + k < Var.MOST }
     ensures { result ≡ difference_variable base k }
@@ -24,7 +24,7 @@ fn difference_variable(base: u32, k: u32) -> Lit
     Lit::from_number(base as i32 + k as i32 + 1).unwrap()
 }
 
-/// Pushes that two literals differ where d is true.
+// Pushes that two literals differ where d is true.
 fn push_difference_where(formula: &mut Formula, d: Lit, a: Lit, b: Lit) -> Result<(), Memory>
     requires within { is_within formula.old.vars (d ∷ a ∷ b ∷ []) ≡ true }
     requires room { HasRoom formula.old 2 }
@@ -34,7 +34,7 @@ fn push_difference_where(formula: &mut Formula, d: Lit, a: Lit, b: Lit) -> Resul
     formula.push(&[d.negated(), a.negated(), b.negated()])
 }
 
-/// Pushes that two generations differ.
+// Pushes that two generations differ.
 fn push_differing(
     alloc: Global,
     formula: &mut Formula,

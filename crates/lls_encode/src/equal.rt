@@ -9,8 +9,8 @@ use lls_base::Memory;
 use lls_cnf::Formula;
 use lls_transition::Place;
 
-/// Pushes the clause that one of two places is true. A known place that is false isn't written, and where a known one
-/// is true there is no clause.
+// Pushes the clause that one of two places is true. A known place that is false isn't written, and where a known one
+// is true there is no clause.
 fn push_either(formula: &mut Formula, a: &Place, b: &Place) -> Result<(), Memory>
     requires first { place_within formula.old.vars a.now ≡ true }
     requires second { place_within formula.old.vars b.now ≡ true }

@@ -23,7 +23,7 @@ use std::alloc::Global;
 /// Every formula of a problem has fewer clauses.
 pub const CLAUSES_BELOW: usize = 200_000_000;
 
-/// The clauses of fixed cells, of names, of symmetry and of a period.
+// The clauses of fixed cells, of names, of symmetry and of a period.
 const MOST_CLAUSES_FRONT: usize = 3 * History::MOST_CELLS as usize
     + MOST_CLAUSES_SYMMETRY
     + MOST_CLAUSES_PERIOD;

@@ -16,7 +16,7 @@ use lls_grid::History;
 use lls_problem::{Period, Problem};
 use lls_symmetry::{Course, MOST_PERIOD, Moved, is_on_grid};
 
-/// The clauses of a row's cells and of a grid's, of a generation and of all.
+// The clauses of a row's cells and of a grid's, of a generation and of all.
 const MOST_CLAUSES_ROW: usize = 2 * History::MOST_WIDTH as usize;
 
 const MOST_CLAUSES_GRID: usize = History::MOST_HEIGHT as usize * MOST_CLAUSES_ROW;
@@ -25,7 +25,7 @@ const MOST_CLAUSES_GENERATION: usize = 1 + 2 * MOST_CLAUSES_GRID;
 
 pub const MOST_CLAUSES_PERIOD: usize = MOST_PERIOD as usize * MOST_CLAUSES_GENERATION;
 
-/// Pushes that a place and where it is a period later are equal.
+// Pushes that a place and where it is a period later are equal.
 fn push_moved(formula: &mut Formula, problem: &Problem, pair: Moved) -> Result<(), Memory>
     requires early { pair.early.t < problem.now.posed.generations }
     requires late { pair.late.t < problem.now.posed.generations }
@@ -38,7 +38,7 @@ fn push_moved(formula: &mut Formula, problem: &Problem, pair: Moved) -> Result<(
     push_same_places(formula, &early, &late)
 }
 
-/// Pushes where the cells of a row go.
+// Pushes where the cells of a row go.
 fn push_row_leaving(
     formula: &mut Formula,
     problem: &Problem,
@@ -59,7 +59,7 @@ fn push_row_leaving(
     Ok(())
 }
 
-/// Pushes where the cells of a generation go.
+// Pushes where the cells of a generation go.
 fn push_leaving(formula: &mut Formula, problem: &Problem, course: Course) -> Result<(), Memory>
     requires course { IsCourse course }
     requires later { course.t + course.period < problem.now.posed.generations }
@@ -74,7 +74,7 @@ fn push_leaving(formula: &mut Formula, problem: &Problem, course: Course) -> Res
     Ok(())
 }
 
-/// Pushes where a cell of the later generation comes from, where that is outside the grid.
+// Pushes where a cell of the later generation comes from, where that is outside the grid.
 fn push_cell_entering(
     formula: &mut Formula,
     problem: &Problem,
@@ -99,7 +99,7 @@ fn push_cell_entering(
     push_moved(formula, problem, pair)
 }
 
-/// Pushes where the cells of a row of the later generation come from, those from outside the grid.
+// Pushes where the cells of a row of the later generation come from, those from outside the grid.
 fn push_row_entering(
     formula: &mut Formula,
     problem: &Problem,
@@ -120,7 +120,7 @@ fn push_row_entering(
     Ok(())
 }
 
-/// Pushes where the cells of the later generation come from, those from outside the grid.
+// Pushes where the cells of the later generation come from, those from outside the grid.
 fn push_entering(formula: &mut Formula, problem: &Problem, course: Course) -> Result<(), Memory>
     requires course { IsCourse course }
     requires later { course.t + course.period < problem.now.posed.generations }
@@ -135,7 +135,7 @@ fn push_entering(formula: &mut Formula, problem: &Problem, course: Course) -> Re
     Ok(())
 }
 
-/// Pushes the clause without literals where the background of generation t isn't there again a period later.
+// Pushes the clause without literals where the background of generation t isn't there again a period later.
 fn push_background(
     formula: &mut Formula,
     problem: &Problem,
@@ -155,7 +155,7 @@ fn push_background(
     formula.push(&[])
 }
 
-/// The course of a period from generation t on.
+// The course of a period from generation t on.
 fn course_of(period: Period, t: u32) -> Course
     requires period { IsPeriod period }
     requires start { t < History.MOST_GENERATIONS }
@@ -170,7 +170,7 @@ fn course_of(period: Period, t: u32) -> Course
     }
 }
 
-/// Pushes that generation t is there again a period later, moved by the shift.
+// Pushes that generation t is there again a period later, moved by the shift.
 fn push_return(
     formula: &mut Formula,
     problem: &Problem,
@@ -191,7 +191,7 @@ fn push_return(
     push_entering(formula, problem, course)
 }
 
-/// Pushes that each generation that has one a period later is there again.
+// Pushes that each generation that has one a period later is there again.
 fn push_returns(formula: &mut Formula, problem: &Problem, period: Period) -> Result<(), Memory>
     requires period { IsPeriod period }
     requires shorter { period.length < problem.now.posed.generations }

@@ -14,13 +14,13 @@ use lls_lit::Var;
 use lls_problem::{Bound, Bounds, Problem};
 use std::alloc::Global;
 
-/// The greatest number of clauses of a bound, by the variables of its counter: those of the counter, and one for each end.
+// The greatest number of clauses of a bound, by the variables of its counter: those of the counter, and one for each end.
 const MOST_CLAUSES_VARIABLE: usize = MOST_CLAUSES_EACH + 2;
 
 /// The clauses of all bounds.
 pub const MOST_CLAUSES_BOUNDS: usize = MOST_CLAUSES_VARIABLE * Bounds::MOST_COUNTERS as usize;
 
-/// Pushes that at least so many of a counter's cells are live.
+// Pushes that at least so many of a counter's cells are live.
 fn push_low(formula: &mut Formula, counter: CounterVars, low: u32) -> Result<(), Memory>
     requires some { 1 ≤ counter.cells }
     requires low { low ≤ counter.top }
@@ -35,7 +35,7 @@ fn push_low(formula: &mut Formula, counter: CounterVars, low: u32) -> Result<(),
     formula.push(&[counter.at_least(counter.cells - 1, low - 1)])
 }
 
-/// Pushes that not more than so many of a counter's cells are live, where there are more.
+// Pushes that not more than so many of a counter's cells are live, where there are more.
 fn push_high(formula: &mut Formula, counter: CounterVars, top_end: u32) -> Result<(), Memory>
     requires some { 1 ≤ counter.cells }
     requires high { top_end < counter.cells → top_end < counter.top }
@@ -50,7 +50,7 @@ fn push_high(formula: &mut Formula, counter: CounterVars, top_end: u32) -> Resul
     formula.push(&[counter.at_least(counter.cells - 1, top_end).negated()])
 }
 
-/// Pushes the counter of a bound's cells, and that its count is within the ends.
+// Pushes the counter of a bound's cells, and that its count is within the ends.
 fn push_bound(
     alloc: Global,
     formula: &mut Formula,

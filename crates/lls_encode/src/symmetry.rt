@@ -15,7 +15,7 @@ use lls_grid::History;
 use lls_problem::Problem;
 use lls_symmetry::{generators, image};
 
-/// The clauses of a row's cells, of a generation's, of a generator's and of all: no symmetry has more than two.
+// The clauses of a row's cells, of a generation's, of a generator's and of all: no symmetry has more than two.
 const MOST_CLAUSES_ROW: usize = 2 * History::MOST_WIDTH as usize;
 
 const MOST_CLAUSES_GENERATION: usize = History::MOST_HEIGHT as usize * MOST_CLAUSES_ROW;
@@ -24,7 +24,7 @@ const MOST_CLAUSES_GENERATOR: usize = History::MOST_GENERATIONS as usize * MOST_
 
 pub const MOST_CLAUSES_SYMMETRY: usize = 2 * MOST_CLAUSES_GENERATOR;
 
-/// Pushes that a cell and its image under the kth generator are equal, where they are two cells.
+// Pushes that a cell and its image under the kth generator are equal, where they are two cells.
 fn push_cell(
     formula: &mut Formula,
     problem: &Problem,
@@ -53,7 +53,7 @@ fn push_cell(
     push_same_places(formula, &cell, &image)
 }
 
-/// Pushes that the cells of a row and their images are equal.
+// Pushes that the cells of a row and their images are equal.
 fn push_row(formula: &mut Formula, problem: &Problem, k: u32, t: u32, y: u32) -> Result<(), Memory>
     requires generator { k < length (generators_of problem.now.demands.symmetry) }
     requires generation { t < problem.now.posed.generations }
@@ -69,7 +69,7 @@ fn push_row(formula: &mut Formula, problem: &Problem, k: u32, t: u32, y: u32) ->
     Ok(())
 }
 
-/// Pushes that the cells of generation t and their images are equal.
+// Pushes that the cells of generation t and their images are equal.
 fn push_generation(formula: &mut Formula, problem: &Problem, k: u32, t: u32) -> Result<(), Memory>
     requires generator { k < length (generators_of problem.now.demands.symmetry) }
     requires generation { t < problem.now.posed.generations }
@@ -84,7 +84,7 @@ fn push_generation(formula: &mut Formula, problem: &Problem, k: u32, t: u32) -> 
     Ok(())
 }
 
-/// Pushes that all cells and their images under the kth generator are equal.
+// Pushes that all cells and their images under the kth generator are equal.
 fn push_generator(formula: &mut Formula, problem: &Problem, k: u32) -> Result<(), Memory>
     requires generator { k < length (generators_of problem.now.demands.symmetry) }
     requires vars { formula.old.vars ≡ length problem.now.posed.cells }

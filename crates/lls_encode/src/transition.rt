@@ -16,17 +16,17 @@ use lls_rule::Rule;
 use lls_transition::{INPUTS, MOST_CLAUSES_EACH, Place, push_cubes, push_cubes_once, table_of};
 use std::alloc::Global;
 
-/// A line has at most 64 cells and one cell of the ring at each end.
+// A line has at most 64 cells and one cell of the ring at each end.
 const MOST_LINE: usize = 66;
 
-/// The clauses of a line's transitions, of a generation's and of all.
+// The clauses of a line's transitions, of a generation's and of all.
 const MOST_CLAUSES_LINE: usize = MOST_LINE * MOST_CLAUSES_EACH;
 
 const MOST_CLAUSES_GENERATION: usize = MOST_LINE * MOST_CLAUSES_LINE;
 
 const MOST_CLAUSES_ALL: usize = (History::MOST_GENERATIONS as usize - 1) * MOST_CLAUSES_GENERATION;
 
-/// The cubes of a rule's transitions. The transition into each place takes the same.
+// The cubes of a rule's transitions. The transition into each place takes the same.
 fn cubes_of(alloc: Global, form: Form, rule: &Rule) -> Result<Vec<Cube>, Memory>
     ensures cubes { IfOk result (λ cubes. cubes.items ≡ cubes_of form rule.now) }
     ensures few { IfOk result (λ cubes. length cubes.items ≤ MOST_CLAUSES_EACH) }
@@ -38,7 +38,7 @@ fn cubes_of(alloc: Global, form: Form, rule: &Rule) -> Result<Vec<Cube>, Memory>
     }
 }
 
-/// Pushes the clauses of cubes with these inputs.
+// Pushes the clauses of cubes with these inputs.
 fn push_clauses_at(
     formula: &mut Formula,
     form: Form,
@@ -55,8 +55,8 @@ fn push_clauses_at(
     }
 }
 
-/// Pushes the transition into a place of generation t + 1, unless a mark frees it. The line and the column count from
-/// the ones before the grid.
+// Pushes the transition into a place of generation t + 1, unless a mark frees it. The line and the column count from
+// the ones before the grid.
 fn push_place(
     formula: &mut Formula,
     form: Form,
@@ -84,7 +84,7 @@ fn push_place(
     Ok(())
 }
 
-/// The first framed row or column, counted from the one before the grid.
+// The first framed row or column, counted from the one before the grid.
 fn first_framed(edge: Edge) -> u32
     ensures value { result ≡ first_framed edge }
     ensures small { result ≤ 1 }
@@ -95,7 +95,7 @@ fn first_framed(edge: Edge) -> u32
     }
 }
 
-/// How many rows or columns are framed where the grid has `size`.
+// How many rows or columns are framed where the grid has `size`.
 fn framed_count(edge: Edge, size: u32) -> u32
     requires { size ≤ History.MOST_WIDTH }
     ensures value { result ≡ framed_count edge size }
@@ -107,7 +107,7 @@ fn framed_count(edge: Edge, size: u32) -> u32
     }
 }
 
-/// Pushes the transitions into a line of generation t + 1, which counts from the one before the grid.
+// Pushes the transitions into a line of generation t + 1, which counts from the one before the grid.
 fn push_line(
     formula: &mut Formula,
     form: Form,
@@ -131,7 +131,7 @@ fn push_line(
     Ok(())
 }
 
-/// Pushes the transitions into generation t + 1.
+// Pushes the transitions into generation t + 1.
 fn push_generation(
     formula: &mut Formula,
     form: Form,

@@ -23,7 +23,7 @@ fn lines_end_with_a_line_feed(rt: HostRuntime) -> Result<(), Fail> {
     Ok(())
 }
 
-/// A line, and its words with their columns.
+// A line, and its words with their columns.
 type PlacedRow = (&'static [u8], &'static [(u64, &'static [u8])]);
 
 #[test]

@@ -5,28 +5,28 @@ ghost use Rattle.lls_gen.specs.Drawing.{is_live, is_unknown, known, drawn, plain
 use lls_search_file::{Cell, Kind};
 use std::alloc::{AllocError, Global};
 
-/// Whether the cell of a number is live: by the highest bit.
+// Whether the cell of a number is live: by the highest bit.
 fn is_live(number: u64) -> bool
     ensures { result ≡ is_live number }
 {
     number >> 63 == 1
 }
 
-/// Whether the cell of a number is unknown, as one of eight is: by the three bits below the highest.
+// Whether the cell of a number is unknown, as one of eight is: by the three bits below the highest.
 fn is_unknown(number: u64) -> bool
     ensures { result ≡ is_unknown number }
 {
     number >> 60 & 7 == 0
 }
 
-/// What a file says of a cell whose value it fixes.
+// What a file says of a cell whose value it fixes.
 fn known(live: bool) -> Kind
     ensures { result ≡ known live }
 {
     if live { Kind::Live } else { Kind::Dead }
 }
 
-/// What a file says of the cell of a number.
+// What a file says of the cell of a number.
 fn drawn(number: u64) -> Kind
     ensures { result ≡ drawn number }
 {
@@ -37,7 +37,7 @@ fn drawn(number: u64) -> Kind
     }
 }
 
-/// A cell without a mark.
+// A cell without a mark.
 fn plain(kind: Kind) -> Cell
     ensures { result ≡ plain kind }
 {

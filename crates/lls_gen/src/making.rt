@@ -17,7 +17,7 @@ use std::alloc::Global;
 /// The greatest size that can be made.
 pub const MOST_SIZE: u32 = 64;
 
-/// The generations of what is made.
+// The generations of what is made.
 const GENERATIONS: u32 = 2;
 
 /// A problem, and a history that is a solution of it.
@@ -49,7 +49,7 @@ pub fn make(alloc: Global, seed: u64, size: u32) -> Result<Made, Memory>
     Ok(Made { problem, history })
 }
 
-/// One generation of the cells of numbers.
+// One generation of the cells of numbers.
 fn first_generation(alloc: Global, numbers: &[u64], size: u32) -> Result<History, Memory>
     requires size { (1 ≤ size) × (size ≤ MOST_SIZE) }
     requires count { length numbers.now ≡ size * size }
@@ -63,7 +63,7 @@ fn first_generation(alloc: Global, numbers: &[u64], size: u32) -> Result<History
     Ok(History::from_cells(sizes, lives(alloc, numbers)?))
 }
 
-/// The file that says of generation 0 what numbers say, and fixes the cells of generation 1.
+// The file that says of generation 0 what numbers say, and fixes the cells of generation 1.
 fn posed(alloc: Global, numbers: &[u64], next: &[bool], size: u32) -> Result<Posed, Memory>
     requires size { (1 ≤ size) × (size ≤ MOST_SIZE) }
     requires count { length numbers.now ≡ size * size }

@@ -5,14 +5,14 @@ ghost use Rattle.lls_gen.specs.Numbers.{after, numbers};
 use lls_base::Memory;
 use std::alloc::Global;
 
-/// What a number is multiplied by. This and the increment are those of D. E. Knuth's computer MMIX, for a linear
-/// congruential generator of 64 bits.
+// What a number is multiplied by. This and the increment are those of D. E. Knuth's computer MMIX, for a linear
+// congruential generator of 64 bits.
 const MULTIPLIER: u64 = 6_364_136_223_846_793_005;
 
-/// What is added then.
+// What is added then.
 const INCREMENT: u64 = 1_442_695_040_888_963_407;
 
-/// The number that comes after another.
+// The number that comes after another.
 fn after(number: u64) -> u64
     ensures { result ≡ after number }
 {

@@ -170,7 +170,7 @@ impl History {
         Ok(history)
     }
 
-    /// A history of so many generations that begins with generation 0 of another; the later ones are still to be written.
+    // A history of so many generations that begins with generation 0 of another; the later ones are still to be written.
     fn begin(alloc: Global, first: &History, generations: u32) -> Result<History, Memory>
         requires generations { (1 ≤ generations) × (generations ≤ Self.MOST_GENERATIONS) }
         requires most { width_of first.now * (height_of first.now * generations) ≤ Self.MOST_CELLS }
@@ -200,7 +200,7 @@ impl History {
         }
     }
 
-    /// Steps one row.
+    // Steps one row.
     fn step_row(&mut self, rule: &Rule, t: u32, y: u32)
         requires generation { t + 1 < length self.old }
         requires row { y < height_of self.old }
@@ -212,7 +212,7 @@ impl History {
         }
     }
 
-    /// The cell at a place, None outside the grid.
+    // The cell at a place, None outside the grid.
     fn cell(&self, t: u32, y: i32, x: i32) -> Option<bool>
         requires { t < length self.now }
         ensures { result ≡ place_cell self.now t y x }
@@ -241,7 +241,7 @@ impl History {
         64 * above + 8 * here + below
     }
 
-    /// The number of a place and its neighbours to the left and to the right.
+    // The number of a place and its neighbours to the left and to the right.
     fn three(&self, rule: &Rule, t: u32, y: i32, x: i32) -> u16
         requires generation { t < length self.now }
         requires row { IsWithin Self.FARTHEST y }
@@ -256,7 +256,7 @@ impl History {
     }
 }
 
-/// That many cells, of which the first are these and the others are dead.
+// That many cells, of which the first are these and the others are dead.
 fn begun(alloc: Global, first: &[bool], count: u32) -> Result<Vec<bool>, Memory>
     requires { length first.now ≤ count }
     ensures count { IfOk result (λ cells. length cells.items ≡ count) }
@@ -270,7 +270,7 @@ fn begun(alloc: Global, first: &[bool], count: u32) -> Result<Vec<bool>, Memory>
     Ok(cells)
 }
 
-/// That many cells from a place on.
+// That many cells from a place on.
 fn part(cells: &[bool], first: usize, count: usize) -> &[bool]
     requires { first + count ≤ length cells.now }
     ensures { result.now ≡ take count (drop first cells.now) }
@@ -278,7 +278,7 @@ fn part(cells: &[bool], first: usize, count: usize) -> &[bool]
     &cells[first..first + count]
 }
 
-/// What a cell adds to a number in the place of weight 1.
+// What a cell adds to a number in the place of weight 1.
 fn weight(live: bool) -> u16
     ensures weight { result ≡ (if live then 1 else 0) }
     ensures small { result ≤ 1 }

@@ -27,7 +27,7 @@ pub fn print_history(alloc: Global, history: &History) -> Result<Vec<u8>, Memory
     Ok(text)
 }
 
-/// Puts rows behind a text.
+// Puts rows behind a text.
 fn push_rows(cells: &[bool], height: u32, width: u32, text: &mut Vec<u8>) -> Result<(), Memory>
     requires { length cells.now ≡ width * height }
     ensures { OnOk result (text.new.items ≡ text.old.items ++ rows_text (map (map digit_word) (chunked width height cells.now))) }
@@ -41,7 +41,7 @@ fn push_rows(cells: &[bool], height: u32, width: u32, text: &mut Vec<u8>) -> Res
     Ok(())
 }
 
-/// Puts a row behind a text.
+// Puts a row behind a text.
 fn push_row(row: &[bool], text: &mut Vec<u8>) -> Result<(), Memory>
     ensures { OnOk result (text.new.items ≡ text.old.items ++ row_text (map digit_word row.now)) }
 {
@@ -55,7 +55,7 @@ fn push_row(row: &[bool], text: &mut Vec<u8>) -> Result<(), Memory>
     Ok(())
 }
 
-/// `0` for a dead cell, `1` for a live one.
+// `0` for a dead cell, `1` for a live one.
 fn digit(live: bool) -> &'static [u8]
     ensures { result.now ≡ digit_word live }
 {

@@ -48,7 +48,7 @@ pub fn class_of(eight: u8) -> Class
     Class { count, letter }
 }
 
-/// The letter of a count whose class has these neighbours, of which at most half are live.
+// The letter of a count whose class has these neighbours, of which at most half are live.
 #[tactic(auto, unfolding(crate::specs::Numbers::letter_by_number))]
 fn letter_of(count: u8, few: u8) -> Option<u8>
     requires { count ≤ Rule.NEIGHBOURS }
@@ -127,7 +127,7 @@ pub(crate) fn live_count(eight: u8) -> u8
     eight.count_ones() as u8
 }
 
-/// Whether turns and the mirror take the first eight neighbours to the second.
+// Whether turns and the mirror take the first eight neighbours to the second.
 #[tactic(auto, unfolding(crate::specs::Numbers::images_by_number))]
 fn are_images(first: u8, second: u8) -> bool
     ensures { result ≡ images_by_number first second }
@@ -140,7 +140,7 @@ fn are_images(first: u8, second: u8) -> bool
         .any(|turned| *turned == second || mirror(*turned) == second)
 }
 
-/// The eight neighbours after a quarter turn.
+// The eight neighbours after a quarter turn.
 fn quarter_turn(eight: u8) -> u8
     ensures { result ≡ turned eight }
 {
@@ -152,7 +152,7 @@ fn quarter_turn(eight: u8) -> u8
         | (eight & 0b0010_0000) >> 5
 }
 
-/// The eight neighbours in the mirror.
+// The eight neighbours in the mirror.
 fn mirror(eight: u8) -> u8
     ensures { result ≡ mirrored eight }
 {

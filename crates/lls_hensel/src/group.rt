@@ -26,7 +26,7 @@ impl Group<'_> {
         1 + usize::from(self.minus) + self.letters.len()
     }
 
-    /// Whether the group stands for one of its digit's letters.
+    // Whether the group stands for one of its digit's letters.
     fn stands_for(&self, letter: Option<u8>) -> bool
         ensures { result ≡ stands_for (seen_group self.now) letter }
     {
@@ -39,7 +39,7 @@ impl Group<'_> {
         }
     }
 
-    /// Whether the group says that the centre of a neighbourhood lives on.
+    // Whether the group says that the centre of a neighbourhood lives on.
     fn tells(&self, survival: bool, nine: u16) -> bool
         requires { nine < Rule.NEIGHBOURHOODS }
         ensures { result ≡ next_of (entries_of_group survival (seen_group self.now)) nine }

@@ -7,10 +7,10 @@ use lls_rule::Rule;
 /// The weight of the centre in a neighbourhood's number.
 pub(crate) const CENTRE: u16 = 0b0_0001_0000;
 
-/// Of the eight neighbours, those that stand before the centre.
+// Of the eight neighbours, those that stand before the centre.
 const ABOVE: u8 = 0b1111_0000;
 
-/// Of the eight neighbours, those that stand behind the centre.
+// Of the eight neighbours, those that stand behind the centre.
 const BELOW: u8 = 0b0000_1111;
 
 /// The eight neighbours in a neighbourhood's number.

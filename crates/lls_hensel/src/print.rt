@@ -67,7 +67,7 @@ pub fn print_rule(alloc: Global, rule: &Rule) -> Result<Vec<u8>, PrintRuleError>
     Ok(text_of(alloc, rule)?)
 }
 
-/// The canonical text of a rule by its classes' representatives.
+// The canonical text of a rule by its classes' representatives.
 fn text_of(alloc: Global, rule: &Rule) -> Result<Vec<u8>, Memory>
     ensures { IfOk result (λ text. text.items ≡ rule_text rule.now) }
 {
@@ -79,7 +79,7 @@ fn text_of(alloc: Global, rule: &Rule) -> Result<Vec<u8>, Memory>
     Ok(text)
 }
 
-/// Adds the text of a side.
+// Adds the text of a side.
 fn push_side(text: &mut Vec<u8>, rule: &Rule, survival: bool) -> Result<(), Memory>
     ensures { OnOk result (text.new.items ≡ text.old.items ++ side_text rule.now survival) }
 {
@@ -89,7 +89,7 @@ fn push_side(text: &mut Vec<u8>, rule: &Rule, survival: bool) -> Result<(), Memo
     Ok(())
 }
 
-/// Adds the text of a count on a side.
+// Adds the text of a count on a side.
 fn push_group(text: &mut Vec<u8>, rule: &Rule, survival: bool, count: u8) -> Result<(), Memory>
     requires { count ≤ Rule.NEIGHBOURS }
     ensures { OnOk result (text.new.items ≡ text.old.items ++ group_text rule.now survival count) }
@@ -110,7 +110,7 @@ fn push_group(text: &mut Vec<u8>, rule: &Rule, survival: bool, count: u8) -> Res
     push_letters(text, rule, survival, count, false)
 }
 
-/// Adds the letters of a count at whose classes a side has this answer.
+// Adds the letters of a count at whose classes a side has this answer.
 fn push_letters(
     text: &mut Vec<u8>,
     rule: &Rule,
@@ -127,7 +127,7 @@ fn push_letters(
     Ok(())
 }
 
-/// Adds the letter of a class, if it has one, where a side has this answer.
+// Adds the letter of a class, if it has one, where a side has this answer.
 #[tactic(auto, unfolding(crate::specs::Numbers::letter_text))]
 fn push_letter(
     text: &mut Vec<u8>,
@@ -149,7 +149,7 @@ fn push_letter(
 }
 
 #[tactic(auto, unfolding(crate::specs::Numbers::classes_by_number))]
-/// How many classes of a count have this answer on a side.
+// How many classes of a count have this answer on a side.
 fn classes_at(rule: &Rule, survival: bool, count: u8, live: bool) -> usize
     requires { count ≤ Rule.NEIGHBOURS }
     ensures { result ≡ length (classes_by_number rule.now survival count live) }
@@ -161,14 +161,14 @@ fn classes_at(rule: &Rule, survival: bool, count: u8, live: bool) -> usize
 }
 
 #[tactic(auto, unfolding(crate::specs::Numbers::holds_by_number))]
-/// The answer of a side at a class of a count.
+// The answer of a side at a class of a count.
 fn holds_at(rule: &Rule, survival: bool, count: u8, representative: Representative) -> bool
     ensures { result ≡ holds_by_number rule.now survival count representative }
 {
     rule.next(with_centre(live_of(count, representative.eight), survival))
 }
 
-/// The neighbours of a class of a count, by its representative's with at most half live.
+// The neighbours of a class of a count, by its representative's with at most half live.
 #[tactic(auto, unfolding(crate::specs::Numbers::live_number))]
 fn live_of(count: u8, eight: u8) -> u8
     ensures { result ≡ live_number count eight }
@@ -176,7 +176,7 @@ fn live_of(count: u8, eight: u8) -> u8
     if count > HALF { flipped(eight) } else { eight }
 }
 
-/// The least neighbourhood whose answer differs from that of its class's representative.
+// The least neighbourhood whose answer differs from that of its class's representative.
 fn first_uneven(rule: &Rule) -> Option<u16>
     ensures least { result ≡ uneven rule.now }
     ensures whole { length rule.now ≡ Rule.NEIGHBOURHOODS }
@@ -189,7 +189,7 @@ fn first_uneven(rule: &Rule) -> Option<u16>
     None
 }
 
-/// The neighbourhood with the same centre that stands for the class of another.
+// The neighbourhood with the same centre that stands for the class of another.
 fn representative_nine(nine: u16) -> u16
     requires { nine < Rule.NEIGHBOURHOODS }
     ensures number { result ≡ representative_nine nine }

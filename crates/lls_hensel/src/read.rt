@@ -79,7 +79,7 @@ impl fmt::Display for RuleError {
 
 impl Error for RuleError {}
 
-/// The bytes of one side of a rule text, and the column at which they begin.
+// The bytes of one side of a rule text, and the column at which they begin.
 #[derive(Clone, Copy)]
 struct Side<'t> {
     column: u64,
@@ -100,7 +100,7 @@ pub fn read_rule(text: &[u8]) -> Result<Rule, RuleError>
     }
 }
 
-/// Reads what stands behind the `B` of the form with the birth side first.
+// Reads what stands behind the `B` of the form with the birth side first.
 fn read_birth_first(bytes: &[u8]) -> Result<Rule, RuleError>
     ensures { result ≡ and_then (birth_first bytes.now) (λ entries. Ok (table_of (next_of entries))) }
 {
@@ -113,7 +113,7 @@ fn read_birth_first(bytes: &[u8]) -> Result<Rule, RuleError>
     read_side(born, true, survival_after(2 + end as u64, &bytes[end..])?)
 }
 
-/// Reads the form with the survival side first.
+// Reads the form with the survival side first.
 fn read_survival_first(bytes: &[u8]) -> Result<Rule, RuleError>
     ensures { result ≡ and_then (survival_first bytes.now) (λ entries. Ok (table_of (next_of entries))) }
 {
@@ -130,28 +130,28 @@ fn read_survival_first(bytes: &[u8]) -> Result<Rule, RuleError>
     )
 }
 
-/// How many bytes the birth side has that stands first.
+// How many bytes the birth side has that stands first.
 fn birth_len(bytes: &[u8]) -> usize
     ensures { result ≡ length (side_before (λ byte. is_slash byte || is_survival_mark byte) bytes.now) }
 {
     bytes.iter().take_while(|byte| !ends_birth(**byte)).count()
 }
 
-/// How many bytes the survival side has that stands first.
+// How many bytes the survival side has that stands first.
 fn survival_len(bytes: &[u8]) -> usize
     ensures { result ≡ length (side_before is_slash bytes.now) }
 {
     bytes.iter().take_while(|byte| **byte != b'/').count()
 }
 
-/// Whether a byte ends a birth side that stands first.
+// Whether a byte ends a birth side that stands first.
 fn ends_birth(byte: u8) -> bool
     ensures { result ≡ (is_slash byte || is_survival_mark byte) }
 {
     matches!(byte, b'/' | b'S' | b's')
 }
 
-/// The survival side behind a birth side: a `/` may stand before its mark.
+// The survival side behind a birth side: a `/` may stand before its mark.
 fn survival_after(column: u64, bytes: &[u8]) -> Result<Side<'_>, RuleError>
     requires { column + length bytes.now < 2 ^ 64 }
     ensures { seen_side result ≡ survival_after column bytes.now }
@@ -162,7 +162,7 @@ fn survival_after(column: u64, bytes: &[u8]) -> Result<Side<'_>, RuleError>
     }
 }
 
-/// What stands behind the mark of the survival side.
+// What stands behind the mark of the survival side.
 fn after_mark(column: u64, bytes: &[u8]) -> Result<Side<'_>, RuleError>
     requires { column + length bytes.now < 2 ^ 64 }
     ensures { seen_side result ≡ after_mark column bytes.now }
@@ -176,7 +176,7 @@ fn after_mark(column: u64, bytes: &[u8]) -> Result<Side<'_>, RuleError>
     }
 }
 
-/// The birth side behind a survival side.
+// The birth side behind a survival side.
 fn birth_after(column: u64, bytes: &[u8]) -> Result<Side<'_>, RuleError>
     requires { column + length bytes.now < 2 ^ 64 }
     ensures { seen_side result ≡ birth_after column bytes.now }
@@ -190,7 +190,7 @@ fn birth_after(column: u64, bytes: &[u8]) -> Result<Side<'_>, RuleError>
     }
 }
 
-/// The rule with what the groups of a side say beside it.
+// The rule with what the groups of a side say beside it.
 fn read_side(rule: Rule, survival: bool, side: Side) -> Result<Rule, RuleError>
     requires whole { length rule ≡ Rule.NEIGHBOURHOODS }
     requires column_in { side.column + length side.bytes.now < 2 ^ 64 }
@@ -205,7 +205,7 @@ fn read_side(rule: Rule, survival: bool, side: Side) -> Result<Rule, RuleError>
     read_groups(rule, survival, side)
 }
 
-/// The rule with what the groups of a side say beside it, where the side begins with a digit.
+// The rule with what the groups of a side say beside it, where the side begins with a digit.
 fn read_groups(rule: Rule, survival: bool, side: Side) -> Result<Rule, RuleError>
     requires whole { length rule ≡ Rule.NEIGHBOURHOODS }
     requires digit { before_digit side.bytes.now ≡ [] }
@@ -222,7 +222,7 @@ fn read_groups(rule: Rule, survival: bool, side: Side) -> Result<Rule, RuleError
     Ok(both)
 }
 
-/// The group whose digit stands at a place of a side.
+// The group whose digit stands at a place of a side.
 fn read_group(side: Side<'_>, at: usize) -> Result<Group<'_>, RuleError>
     requires at_in { at < length side.bytes.now }
     requires digit { IsTrue (is_count (slice_index side.bytes.now at)) }
@@ -238,7 +238,7 @@ fn read_group(side: Side<'_>, at: usize) -> Result<Group<'_>, RuleError>
     read_tail(column + 1, digit - b'0', &behind[..digitless_len(behind)])
 }
 
-/// The group of a count by what stands behind its digit.
+// The group of a count by what stands behind its digit.
 fn read_tail(column: u64, count: u8, tail: &[u8]) -> Result<Group<'_>, RuleError>
     requires count_in { count ≤ Rule.NEIGHBOURS }
     requires column_in { column + length tail.now < 2 ^ 64 }
@@ -258,7 +258,7 @@ fn read_tail(column: u64, count: u8, tail: &[u8]) -> Result<Group<'_>, RuleError
     }
 }
 
-/// The group of a count with the letters that stand in it, from a column on.
+// The group of a count with the letters that stand in it, from a column on.
 fn listed(column: u64, count: u8, minus: bool, letters: &[u8]) -> Result<Group<'_>, RuleError>
     requires count_in { count ≤ Rule.NEIGHBOURS }
     requires column_in { column + length letters.now < 2 ^ 64 }
@@ -272,7 +272,7 @@ fn listed(column: u64, count: u8, minus: bool, letters: &[u8]) -> Result<Group<'
     })
 }
 
-/// Refuses letters that aren't those of a count, each once.
+// Refuses letters that aren't those of a count, each once.
 fn check_letters(column: u64, count: u8, letters: &[u8]) -> Result<(), RuleError>
     requires count_in { count ≤ Rule.NEIGHBOURS }
     requires column_in { column + length letters.now < 2 ^ 64 }
@@ -293,7 +293,7 @@ fn check_letters(column: u64, count: u8, letters: &[u8]) -> Result<(), RuleError
     Ok(())
 }
 
-/// The fault of a byte that stands before the first digit of a side.
+// The fault of a byte that stands before the first digit of a side.
 fn misplaced(byte: u8, column: u64) -> RuleError
     ensures { result ≡ misplaced byte column }
 {
@@ -304,14 +304,14 @@ fn misplaced(byte: u8, column: u64) -> RuleError
     }
 }
 
-/// How many bytes stand before the first digit.
+// How many bytes stand before the first digit.
 fn digitless_len(bytes: &[u8]) -> usize
     ensures { result ≡ length (take_while (λ byte. not (is_count byte)) bytes.now) }
 {
     bytes.iter().take_while(|byte| !is_count(**byte)).count()
 }
 
-/// Whether a byte is a digit `0` to `8`.
+// Whether a byte is a digit `0` to `8`.
 fn is_count(byte: u8) -> bool
     ensures { result ≡ is_count byte }
 {

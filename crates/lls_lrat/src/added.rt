@@ -14,10 +14,10 @@ use lls_lit::Lit;
 use std::alloc::Global;
 use std::marker::Model;
 
-/// How many more than half of all literals in the buffer may be dead.
+// How many more than half of all literals in the buffer may be dead.
 const SPARE_LITERALS: usize = 2048;
 
-/// How many more than half of all stored clauses may be dead.
+// How many more than half of all stored clauses may be dead.
 const SPARE_CLAUSES: usize = 128;
 
 /// Clauses with ids, in the order in which they were put in.

@@ -43,7 +43,7 @@ impl fmt::Display for CheckError {
     }
 }
 
-/// A line's fault, which tells the line before its own column.
+// A line's fault, which tells the line before its own column.
 #[derive(Clone, Copy)]
 struct LineAtFault(u64, LineFault);
 
@@ -63,7 +63,7 @@ impl fmt::Display for LineAtFault {
     }
 }
 
-/// A step's fault, which tells the line before its own id or hint.
+// A step's fault, which tells the line before its own id or hint.
 #[derive(Clone, Copy)]
 struct StepAtFault(u64, StepFault);
 

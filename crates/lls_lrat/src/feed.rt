@@ -144,7 +144,7 @@ fn next_line(lines: &mut Lines, line: &mut Vec<u8>) -> Result<bool, Memory>
     lines.take(line)
 }
 
-/// A line without the CR at its end.
+// A line without the CR at its end.
 fn without_return(line: &[u8]) -> &[u8]
     ensures { result.now ≡ strip_carriage_return line.now }
 {

@@ -7,7 +7,7 @@ use lls_base::Memory;
 use std::alloc::Global;
 use std::collections::HashMap;
 
-/// How many entries the table may have for each place, beside a few to spare.
+// How many entries the table may have for each place, beside a few to spare.
 const ENTRIES_PER_PLACE: usize = 8;
 
 const SPARE_ENTRIES: usize = 1024;

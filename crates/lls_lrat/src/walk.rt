@@ -14,7 +14,7 @@ use crate::live::LiveClauses;
 use lls_lit::{Lit, Marks};
 use lls_prooflog::{HintsRef, StepFault};
 
-/// The different literals of a clause that aren't marked.
+// The different literals of a clause that aren't marked.
 #[derive(Clone, Copy, Debug)]
 enum Left {
     Nothing,

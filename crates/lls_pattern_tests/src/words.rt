@@ -6,7 +6,7 @@ use lls_words::{Job, WordsError, read_job};
 use std::alloc::{AllocError, Global};
 use std::test::Fail;
 
-/// The words of a command line, separated by single blanks.
+// The words of a command line, separated by single blanks.
 fn words_of(alloc: Global, text: &str) -> Result<Vec<String>, AllocError> {
     let mut words = Vec::new(alloc);
     for word in text.split(' ') {
@@ -15,13 +15,13 @@ fn words_of(alloc: Global, text: &str) -> Result<Vec<String>, AllocError> {
     Ok(words)
 }
 
-/// The job of a command line.
+// The job of a command line.
 fn job_of(alloc: Global, line: &str) -> Result<Job, Fail> {
     let words = words_of(alloc, line)?;
     Ok(read_job(alloc, &words)?)
 }
 
-/// The text of the fault of a command line.
+// The text of the fault of a command line.
 fn fault_of(alloc: Global, line: &str) -> Result<String, Fail> {
     let words = words_of(alloc, line)?;
     match read_job(alloc, &words) {
@@ -30,7 +30,7 @@ fn fault_of(alloc: Global, line: &str) -> Result<String, Fail> {
     }
 }
 
-/// Command lines, and the fault of each.
+// Command lines, and the fault of each.
 const FAULTS: &str = "\
 guess f p > UnknownCommand
 --help > UnknownCommand
@@ -140,11 +140,11 @@ fn faults_are_named_by_their_place(rt: HostRuntime) -> Result<(), Fail> {
     Ok(())
 }
 
-/// Options, each with a value that it may have.
+// Options, each with a value that it may have.
 const OPTIONS: &str = "\
 formula=1 rule=B3/S23 edge=open symmetry=C2 period=2 live=0:1- differ=0,1 as=rle budget=7 keep=all best=1";
 
-/// Whether a command line takes an option that stands behind it, which is the only fault that it may have.
+// Whether a command line takes an option that stands behind it, which is the only fault that it may have.
 fn takes(alloc: Global, line: &str, option: &str) -> Result<bool, Fail> {
     let line = format!(in alloc; "{line} --{option}")?;
     let words = words_of(alloc, &line)?;
@@ -161,7 +161,7 @@ fn takes(alloc: Global, line: &str, option: &str) -> Result<bool, Fail> {
     }
 }
 
-/// What the options are called that a command line takes, each with a blank behind it.
+// What the options are called that a command line takes, each with a blank behind it.
 fn options_of(alloc: Global, line: &str) -> Result<String, Fail> {
     let mut names = String::new(alloc);
     for option in OPTIONS.split(' ') {
@@ -225,7 +225,7 @@ fn options_and_operands_stand_in_any_order(rt: HostRuntime) -> Result<(), Fail> 
     Ok(())
 }
 
-/// What a job to make a problem says, with blanks between.
+// What a job to make a problem says, with blanks between.
 fn made_by(alloc: Global, job: Job) -> Result<String, Fail> {
     let Job::Make {
         seed,
@@ -271,7 +271,7 @@ fn numbers_and_names_of_what_is_made(rt: HostRuntime) -> Result<(), Fail> {
     Ok(())
 }
 
-/// What a job says beside its names: its budget, whether all is kept, and whether patterns are RLE.
+// What a job says beside its names: its budget, whether all is kept, and whether patterns are RLE.
 fn choices_of(job: Job) -> (Option<u32>, bool, bool) {
     match job {
         Job::Search {
@@ -312,7 +312,7 @@ fn choices_of_a_search(rt: HostRuntime) -> Result<(), Fail> {
     Ok(())
 }
 
-/// The form of a job's formula, where it has one.
+// The form of a job's formula, where it has one.
 fn form_of(job: Job) -> Option<Form> {
     match job {
         Job::Check { form, .. } => Some(form),
@@ -345,7 +345,7 @@ fn forms_of_formulas(rt: HostRuntime) -> Result<(), Fail> {
     Ok(())
 }
 
-/// The rule and the demands of a job that has some.
+// The rule and the demands of a job that has some.
 fn problem_of(job: Job) -> Result<(Rule, Demands), Fail> {
     match job {
         Job::Check { rule, demands, .. } => Ok((rule, demands)),
@@ -390,7 +390,7 @@ fn demands_of_a_problem(rt: HostRuntime) -> Result<(), Fail> {
     Ok(())
 }
 
-/// Whether a rule answers as `B3/S23` around a dead centre and a live one, each with one neighbour fewer and one more too.
+// Whether a rule answers as `B3/S23` around a dead centre and a live one, each with one neighbour fewer and one more too.
 fn counts_as_life(rule: &Rule) -> bool {
     let dead = !rule.next(0b000_000_011) && rule.next(0b001_001_001) && !rule.next(0b101_000_101);
     let live = !rule.next(0b000_010_001)

@@ -10,7 +10,7 @@ use crate::Problem;
 use lls_grid::{GridPlace, History};
 use lls_search_file::{Cell, Kind};
 
-/// The kth cell of a history in the order generation, row, column.
+// The kth cell of a history in the order generation, row, column.
 fn value_of(problem: &Problem, history: &History, k: usize) -> bool
     requires sizes { HasItsSizes problem.now history.now }
     requires cell { k < length problem.now.posed.cells }
@@ -20,7 +20,7 @@ fn value_of(problem: &Problem, history: &History, k: usize) -> bool
     history.at(problem.rule(), place.t, place.y as i32, place.x as i32)
 }
 
-/// Whether a fixed cell has its bit.
+// Whether a fixed cell has its bit.
 fn has_its_bit(kind: Kind, live: bool) -> bool
     ensures { IsTrue result ↔ HasItsBit kind live }
 {
@@ -47,7 +47,7 @@ pub fn first_misfit(problem: &Problem, history: &History) -> Option<GridPlace>
     None
 }
 
-/// The first cell that has the name of the kth.
+// The first cell that has the name of the kth.
 fn first_of_name(cells: &[Cell], name: u32, k: usize) -> usize
     requires cell { k < length cells.now }
     requires named { name_of (cell_number cells.now k).kind ≡ Some name }
@@ -61,7 +61,7 @@ fn first_of_name(cells: &[Cell], name: u32, k: usize) -> usize
     k
 }
 
-/// The value of its name by a cell.
+// The value of its name by a cell.
 fn named_value(kind: Kind, live: bool) -> bool
     ensures { result ≡ named_value kind live }
 {
@@ -71,7 +71,7 @@ fn named_value(kind: Kind, live: bool) -> bool
     }
 }
 
-/// Whether the kth cell agrees with the first cell of its name, where it has a name.
+// Whether the kth cell agrees with the first cell of its name, where it has a name.
 fn agrees(problem: &Problem, history: &History, k: usize) -> bool
     requires sizes { HasItsSizes problem.now history.now }
     requires cell { k < length problem.now.posed.cells }

@@ -7,7 +7,7 @@ ghost use Rattle.lls_problem.specs.Differences.{AreAlikeAt, AreAlikeInRow, AreAl
 use crate::Problem;
 use lls_grid::History;
 
-/// Whether a cell isn't the same in two generations.
+// Whether a cell isn't the same in two generations.
 fn cell_differs(problem: &Problem, history: &History, s: u32, t: u32, y: u32, x: u32) -> bool
     requires sizes { HasItsSizes problem.now history.now }
     requires early { s < problem.now.posed.generations }
@@ -23,7 +23,7 @@ fn cell_differs(problem: &Problem, history: &History, s: u32, t: u32, y: u32, x:
     history.at(rule, s, row, column) != history.at(rule, t, row, column)
 }
 
-/// Whether some cell of a row isn't.
+// Whether some cell of a row isn't.
 fn row_differs(problem: &Problem, history: &History, s: u32, t: u32, y: u32) -> bool
     requires sizes { HasItsSizes problem.now history.now }
     requires early { s < problem.now.posed.generations }
@@ -39,7 +39,7 @@ fn row_differs(problem: &Problem, history: &History, s: u32, t: u32, y: u32) -> 
     false
 }
 
-/// Whether some cell of the grid isn't.
+// Whether some cell of the grid isn't.
 fn generations_differ(problem: &Problem, history: &History, s: u32, t: u32) -> bool
     requires sizes { HasItsSizes problem.now history.now }
     requires early { s < problem.now.posed.generations }

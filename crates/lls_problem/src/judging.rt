@@ -16,7 +16,7 @@ use crate::{Judgement, Problem};
 use lls_grid::History;
 use lls_search_file::Posed;
 
-/// Whether the history has the sizes of the file.
+// Whether the history has the sizes of the file.
 fn has_its_sizes(posed: &Posed, history: &History) -> bool
     ensures { IsTrue result ↔ HasSizes posed.now.generations posed.now.height posed.now.width history.now }
 {

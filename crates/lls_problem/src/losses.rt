@@ -33,7 +33,7 @@ impl Loss {
     }
 }
 
-/// Whether the two places of a pair have different values.
+// Whether the two places of a pair have different values.
 fn is_lost(problem: &Problem, history: &History, pair: Moved) -> bool
     requires sizes { HasItsSizes problem.now history.now }
     requires early { IsOnBoard problem.now pair.early }
@@ -45,7 +45,7 @@ fn is_lost(problem: &Problem, history: &History, pair: Moved) -> bool
     early != history.at(rule, pair.late.t, pair.late.y, pair.late.x)
 }
 
-/// The first cell of a row that isn't where the course takes it.
+// The first cell of a row that isn't where the course takes it.
 fn first_left_in_row(problem: &Problem, history: &History, course: Course, y: u32) -> Option<Spot>
     requires sizes { HasItsSizes problem.now history.now }
     requires course { IsCourse course }
@@ -62,7 +62,7 @@ fn first_left_in_row(problem: &Problem, history: &History, course: Course, y: u3
     None
 }
 
-/// The first cell of the grid that isn't.
+// The first cell of the grid that isn't.
 fn first_left(problem: &Problem, history: &History, course: Course) -> Option<Spot>
     requires sizes { HasItsSizes problem.now history.now }
     requires course { IsCourse course }
@@ -77,7 +77,7 @@ fn first_left(problem: &Problem, history: &History, course: Course) -> Option<Sp
     None
 }
 
-/// The place outside the grid from which a cell comes, where the two differ.
+// The place outside the grid from which a cell comes, where the two differ.
 fn lost_entry(problem: &Problem, history: &History, course: Course, y: u32, x: u32) -> Option<Spot>
     requires sizes { HasItsSizes problem.now history.now }
     requires course { IsCourse course }
@@ -98,7 +98,7 @@ fn lost_entry(problem: &Problem, history: &History, course: Course, y: u32, x: u
     }
 }
 
-/// The first such place of a row's cells.
+// The first such place of a row's cells.
 fn first_entered_in_row(
     problem: &Problem,
     history: &History,
@@ -119,7 +119,7 @@ fn first_entered_in_row(
     None
 }
 
-/// The first such place of all cells.
+// The first such place of all cells.
 fn first_entered(problem: &Problem, history: &History, course: Course) -> Option<Spot>
     requires sizes { HasItsSizes problem.now history.now }
     requires course { IsCourse course }
@@ -134,7 +134,7 @@ fn first_entered(problem: &Problem, history: &History, course: Course) -> Option
     None
 }
 
-/// The course of a period from generation t on.
+// The course of a period from generation t on.
 fn course_of(period: Period, t: u32) -> Course
     requires period { IsPeriod period }
     requires start { t < History.MOST_GENERATIONS }
@@ -149,7 +149,7 @@ fn course_of(period: Period, t: u32) -> Course
     }
 }
 
-/// The first loss of a generation.
+// The first loss of a generation.
 fn first_at(problem: &Problem, history: &History, period: Period, t: u32) -> Option<Loss>
     requires sizes { HasItsSizes problem.now history.now }
     requires period { IsPeriod period }
@@ -172,7 +172,7 @@ fn first_at(problem: &Problem, history: &History, period: Period, t: u32) -> Opt
     }
 }
 
-/// The first loss of a period.
+// The first loss of a period.
 fn first_of(problem: &Problem, history: &History, period: Period) -> Option<Loss>
     requires sizes { HasItsSizes problem.now history.now }
     requires period { IsPeriod period }

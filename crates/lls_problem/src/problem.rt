@@ -61,7 +61,7 @@ pub fn make_problem(posed: Posed, rule: Rule, demands: Demands) -> Result<Proble
     })
 }
 
-/// The first generation of a bound that isn't below that number.
+// The first generation of a bound that isn't below that number.
 fn missing_bound(generations: u32, bounds: &[Bound]) -> Option<u32>
     ensures { result ≡ find (nat_le generations) (map (λ bound. bound.generation) bounds.now) }
 {
@@ -71,7 +71,7 @@ fn missing_bound(generations: u32, bounds: &[Bound]) -> Option<u32>
         .find(|t| generations <= *t)
 }
 
-/// The first generation of two that have to differ that isn't below that number.
+// The first generation of two that have to differ that isn't below that number.
 fn missing_of_two(generations: u32, differ: Option<(u32, u32)>) -> Option<u32>
     ensures { result ≡ find (nat_le generations) (option_map_or (λ pair. pair.0 ∷ pair.1 ∷ []) differ []) }
 {
@@ -85,7 +85,7 @@ fn missing_of_two(generations: u32, differ: Option<(u32, u32)>) -> Option<u32>
     }
 }
 
-/// The first generation that the demands name and the file hasn't.
+// The first generation that the demands name and the file hasn't.
 fn missing_generation(posed: &Posed, demands: &Demands) -> Option<u32>
     ensures { result ≡ missing_generation posed.now demands.now }
 {
@@ -95,7 +95,7 @@ fn missing_generation(posed: &Posed, demands: &Demands) -> Option<u32>
     }
 }
 
-/// How many cells each generation has.
+// How many cells each generation has.
 fn grid_size(posed: &Posed) -> u32
     ensures size { result ≡ grid_size posed.now }
     ensures some { 1 ≤ result }
@@ -104,7 +104,7 @@ fn grid_size(posed: &Posed) -> u32
     posed.width * posed.height
 }
 
-/// The generation of the first bound that has nothing between its ends.
+// The generation of the first bound that has nothing between its ends.
 fn crossing(posed: &Posed, demands: &Demands) -> Option<u32>
     ensures { result ≡ crossing posed.now demands.now }
 {
@@ -117,7 +117,7 @@ fn crossing(posed: &Posed, demands: &Demands) -> Option<u32>
         .map(|bound| bound.generation)
 }
 
-/// How many variables the counters of all bounds have, where that is too many.
+// How many variables the counters of all bounds have, where that is too many.
 fn too_many(posed: &Posed, demands: &Demands) -> Option<u128>
     requires { All HasEnds demands.now.bounds }
     ensures { result ≡ too_many posed.now demands.now }
@@ -130,7 +130,7 @@ fn too_many(posed: &Posed, demands: &Demands) -> Option<u128>
     }
 }
 
-/// How many variables the counters of those bounds have.
+// How many variables the counters of those bounds have.
 fn counters(size: u32, bounds: &[Bound]) -> u128
     requires size { size ≤ History.MOST_CELLS }
     requires ends { All HasEnds bounds.now }
@@ -143,7 +143,7 @@ fn counters(size: u32, bounds: &[Bound]) -> u128
     count
 }
 
-/// The length of the period, where it isn't less than the number of generations.
+// The length of the period, where it isn't less than the number of generations.
 fn too_long(posed: &Posed, demands: &Demands) -> Option<u32>
     ensures { result ≡ too_long posed.now demands.now }
 {

@@ -7,7 +7,7 @@ ghost use Rattle.lls_problem.specs.Transitions.{side, KeepsRule, BreaksRule, Kee
 use crate::{Edge, Problem};
 use lls_grid::History;
 
-/// A place of a generation: a line and a column of the grid or of the ring round it, counted from those before the grid.
+// A place of a generation: a line and a column of the grid or of the ring round it, counted from those before the grid.
 #[derive(Clone, Copy)]
 struct RingPlace {
     line: u32,
@@ -22,7 +22,7 @@ pub struct Transition {
     pub x: i32,
 }
 
-/// Whether transitions into a place have to obey the rule. The line and the column count from those before the grid.
+// Whether transitions into a place have to obey the rule. The line and the column count from those before the grid.
 fn is_framed(edge: Edge, height: u32, width: u32, line: u32, column: u32) -> bool
     requires height { height ≤ History.MOST_HEIGHT }
     requires width { width ≤ History.MOST_WIDTH }
@@ -36,7 +36,7 @@ fn is_framed(edge: Edge, height: u32, width: u32, line: u32, column: u32) -> boo
     }
 }
 
-/// Whether the transition into a place of generation t obeys the rule, where it has to.
+// Whether the transition into a place of generation t obeys the rule, where it has to.
 fn keeps_rule(problem: &Problem, history: &History, t: u32, line: u32, column: u32) -> bool
     requires sizes { HasItsSizes problem.now history.now }
     requires later { 0 < t }
@@ -58,7 +58,7 @@ fn keeps_rule(problem: &Problem, history: &History, t: u32, line: u32, column: u
     history.at(rule, t, y, x) == rule.next(history.nine(rule, t - 1, y, x))
 }
 
-/// The first column of a line of generation t that breaks the rule.
+// The first column of a line of generation t that breaks the rule.
 fn first_in_line(problem: &Problem, history: &History, t: u32, line: u32) -> Option<u32>
     requires sizes { HasItsSizes problem.now history.now }
     requires later { 0 < t }
@@ -75,7 +75,7 @@ fn first_in_line(problem: &Problem, history: &History, t: u32, line: u32) -> Opt
     None
 }
 
-/// The first place of generation t that breaks the rule.
+// The first place of generation t that breaks the rule.
 fn first_in_generation(problem: &Problem, history: &History, t: u32) -> Option<RingPlace>
     requires sizes { HasItsSizes problem.now history.now }
     requires later { 0 < t }

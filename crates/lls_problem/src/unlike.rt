@@ -9,7 +9,7 @@ use crate::Problem;
 use lls_grid::{GridPlace, History};
 use lls_symmetry::{generators, image};
 
-/// Whether a cell differs from its image under the kth generator.
+// Whether a cell differs from its image under the kth generator.
 fn is_unlike(problem: &Problem, history: &History, k: u32, t: u32, y: u32, x: u32) -> bool
     requires sizes { HasItsSizes problem.now history.now }
     requires generator { k < length (generators_of problem.now.demands.symmetry) }
@@ -25,7 +25,7 @@ fn is_unlike(problem: &Problem, history: &History, k: u32, t: u32, y: u32, x: u3
     history.at(rule, t, to_y as i32, to_x as i32) != history.at(rule, t, y as i32, x as i32)
 }
 
-/// The first cell of a row that differs from its image under the kth generator.
+// The first cell of a row that differs from its image under the kth generator.
 fn first_in_row(problem: &Problem, history: &History, k: u32, t: u32, y: u32) -> Option<GridPlace>
     requires sizes { HasItsSizes problem.now history.now }
     requires generator { k < length (generators_of problem.now.demands.symmetry) }
@@ -41,7 +41,7 @@ fn first_in_row(problem: &Problem, history: &History, k: u32, t: u32, y: u32) ->
     None
 }
 
-/// The first such cell of a generation.
+// The first such cell of a generation.
 fn first_in_generation(problem: &Problem, history: &History, k: u32, t: u32) -> Option<GridPlace>
     requires sizes { HasItsSizes problem.now history.now }
     requires generator { k < length (generators_of problem.now.demands.symmetry) }
@@ -56,7 +56,7 @@ fn first_in_generation(problem: &Problem, history: &History, k: u32, t: u32) -> 
     None
 }
 
-/// The first such cell of all generations.
+// The first such cell of all generations.
 fn first_under(problem: &Problem, history: &History, k: u32) -> Option<GridPlace>
     requires sizes { HasItsSizes problem.now history.now }
     requires generator { k < length (generators_of problem.now.demands.symmetry) }

@@ -23,7 +23,7 @@ pub struct Addition<'l> {
     pub hints: HintsRef<'l>,
 }
 
-/// What a step is, and where its numbers stand.
+// What a step is, and where its numbers stand.
 #[derive(Clone, Copy, Debug, Drop)]
 enum Head {
     Add { id: u64, lits: Span, hints: Place },

@@ -5,10 +5,10 @@ ghost use Rattle.lls_prooflog.specs.Numeral.{word_value};
 
 use crate::fronts::begins_solid;
 
-/// Every number of so many digits is below 2^60.
+// Every number of so many digits is below 2^60.
 const MOST_SHORT: usize = 18;
 
-/// Digits that a text begins with.
+// Digits that a text begins with.
 #[derive(Clone, Copy, Debug)]
 struct Digits {
     count: usize,

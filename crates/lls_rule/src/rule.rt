@@ -5,16 +5,16 @@ ghost use Rattle.lls_rule.specs.Words.{bits_of_word};
 
 use std::marker::Model;
 
-/// The weight of the centre in a neighbourhood's number.
+// The weight of the centre in a neighbourhood's number.
 const CENTRE: u16 = 0b0_0001_0000;
 
-/// The weights of the eight cells round the centre.
+// The weights of the eight cells round the centre.
 const AROUND: u16 = 0b1_1110_1111;
 
-/// The words in which a rule keeps its answers.
+// The words in which a rule keeps its answers.
 const WORDS: usize = 8;
 
-/// The answers in a word.
+// The answers in a word.
 const WORD_BITS: u16 = 64;
 
 /// The rule of an automaton: for each of the 512 neighbourhoods, whether the centre lives in the next generation.
@@ -71,10 +71,10 @@ impl Rule {
     /// The neighbours of a cell.
     pub const NEIGHBOURS: u8 = 8;
 
-    /// The neighbourhood of nine dead cells.
+    // The neighbourhood of nine dead cells.
     const ALL_DEAD: u16 = 0;
 
-    /// The neighbourhood of nine live cells.
+    // The neighbourhood of nine live cells.
     const ALL_LIVE: u16 = Self::NEIGHBOURHOODS - 1;
 
     /// The rule by which every cell is dead in the next generation.
@@ -131,7 +131,7 @@ impl Rule {
     }
 }
 
-/// Whether a neighbourhood's centre lives on, by the counts at which cells are born and survive.
+// Whether a neighbourhood's centre lives on, by the counts at which cells are born and survive.
 fn lives(birth: u16, survive: u16, nine: u16) -> bool
     requires birth_in { birth < 2 ^ (Rule.NEIGHBOURS + 1) }
     requires survive_in { survive < 2 ^ (Rule.NEIGHBOURS + 1) }
@@ -143,7 +143,7 @@ fn lives(birth: u16, survive: u16, nine: u16) -> bool
     counts >> live & 1 == 1
 }
 
-/// Whether a bit of a word is set.
+// Whether a bit of a word is set.
 fn holds(word: u64, bit: u16) -> bool
     requires { bit < WORD_BITS }
     ensures { result ≡ has_bit word bit }
@@ -151,7 +151,7 @@ fn holds(word: u64, bit: u16) -> bool
     word >> bit & 1 == 1
 }
 
-/// The word with one bit made `live`.
+// The word with one bit made `live`.
 fn replaced(word: u64, bit: u16, live: bool) -> u64
     requires { bit < WORD_BITS }
     ensures { bits_of_word result ≡ slice_set (bits_of_word word) bit live }

@@ -18,14 +18,14 @@ use lls_store::{Store, Trail};
 use std::alloc::Global;
 use std::cmp::Reverse;
 
-/// So many learnt clauses are live at the least where the first deletion comes.
+// So many learnt clauses are live at the least where the first deletion comes.
 const LEAST_LEARNT: u64 = 64;
 
-/// So many more for each deletion before.
+// So many more for each deletion before.
 const MORE_EACH_TIME: u64 = 64;
 
-/// A learnt clause that may go. The least goes first: one of no use since the last deletion, then the longer one, then the
-/// older one.
+// A learnt clause that may go. The least goes first: one of no use since the last deletion, then the longer one, then the
+// older one.
 #[derive(Clone, Copy, Debug, PartialEq, Eq, PartialOrd, Ord)]
 struct Candidate {
     used: bool,

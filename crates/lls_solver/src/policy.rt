@@ -10,10 +10,10 @@ use lls_store::Trail;
 use std::alloc::Global;
 use std::marker::Model;
 
-/// So many learnt clauses are live at the least where the first half of them is forgotten.
+// So many learnt clauses are live at the least where the first half of them is forgotten.
 const FIRST_ROUND: u64 = 64;
 
-/// So many more at each round after that.
+// So many more at each round after that.
 const MORE_EACH_ROUND: u64 = 512;
 
 /// Seen as the number of variables, and the number of clauses of which it knows whether conflicts came by them.

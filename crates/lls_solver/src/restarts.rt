@@ -6,16 +6,16 @@ ghost use Rattle.lls_solver.specs.Restarts.{is_due};
 
 use crate::mean::Mean;
 
-/// A mean is of glue times 2^24, so that it has a fraction.
+// A mean is of glue times 2^24, so that it has a fraction.
 const FRACTION: u32 = 24;
 
-/// Clauses of more glue count as of so much.
+// Clauses of more glue count as of so much.
 const MOST_GLUE: usize = 1 << 24;
 
-/// How much the last of all clauses weighs at the least in the late mean: one part in so many.
+// How much the last of all clauses weighs at the least in the late mean: one part in so many.
 const LATE: u64 = 1 << 5;
 
-/// How much it weighs in the mean of the whole past.
+// How much it weighs in the mean of the whole past.
 const PAST: u64 = 1 << 16;
 
 /// How many conflicts come between two restarts at the least.

@@ -112,7 +112,7 @@ pub fn moved_pairs(
     Ok(moved)
 }
 
-/// Pushes the cells of the earlier generation, and where they go.
+// Pushes the cells of the earlier generation, and where they go.
 fn push_leaving(
     moved: &mut Vec<Moved>,
     course: Course,
@@ -130,7 +130,7 @@ fn push_leaving(
     Ok(())
 }
 
-/// Pushes the cells of a row, and where they go.
+// Pushes the cells of a row, and where they go.
 fn push_row_leaving(
     moved: &mut Vec<Moved>,
     course: Course,
@@ -148,7 +148,7 @@ fn push_row_leaving(
     Ok(())
 }
 
-/// Pushes the places outside the grid from which cells of the later generation come, and those cells.
+// Pushes the places outside the grid from which cells of the later generation come, and those cells.
 fn push_entering(
     moved: &mut Vec<Moved>,
     course: Course,
@@ -166,7 +166,7 @@ fn push_entering(
     Ok(())
 }
 
-/// Pushes those of a row.
+// Pushes those of a row.
 fn push_row_entering(
     moved: &mut Vec<Moved>,
     course: Course,
@@ -185,7 +185,7 @@ fn push_row_entering(
     Ok(())
 }
 
-/// Pushes that of a cell, where it comes from outside the grid.
+// Pushes that of a cell, where it comes from outside the grid.
 fn push_cell_entering(
     moved: &mut Vec<Moved>,
     course: Course,

@@ -40,7 +40,7 @@ pub fn pairs(
     Ok(pairs)
 }
 
-/// Pushes the pairs of a motion.
+// Pushes the pairs of a motion.
 fn push_motion(pairs: &mut Vec<Pair>, motion: Motion, height: u32, width: u32) -> Result<(), Memory>
     requires { exchanges motion ≡ true → height ≡ width }
     ensures { OnOk result (pairs.new.items ≡ pairs.old.items ++ motion_pairs height width motion) }
@@ -51,7 +51,7 @@ fn push_motion(pairs: &mut Vec<Pair>, motion: Motion, height: u32, width: u32) -
     Ok(())
 }
 
-/// Pushes the pairs of the cells of a row.
+// Pushes the pairs of the cells of a row.
 fn push_row(
     pairs: &mut Vec<Pair>,
     motion: Motion,
@@ -69,7 +69,7 @@ fn push_row(
     Ok(())
 }
 
-/// Pushes the pair of a cell, where its image is another one.
+// Pushes the pair of a cell, where its image is another one.
 fn push_cell(
     pairs: &mut Vec<Pair>,
     motion: Motion,

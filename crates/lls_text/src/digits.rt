@@ -5,7 +5,7 @@ ghost use Rattle.std.specs.Char.{is_ascii_digit};
 ghost use Rattle.std.specs.Str.Parse.{digits_value};
 ghost use Rattle.lls_text.specs.Digits.{is_digits};
 
-/// Every number of so many digits is below 2^64.
+// Every number of so many digits is below 2^64.
 const MOST_SHORT: usize = 19;
 
 /// The number that decimal digits write, or `u64::MAX` where it is above that. None exactly where the text is empty or has
@@ -24,7 +24,7 @@ pub fn digits_number(text: &[u8]) -> Option<u64>
     }
 }
 
-/// The number of digits so few that it has 64 bits.
+// The number of digits so few that it has 64 bits.
 fn short_number(text: &[u8]) -> Option<u64>
     requires { length text.now ≤ MOST_SHORT }
     ensures { result ≡ (if list_all is_ascii_digit text.now then Some (digits_value 10 text.now) else None) }

@@ -53,7 +53,7 @@ impl<'a> Iterator for Lines<'a> {
     }
 }
 
-/// The first line of a text that isn't empty, and what stands behind it.
+// The first line of a text that isn't empty, and what stands behind it.
 fn first_line(text: &[u8]) -> (&[u8], &[u8])
     requires { 0 < length text.now }
     ensures { lines_of text.now ≡ result.0.now ∷ lines_of result.1.now }
@@ -62,14 +62,14 @@ fn first_line(text: &[u8]) -> (&[u8], &[u8])
     (without_return(&text[..end]), behind(text, end))
 }
 
-/// How many bytes stand before the first LF.
+// How many bytes stand before the first LF.
 fn line_len(bytes: &[u8]) -> usize
     ensures { result ≡ position_or_len is_line_feed bytes.now }
 {
     bytes.iter().take_while(|byte| **byte != b'\n').count()
 }
 
-/// What stands behind a place, or behind the end.
+// What stands behind a place, or behind the end.
 fn behind(bytes: &[u8], place: usize) -> &[u8]
     ensures { result.now ≡ drop (place + 1) bytes.now }
 {
@@ -80,7 +80,7 @@ fn behind(bytes: &[u8], place: usize) -> &[u8]
     }
 }
 
-/// A line without the CR at its end.
+// A line without the CR at its end.
 fn without_return(line: &[u8]) -> &[u8]
     ensures { result.now ≡ strip_carriage_return line.now }
 {
@@ -107,7 +107,7 @@ pub fn begins_with(line: &[u8], first: u8) -> bool
     }
 }
 
-/// The first byte that isn't a blank.
+// The first byte that isn't a blank.
 fn first_solid(line: &[u8]) -> Option<u8>
     ensures { result ≡ find is_solid line.now }
 {

@@ -83,7 +83,7 @@ impl<'a> Iterator for Words<'a> {
     }
 }
 
-/// A text without the blanks that stand first.
+// A text without the blanks that stand first.
 fn behind_blanks(text: &[u8]) -> &[u8]
     ensures words { (column : ℕ) → words_from column text.now
         ≡ words_from (column + (length text.now - length result.now)) result.now }
@@ -93,7 +93,7 @@ fn behind_blanks(text: &[u8]) -> &[u8]
     &text[blank_len(text)..]
 }
 
-/// The word that stands first, and what stands behind it.
+// The word that stands first, and what stands behind it.
 fn first_word(text: &[u8]) -> (&[u8], &[u8])
     requires { IsTrue (begins_solid text.now) }
     ensures word { (column : ℕ) → words_from column text.now
@@ -103,7 +103,7 @@ fn first_word(text: &[u8]) -> (&[u8], &[u8])
     text.split_at(solid_len(text))
 }
 
-/// How many blanks stand first.
+// How many blanks stand first.
 fn blank_len(bytes: &[u8]) -> usize
     ensures count { result ≡ position_or_len is_solid bytes.now }
     ensures within { result ≤ length bytes.now }
@@ -111,7 +111,7 @@ fn blank_len(bytes: &[u8]) -> usize
     bytes.iter().take_while(|byte| !is_solid(**byte)).count()
 }
 
-/// How many bytes stand before the first blank.
+// How many bytes stand before the first blank.
 fn solid_len(bytes: &[u8]) -> usize
     ensures count { result ≡ position_or_len is_blank bytes.now }
     ensures within { result ≤ length bytes.now }
@@ -119,7 +119,7 @@ fn solid_len(bytes: &[u8]) -> usize
     bytes.iter().take_while(|byte| !is_blank(**byte)).count()
 }
 
-/// Whether a byte is no blank.
+// Whether a byte is no blank.
 fn is_solid(byte: u8) -> bool
     ensures { result ≡ is_solid byte }
 {

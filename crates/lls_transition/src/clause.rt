@@ -6,7 +6,7 @@ use crate::{INPUTS, Place};
 use lls_cube::Cube;
 use lls_lit::Lit;
 
-/// What the ith input adds to a cube's clause: that it differs from the cube's bit, where the cube cares for it.
+// What the ith input adds to a cube's clause: that it differs from the cube's bit, where the cube cares for it.
 fn cube_place(inputs: &[Place; INPUTS], cube: Cube, i: usize) -> Place
     requires { i < INPUTS }
     ensures { result ≡ cube_place inputs.now cube i }

@@ -16,7 +16,7 @@ use lls_cnf::Formula;
 use lls_cube::Cube;
 use lls_lit::Lit;
 
-/// Whether a clause stands among a formula's from one on.
+// Whether a clause stands among a formula's from one on.
 fn is_among(formula: &Formula, first: usize, lits: &[Lit]) -> bool
     requires { first ≤ length formula.now.clauses }
     ensures { result ≡ list_any (pointwise int_eq lits.now) (drop first formula.now.clauses) }
@@ -29,7 +29,7 @@ fn is_among(formula: &Formula, first: usize, lits: &[Lit]) -> bool
     false
 }
 
-/// Appends a clause, unless it stands among the formula's from one on.
+// Appends a clause, unless it stands among the formula's from one on.
 fn push_new(formula: &mut Formula, first: usize, lits: &[Lit]) -> Result<(), Memory>
     requires within { is_within formula.old.vars lits.now ≡ true }
     requires room { length formula.old.clauses < Formula.MOST_CLAUSES }

@@ -19,7 +19,7 @@ use std::alloc::Global;
 /// The greatest number of clauses of a transition.
 pub const MOST_CLAUSES_EACH: usize = 512;
 
-/// Appends the clause of a cube, where there is one. After `Memory` the formula is as before.
+// Appends the clause of a cube, where there is one. After `Memory` the formula is as before.
 fn push_cube(
     formula: &mut Formula,
     cube: Cube,

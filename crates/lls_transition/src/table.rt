@@ -24,7 +24,7 @@ pub fn table_of(rule: &Rule) -> Table<INPUTS, WORDS>
     table
 }
 
-/// Whether the row's last bit isn't the rule's successor of the nine before it.
+// Whether the row's last bit isn't the rule's successor of the nine before it.
 fn is_forbidden(rule: &Rule, row: usize) -> bool
     requires { row < 2 ^ INPUTS }
     ensures { result ≡ is_forbidden rule.now row }

@@ -11,7 +11,7 @@ use Rattle.lls_words.specs.declared.command.Command.{Command}
 use Rattle.lls_words.specs.declared.command.Setting.{Setting}
 use Rattle.lls_words.specs.declared.error.WordsError.TheVariants.{RepeatedOption, UnknownOption}
 use Rattle.lls_words.specs.Command.{same_setting, setting_of, takes}
-use Rattle.lls_words.specs.Items.{Item, plain, named, odd, operand, is_plain, option_shape, option_text, named_shape, shaped, is_equals_sign, item_of, items_of, takes_next}
+use Rattle.lls_words.specs.Items.{Item, plain, named, odd, operand, is_bare, option_shape, option_text, named_shape, shaped, is_equals_sign, item_of, items_of, takes_next}
 use Rattle.lls_words.specs.Scan.{Operand, Given, Scanned, nothing_scanned, setting_at, value_at, with_item, with_items, scan}
 use Rattle.lls_words.specs.Canonical.{FitsCanonical, value_of}
 use Rattle.lls_words.proofs.Rows.{true_false}
@@ -19,7 +19,7 @@ use Rattle.lls_words.proofs.Table.{by_table}
 
 -- an operand of the items is plain
 abbrev IsFine : Item → Type 0
-IsFine (plain place word) = is_plain word ≡ true
+IsFine (plain place word) = is_bare word ≡ true
 IsFine (named place name value) = Unit {0}
 IsFine (odd place) = Unit {0}
 
@@ -37,7 +37,7 @@ fine_option place word next (Some text) = fine_cut place word next text (positio
 
 fine_item : (place : ℕ) (word : List ℕ) (next : Option (List ℕ)) → IsFine (item_of place word next)
 fine_item place word next =
-    elim (is_plain word) as (λ b. is_plain word ≡ b → IsFine (shaped place word next (cond b operand (option_shape (option_text word))))) [
+    elim (is_bare word) as (λ b. is_bare word ≡ b → IsFine (shaped place word next (cond b operand (option_shape (option_text word))))) [
       | true ↦ λ e. e
       | false ↦ λ e. fine_option place word next (option_text word)
     ] refl
@@ -118,11 +118,11 @@ is_new command givens place (Some setting) s e =
       | false ↦ λ taken e. err_ok _ s e
     ] refl e
 
-fits_operand : (command : Command) (s : Scanned) (o : Operand) → is_plain o.word ≡ true → FitsCanonical command s → FitsCanonical command (record s { operands = s.operands ++ o ∷ [] })
+fits_operand : (command : Command) (s : Scanned) (o : Operand) → is_bare o.word ≡ true → FitsCanonical command s → FitsCanonical command (record s { operands = s.operands ++ o ∷ [] })
 fits_operand command s o holds fits = record {
   taken = fits.taken;
   once = fits.once;
-  plain = All-append (λ o. is_plain o.word ≡ true) s.operands (o ∷ []) fits.plain (all_one (λ o. is_plain o.word ≡ true) o holds);
+  plain = All-append (λ o. is_bare o.word ≡ true) s.operands (o ∷ []) fits.plain (all_one (λ o. is_bare o.word ≡ true) o holds);
 }
 
 fits_given : (command : Command) (s : Scanned) (g : Given) → IsNew command s.givens g.setting → FitsCanonical command s → FitsCanonical command (record s { givens = s.givens ++ g ∷ [] })

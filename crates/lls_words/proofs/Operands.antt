@@ -16,7 +16,7 @@ use Rattle.clap.specs.Simple.{Shape, filled, filled_from, with_index}
 use Rattle.clap.specs.Takes.{is_given, settle_passes, turn_passes, use_passes, walk_passes}
 use Rattle.clap.specs.declared.parser.matches.ValueSource.TheVariants.{CommandLine}
 use Rattle.clap.proofs.SimpleLemmas.{is_nil}
-use Rattle.lls_words.specs.Items.{is_plain}
+use Rattle.lls_words.specs.Items.{is_bare}
 use Rattle.lls_words.specs.Parser.{operand_rule}
 use Rattle.lls_words.specs.Scan.{Operand}
 use Rattle.lls_words.proofs.Rows.{at_row-missing, are_distinct, are_fresh, find-missing, fresh-head, fresh-more, fresh-tail, is_apart, true_false}
@@ -37,7 +37,7 @@ record IsOperand (word : Text) : Type 0 where
   no_long : long_of word ≡ None
   no_short : short_of word ≡ None
 
-IsOperand-plain : (word : Text) → is_plain word ≡ true → IsOperand word
+IsOperand-plain : (word : Text) → is_bare word ≡ true → IsOperand word
 IsOperand-plain [] plain = true_false (sym plain)
 IsOperand-plain (b ∷ bs) plain =
     let first : (b == 45) ≡ false = elim (b == 45) as (λ v. not v ≡ true → v ≡ false) [ true ↦ λ e. sym e | false ↦ λ e. refl ] plain in
@@ -109,7 +109,7 @@ pub record Ends (s : Shape) (w : Walk) (words : List Text) (rows : List Row) : T
   pub rows_are : (settled s.rules (fold (walked s.rules []) w words).held).rows ≡ rows
 
 pub ends-operands : (s : Shape) (place : ℕ) (names : List Text) (operands : List Operand) (rows done : List Row) (pending : Option (Text × List Text)) → s.args_override_self ≡ false
-    → AreFound s.rules (operands_from place names) → length operands ≡ length names → All (λ o. is_plain o.word ≡ true) operands → are_distinct names ≡ true → are_fresh names done ≡ true
+    → AreFound s.rules (operands_from place names) → length operands ≡ length names → All (λ o. is_bare o.word ≡ true) operands → are_distinct names ≡ true → are_fresh names done ≡ true
     → Settles s.rules rows pending done → Ends s (at place rows pending) (map (λ o. o.word) operands) (done ++ operand_rows names operands)
 unfolding walk_passes
 ends-operands s place [] [] rows done pending once found count plain distinct fresh settles = record { passes = refl; settles = settles.passes; rows_are = settles.rows_are ∙ sym (append-nil done) }
@@ -118,14 +118,14 @@ ends-operands s place (name ∷ names) [] rows done pending once found count pla
 ends-operands s place (name ∷ names) (o ∷ operands) rows done pending once found count plain distinct fresh settles =
     let words : List Text = map (λ o. o.word) operands in
     let row = operand_row name o.word in
-    let is = IsOperand-plain o.word (All-head (λ o. is_plain o.word ≡ true) o operands plain) in
+    let is = IsOperand-plain o.word (All-head (λ o. is_bare o.word ≡ true) o operands plain) in
     let by_place : arg_by_index s.rules place ≡ Some (operand_at place name) = ap (λ all. get_or all 0 None) found.by_place in
     let by_name : arg_by_id s.rules name ≡ Some (operand_at place name) = ap (λ all. get_or all 0 None) found.by_name in
     let apart = and_parts (is_apart name names) (are_distinct names) distinct in
     let step = walked-operand s.rules place name o.word rows done pending is by_place settles in
     let later : AreFound s.rules (operands_from (place_after place) names) = record { by_place = ap (drop 1) found.by_place; by_name = ap (drop 1) found.by_name } in
     let more = ends-operands s (place_after place) names operands done (done ++ row ∷ []) (Some (name, o.word ∷ [])) once later (omega (arith, count))
-    (All-tail (λ o. is_plain o.word ≡ true) o operands plain) apart.1 (fresh-more names done row apart.0 (fresh-tail name names done fresh))
+    (All-tail (λ o. is_bare o.word ≡ true) o operands plain) apart.1 (fresh-more names done row apart.0 (fresh-tail name names done fresh))
     (Settles-operand s.rules place name o.word done by_name (fresh-head name names done fresh)) in
     record {
       passes = ap₂ (λ b w. b && walk_passes s [] w words) (turn_passes-operand s place name o.word rows done pending once is by_place settles) step ∙ more.passes;

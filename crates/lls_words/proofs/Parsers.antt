@@ -10,7 +10,7 @@ use Rattle.lls_words.specs.declared.command.Command.TheVariants as commands
 use Rattle.lls_words.specs.Command.{operand_count, operand_names, options_of}
 use Rattle.lls_words.specs.Command as table
 use Rattle.lls_words.specs.Canonical.{canonical_words, option_words}
-use Rattle.lls_words.specs.Items.{is_plain}
+use Rattle.lls_words.specs.Items.{is_bare}
 use Rattle.lls_words.specs.Parser.{parser_of}
 use Rattle.lls_words.specs.Scan.{Given, Operand, Scanned}
 use Rattle.lls_words.proofs.Table.{rules, is_simple-parser}
@@ -63,7 +63,7 @@ pub record Reads (command : Command) (words : List Text) (rows : List Row) : Typ
   pub taken : takes (parser_of command) words ≡ true
   pub found : matches_of (parser_of command) words ≡ rows
 
-pub reads : (command : Command) (s : Scanned) → length s.operands ≡ operand_count command → All (λ o. is_plain o.word ≡ true) s.operands
+pub reads : (command : Command) (s : Scanned) → length s.operands ≡ operand_count command → All (λ o. is_bare o.word ≡ true) s.operands
     → Reads command (canonical_words command s) (canonical_rows command s)
 reads command s count plain =
     let has = has_arguments command in

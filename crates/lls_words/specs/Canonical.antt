@@ -4,7 +4,7 @@ use Rattle.std.specs.Option.{option_map}
 use Rattle.lls_words.specs.declared.command.Command.{Command}
 use Rattle.lls_words.specs.declared.command.Setting.{Setting}
 use Rattle.lls_words.specs.Command.{same_setting, operand_count, option_name, options_of, takes}
-use Rattle.lls_words.specs.Items.{is_plain}
+use Rattle.lls_words.specs.Items.{is_bare}
 use Rattle.lls_words.specs.Scan.{Given, Scanned}
 
 -- an option and its value in one word
@@ -32,7 +32,7 @@ pub record FitsCanonical (command : Command) (s : Scanned) : Type 0 where
   pub taken : All (λ given. takes command given.setting ≡ true) s.givens
   -- no option is given twice
   pub once : All (λ given. value_of s.givens given.setting ≡ Some given.value) s.givens
-  pub plain : All (λ operand. is_plain operand.word ≡ true) s.operands
+  pub plain : All (λ operand. is_bare operand.word ≡ true) s.operands
 
 -- canonical words, as many of them operands as the command has
 pub record IsCanonical (command : Command) (s : Scanned) (words : List (List ℕ)) : Type 0 where

@@ -9,9 +9,9 @@ abbrev pub is_equals_sign : ℕ → Bool
 is_equals_sign byte = byte == 61
 
 -- a word that isn't empty and doesn't begin with a dash: an operand, or a value
-abbrev pub is_plain : List ℕ → Bool
-is_plain [] = false
-is_plain (b ∷ bs) = not (is_dash b)
+abbrev pub is_bare : List ℕ → Bool
+is_bare [] = false
+is_bare (b ∷ bs) = not (is_dash b)
 
 -- what stands behind the two dashes of an option, of which something does
 abbrev pub option_text : List ℕ → Option (List ℕ)
@@ -37,7 +37,7 @@ option_shape None = other
 option_shape (Some text) = named_shape text (position is_equals_sign text)
 
 abbrev pub shape_of : List ℕ → WordShape
-shape_of word = if is_plain word then operand else option_shape (option_text word)
+shape_of word = if is_bare word then operand else option_shape (option_text word)
 
 -- an item: an operand; an option by its name and its value, if it has one; a word that is neither. Each has its place
 pub data Item : Type 0 where

@@ -7,7 +7,7 @@ use Rattle.lls_words.specs.declared.command.Setting.{Setting}
 use Rattle.lls_words.specs.declared.error.WordsError.{WordsError}
 use Rattle.lls_words.specs.declared.error.WordsError.TheVariants.{BadWord, UnknownOption, RepeatedOption, MissingValue}
 use Rattle.lls_words.specs.Command.{setting_of, same_setting, takes}
-use Rattle.lls_words.specs.Items.{Item, plain, named, odd, is_plain, items_of}
+use Rattle.lls_words.specs.Items.{Item, plain, named, odd, is_bare, items_of}
 
 -- an operand: the place of its word, from 1, and the word
 pub record Operand : Type 0 where
@@ -39,7 +39,7 @@ setting_at command givens place (Some setting) =
 -- a value that isn't empty and doesn't begin with a dash
 abbrev pub value_at : ℕ → Option (List ℕ) → Result (List ℕ) WordsError
 value_at place None = Err (MissingValue place)
-value_at place (Some value) = if is_plain value then Ok value else Err (MissingValue place)
+value_at place (Some value) = if is_bare value then Ok value else Err (MissingValue place)
 
 -- one item more, or its fault
 abbrev pub with_item : Command → Scanned → Item → Result Scanned WordsError

@@ -11,7 +11,7 @@ use crate::item::Operand;
 use crate::scan::{Given, Scan};
 use std::alloc::{AllocError, Global};
 
-/// The option as it is given, where it is.
+// The option as it is given, where it is.
 fn given_of<'w>(givens: &[Given<'w>], setting: Setting) -> Option<Given<'w>>
     ensures { result ≡ find (λ given. same_setting given.setting setting) givens.now }
 {
@@ -23,7 +23,7 @@ fn given_of<'w>(givens: &[Given<'w>], setting: Setting) -> Option<Given<'w>>
     None
 }
 
-/// The value of an option, where it is given.
+// The value of an option, where it is given.
 #[tactic(auto, using(crate::proofs::Lists::mapped))]
 fn value_of<'w>(givens: &[Given<'w>], setting: Setting) -> Option<&'w str>
     ensures { option_copied result ≡ value_of (map seen_given givens.now) setting }
@@ -34,7 +34,7 @@ fn value_of<'w>(givens: &[Given<'w>], setting: Setting) -> Option<&'w str>
     }
 }
 
-/// An option and its value in one word.
+// An option and its value in one word.
 fn option_word(alloc: Global, setting: Setting, value: &str) -> Result<String, AllocError>
     ensures { IfOk result (λ word. string_bytes word ≡ option_word setting value.now) }
 {
@@ -42,7 +42,7 @@ fn option_word(alloc: Global, setting: Setting, value: &str) -> Result<String, A
     format!(in alloc; "--{name}={value}")
 }
 
-/// The given ones of these options, in their order.
+// The given ones of these options, in their order.
 fn option_words(
     alloc: Global,
     settings: &[Setting],

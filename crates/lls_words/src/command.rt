@@ -32,11 +32,11 @@ pub enum Setting {
     Keep,
 }
 
-/// What operands are called, by their places.
+// What operands are called, by their places.
 static OPERANDS: [&str; 4] = ["first", "second", "third", "fourth"];
 
 impl Command {
-    /// The table of commands.
+    // The table of commands.
     const ALL: [Command; 8] = [
         Command::Check,
         Command::Search,
@@ -48,7 +48,7 @@ impl Command {
         Command::Make,
     ];
 
-    /// What the command is called.
+    // What the command is called.
     fn name(self) -> &'static [u8]
         ensures { result.now ≡ command_name self }
     {
@@ -119,7 +119,7 @@ impl Command {
 }
 
 impl Setting {
-    /// The table of options.
+    // The table of options.
     const ALL: [Setting; 10] = [
         Setting::Formula,
         Setting::Rule,

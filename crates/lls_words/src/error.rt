@@ -61,7 +61,7 @@ impl fmt::Display for WordsError {
 
 impl Error for WordsError {}
 
-/// The fault of a rule text, with the place of its word.
+// The fault of a rule text, with the place of its word.
 #[derive(Clone, Copy, Debug)]
 struct BadRule {
     place: u64,

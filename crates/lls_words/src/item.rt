@@ -1,7 +1,7 @@
 // An item of a command line: an operand, or an option with its value.
 ghost use Rattle.std.specs.Prelude.{◌≡◌, position};
 ghost use Rattle.std.specs.Option.{option_copied, option_map};
-ghost use Rattle.lls_words.specs.Items.{item_of, takes_next, is_plain, option_text, is_equals_sign};
+ghost use Rattle.lls_words.specs.Items.{item_of, takes_next, is_bare, option_text, is_equals_sign};
 ghost use Rattle.lls_words.specs.Seen.{cut, seen_item, seen_pair};
 
 /// An operand.
@@ -27,7 +27,7 @@ pub enum Item<'w> {
 pub fn read_item<'w>(place: u64, word: &'w str, next: Option<&'w str>) -> Item<'w>
     ensures { seen_item result ≡ item_of place word.entry.now (option_copied next.entry) }
 {
-    if is_plain(word) {
+    if is_bare(word) {
         return Item::Operand(Operand { place, word });
     }
     let Some(text) = option_text(word) else {
@@ -43,7 +43,7 @@ pub fn read_item<'w>(place: u64, word: &'w str, next: Option<&'w str>) -> Item<'
 pub fn takes_next(word: &str) -> bool
     ensures { result ≡ takes_next word.now }
 {
-    if is_plain(word) {
+    if is_bare(word) {
         return false;
     }
     match option_text(word) {
@@ -53,8 +53,8 @@ pub fn takes_next(word: &str) -> bool
 }
 
 /// Whether a word isn't empty and doesn't begin with `-`.
-pub fn is_plain(word: &str) -> bool
-    ensures { result ≡ is_plain word.now }
+pub fn is_bare(word: &str) -> bool
+    ensures { result ≡ is_bare word.now }
 {
     match word.as_bytes() {
         [] => false,
@@ -62,7 +62,7 @@ pub fn is_plain(word: &str) -> bool
     }
 }
 
-/// What stands behind the two dashes of an option.
+// What stands behind the two dashes of an option.
 fn option_text(word: &str) -> Option<&str>
     ensures { option_copied result ≡ option_text word.now }
 {
@@ -70,7 +70,7 @@ fn option_text(word: &str) -> Option<&str>
     if text.is_empty() { None } else { Some(text) }
 }
 
-/// What stands before the first `=` of an option, and behind it.
+// What stands before the first `=` of an option, and behind it.
 fn name_and_value(text: &str) -> Option<(&str, &str)>
     ensures { option_map seen_pair result ≡ option_map (cut text.now) (position is_equals_sign text.now) }
 {

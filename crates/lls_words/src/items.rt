@@ -46,14 +46,14 @@ impl<'w> Iterator for Items<'w> {
     }
 }
 
-/// How many words the item of a word takes, behind which stand that many.
+// How many words the item of a word takes, behind which stand that many.
 fn words_taken(word: &str, behind: usize) -> usize
     ensures { result ≡ words_taken word.now behind }
 {
     if behind > 0 && takes_next(word) { 2 } else { 1 }
 }
 
-/// The first word.
+// The first word.
 fn first_text(words: &[String]) -> Option<&str>
     ensures { option_copied result ≡ slice_get (map string_bytes words.now) 0 }
 {

@@ -16,7 +16,7 @@ use clap::error::ErrorKind;
 use clap::{Arg, ArgMatches};
 use std::alloc::{AllocError, Global};
 
-/// The parser of a command: each option takes one value, and each operand is required.
+// The parser of a command: each option takes one value, and each operand is required.
 fn parser<'f>(alloc: Global, command: Command) -> Result<clap::Command<'f>, AllocError>
     ensures { IfOk result (λ parser. app_of parser ≡ parser_of command) }
 {
@@ -27,7 +27,7 @@ fn parser<'f>(alloc: Global, command: Command) -> Result<clap::Command<'f>, Allo
     with_operands(alloc, parser, command.operand_names())
 }
 
-/// An option, which takes one value.
+// An option, which takes one value.
 fn option_arg<'f>(alloc: Global, setting: Setting) -> Arg<'f>
     ensures rule { rule_of result ≡ option_rule setting }
     ensures local { result.global ≡ false }
@@ -36,7 +36,7 @@ fn option_arg<'f>(alloc: Global, setting: Setting) -> Arg<'f>
     Arg::new(alloc, name).long(name)
 }
 
-/// An operand, which is required.
+// An operand, which is required.
 fn operand_arg<'f>(alloc: Global, name: &'static str) -> Arg<'f>
     ensures rule { rule_of result ≡ operand_rule name.now }
     ensures local { result.global ≡ false }
@@ -45,7 +45,7 @@ fn operand_arg<'f>(alloc: Global, name: &'static str) -> Arg<'f>
     Arg::new(alloc, name).required(true)
 }
 
-/// A parser with these options more.
+// A parser with these options more.
 fn with_options<'f>(
     alloc: Global,
     parser: clap::Command<'f>,
@@ -60,7 +60,7 @@ fn with_options<'f>(
     Ok(parser)
 }
 
-/// A parser with these operands more.
+// A parser with these operands more.
 fn with_operands<'f>(
     alloc: Global,
     parser: clap::Command<'f>,
@@ -76,7 +76,7 @@ fn with_operands<'f>(
     Ok(parser)
 }
 
-/// Parses words. Canonical ones are refused for want of memory alone.
+// Parses words. Canonical ones are refused for want of memory alone.
 fn parse<'f>(
     alloc: Global,
     command: Command,
@@ -90,7 +90,7 @@ fn parse<'f>(
     parser(alloc, command)?.try_get_matches_from(words)
 }
 
-/// An operand, as it was parsed.
+// An operand, as it was parsed.
 fn read_operand<'f>(matches: &ArgMatches<'f>, name: &str, operand: &Operand) -> Operand<'f>
     requires { first_value (found_of matches.now) name.now ≡ Some operand.now.word.now }
     ensures { seen_operand result ≡ seen_operand operand.now }
@@ -101,7 +101,7 @@ fn read_operand<'f>(matches: &ArgMatches<'f>, name: &str, operand: &Operand) -> 
     }
 }
 
-/// The operands, as they were parsed.
+// The operands, as they were parsed.
 fn read_operands<'f>(
     alloc: Global,
     matches: &ArgMatches<'f>,
@@ -119,7 +119,7 @@ fn read_operands<'f>(
     Ok(read)
 }
 
-/// An option, with the value that was parsed.
+// An option, with the value that was parsed.
 fn read_given<'f>(matches: &ArgMatches<'f>, given: &Given) -> Given<'f>
     requires { first_value (found_of matches.now) (option_name given.now.setting) ≡ Some given.now.value.now }
     ensures { seen_given result ≡ seen_given given.now }
@@ -131,7 +131,7 @@ fn read_given<'f>(matches: &ArgMatches<'f>, given: &Given) -> Given<'f>
     }
 }
 
-/// The options, with the values that were parsed.
+// The options, with the values that were parsed.
 fn read_givens<'f>(
     alloc: Global,
     matches: &ArgMatches<'f>,

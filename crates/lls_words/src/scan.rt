@@ -9,7 +9,7 @@ ghost use Rattle.lls_words.specs.Seen.{seen_given, seen_item, seen_scan, seen_va
 
 use crate::command::{Command, Setting};
 use crate::error::WordsError;
-use crate::item::{Item, Operand, is_plain};
+use crate::item::{Item, Operand, is_bare};
 use crate::items::Items;
 use std::alloc::Global;
 
@@ -30,7 +30,7 @@ pub struct Scan<'w> {
 }
 
 impl<'w> Scan<'w> {
-    /// Takes one more item. After an error nothing more is said of the scan.
+    // Takes one more item. After an error nothing more is said of the scan.
     fn take(&mut self, command: Command, item: Item<'w>) -> Result<(), WordsError>
         ensures { Gives WordsError.Memory (λ _. seen_scan self.new) result
             (with_item command (seen_scan self.old) (seen_item item.entry)) }
@@ -52,7 +52,7 @@ impl<'w> Scan<'w> {
     }
 }
 
-/// The option of a name, which the command has to take and that wasn't given before.
+// The option of a name, which the command has to take and that wasn't given before.
 #[tactic(auto, using(crate::proofs::Lists::mapped))]
 fn setting_at(
     command: Command,
@@ -73,19 +73,19 @@ fn setting_at(
     }
 }
 
-/// Whether the option was given before.
+// Whether the option was given before.
 fn is_given(givens: &[Given], setting: Setting) -> bool
     ensures { result ≡ list_any (λ given. same_setting given.setting setting) givens.now }
 {
     givens.iter().any(|given| given.setting == setting)
 }
 
-/// The value of an option, which isn't empty and doesn't begin with `-`.
+// The value of an option, which isn't empty and doesn't begin with `-`.
 fn value_at(place: u64, value: Option<&str>) -> Result<&str, WordsError>
     ensures { seen_value result ≡ value_at place (option_copied value.entry) }
 {
     match value {
-        Some(value) if is_plain(value) => Ok(value),
+        Some(value) if is_bare(value) => Ok(value),
         _ => Err(WordsError::MissingValue(place)),
     }
 }

@@ -33,8 +33,8 @@ pub struct Settings {
 }
 
 impl Settings {
-    /// Life, `B3/S23`, under a closed edge, with no other demand; the default budget, half of the learnt clauses kept, and
-    /// patterns as rows; formulas by cover.
+    // Life, `B3/S23`, under a closed edge, with no other demand; the default budget, half of the learnt clauses kept, and
+    // patterns as rows; formulas by cover.
     fn default_values(alloc: Global) -> Settings
         ensures value { result ≡ defaults }
         ensures allowed { AreAllowed result.rule result.demands result.budget }
@@ -49,7 +49,7 @@ impl Settings {
         }
     }
 
-    /// The settings with the value of one option.
+    // The settings with the value of one option.
     fn with_value(self, alloc: Global, given: &Given) -> Result<Settings, WordsError>
         requires { AreAllowed self.rule self.demands self.budget }
         ensures value { Gives WordsError.Memory (λ s. s) result (with_value self (seen_given given.now)) }
@@ -89,7 +89,7 @@ pub fn rule_at(place: u64, text: &[u8]) -> Result<Rule, WordsError>
     }
 }
 
-/// The period of a text; the place is its option's.
+// The period of a text; the place is its option's.
 fn period_at(place: u64, text: &[u8]) -> Result<Period, WordsError>
     ensures value { result ≡ value_or place (period_in text.now) }
     ensures within { IfOk result IsPeriod }
@@ -100,7 +100,7 @@ fn period_at(place: u64, text: &[u8]) -> Result<Period, WordsError>
     }
 }
 
-/// The bounds of a text; the place is its option's.
+// The bounds of a text; the place is its option's.
 fn bounds_at(alloc: Global, place: u64, text: &[u8]) -> Result<Bounds, WordsError>
     ensures value { Gives WordsError.Memory (λ bounds. bounds) result (value_or place (bounds_in text.now)) }
     ensures ends { IfOk result (All HasEnds) }
@@ -111,7 +111,7 @@ fn bounds_at(alloc: Global, place: u64, text: &[u8]) -> Result<Bounds, WordsErro
     }
 }
 
-/// The budget of a text; the place is its option's.
+// The budget of a text; the place is its option's.
 fn budget_at(place: u64, text: &[u8]) -> Result<u32, WordsError>
     ensures value { result ≡ value_or place (budget_in text.now) }
     ensures within { IfOk result (λ budget. budget ≤ MOST_BUDGET) }

@@ -13,7 +13,7 @@ use lls_symmetry::{MOST_PERIOD, MOST_SHIFT};
 use lls_text::digits_number;
 use std::alloc::{AllocError, Global};
 
-/// The greatest number of digits of a number.
+// The greatest number of digits of a number.
 const MOST_DIGITS: usize = 20;
 
 /// The greatest budget of a search.
@@ -165,7 +165,7 @@ pub fn bounds_in(alloc: Global, text: &[u8]) -> Result<Option<Bounds>, AllocErro
     Ok(Some(Bounds::new(bounds)))
 }
 
-/// The bound of a text: a generation, `:`, the low end if any, `-`, and the high end if any.
+// The bound of a text: a generation, `:`, the low end if any, `-`, and the high end if any.
 fn bound_in(text: &[u8]) -> Option<Bound>
     ensures bound { result ≡ bound_in text.now }
     ensures ends { IfSome result HasEnds }
@@ -182,7 +182,7 @@ fn bound_in(text: &[u8]) -> Option<Bound>
     })
 }
 
-/// The low end of a bound, 0 where there is none.
+// The low end of a bound, 0 where there is none.
 fn low_in(text: &[u8]) -> Option<u32>
     ensures low { result ≡ low_in text.now }
     ensures within { IfSome result (λ low. low ≤ Bound.MOST) }
@@ -193,7 +193,7 @@ fn low_in(text: &[u8]) -> Option<u32>
     number_in(text, 0, Bound::MOST)
 }
 
-/// The high end of a bound, where there is one.
+// The high end of a bound, where there is one.
 fn high_in(text: &[u8]) -> Option<Option<u32>>
     ensures high { result ≡ high_in text.now }
     ensures within { IfSome result (λ high. ForSome high (λ most. most ≤ Bound.MOST)) }
@@ -205,7 +205,7 @@ fn high_in(text: &[u8]) -> Option<Option<u32>>
     Some(Some(high))
 }
 
-/// What stands before the first such byte of a text, and behind it.
+// What stands before the first such byte of a text, and behind it.
 fn cut_at(text: &[u8], byte: u8) -> Option<(&[u8], &[u8])>
     ensures { option_map seen_pair result ≡ cut_at byte text.now }
 {
@@ -215,14 +215,14 @@ fn cut_at(text: &[u8], byte: u8) -> Option<(&[u8], &[u8])>
     }
 }
 
-/// Where the first such byte of a text stands.
+// Where the first such byte of a text stands.
 fn first_of(text: &[u8], wanted: u8) -> Option<usize>
     ensures { result ≡ position (λ b. b == wanted) text.now }
 {
     text.iter().position(|byte| *byte == wanted)
 }
 
-/// The number of columns or rows that a text writes, with `-` before it where it goes left or up.
+// The number of columns or rows that a text writes, with `-` before it where it goes left or up.
 fn shift_in(text: &[u8]) -> Option<i32>
     ensures shift { result ≡ shift_in text.now }
     ensures within { IfSome result (λ shift. IsWithin MOST_SHIFT shift) }
@@ -233,7 +233,7 @@ fn shift_in(text: &[u8]) -> Option<i32>
     }
 }
 
-/// The number from `low` to `high` that a text writes.
+// The number from `low` to `high` that a text writes.
 fn number_in(text: &[u8], low: u32, high: u32) -> Option<u32>
     ensures number { result ≡ number_in low high text.now }
     ensures within { IfSome result (λ n. (low ≤ n) × (n ≤ high)) }

@@ -17,14 +17,14 @@ use crate::values::{seed_in, size_in};
 use lls_base::Name;
 use std::alloc::{AllocError, Global};
 
-/// The name of the file that an operand says.
+// The name of the file that an operand says.
 fn name_of(alloc: Global, operand: &Operand) -> Result<Name, AllocError>
     ensures { IfOk result (λ name. name ≡ operand.now.word.now) }
 {
     Ok(Name::new(String::from_str(alloc, operand.word)?))
 }
 
-/// The names of a file and of one that is written later, which have to differ.
+// The names of a file and of one that is written later, which have to differ.
 fn names_apart(alloc: Global, file: &Operand, written: &Operand) -> Result<(Name, Name), WordsError>
     ensures { Gives WordsError.Memory (λ names. names) result
         (names_apart (seen_operand file.now) (seen_operand written.now)) }
@@ -35,7 +35,7 @@ fn names_apart(alloc: Global, file: &Operand, written: &Operand) -> Result<(Name
     Ok((name_of(alloc, file)?, name_of(alloc, written)?))
 }
 
-/// The names of two operands, and the values of the options.
+// The names of two operands, and the values of the options.
 fn posing(
     alloc: Global,
     first: &Operand,
@@ -50,7 +50,7 @@ fn posing(
     Ok((name_of(alloc, first)?, name_of(alloc, second)?, settings))
 }
 
-/// The job of `check`.
+// The job of `check`.
 fn check_job(
     alloc: Global,
     search: &Operand,
@@ -77,7 +77,7 @@ fn check_job(
     })
 }
 
-/// The job of `search`.
+// The job of `search`.
 fn search_job(
     alloc: Global,
     search: &Operand,
@@ -110,7 +110,7 @@ fn search_job(
     })
 }
 
-/// The job of `judge`.
+// The job of `judge`.
 fn judge_job(
     alloc: Global,
     search: &Operand,
@@ -137,7 +137,7 @@ fn judge_job(
     })
 }
 
-/// The job of `cnf`.
+// The job of `cnf`.
 fn cnf_job(alloc: Global, search: &Operand, givens: &[Given]) -> Result<Job, WordsError>
     ensures job { Gives WordsError.Memory (λ job. job) result
         (job_with Command.Cnf (seen_operand search.now ∷ []) (map seen_given givens.now)) }
@@ -158,7 +158,7 @@ fn cnf_job(alloc: Global, search: &Operand, givens: &[Given]) -> Result<Job, Wor
     })
 }
 
-/// The job of `sat`.
+// The job of `sat`.
 fn sat_job(
     alloc: Global,
     formula: &Operand,
@@ -183,7 +183,7 @@ fn sat_job(
     })
 }
 
-/// The job of `make`.
+// The job of `make`.
 fn make_job(
     alloc: Global,
     seed: &Operand,
@@ -208,7 +208,7 @@ fn make_job(
     })
 }
 
-/// The job of a command by its operands and options.
+// The job of a command by its operands and options.
 fn job_with(alloc: Global, command: Command, scan: &Scan) -> Result<Job, WordsError>
     ensures job { Gives WordsError.Memory (λ job. job) result
         (job_with command (seen_scan scan.now).operands (seen_scan scan.now).givens) }
@@ -235,8 +235,8 @@ fn job_with(alloc: Global, command: Command, scan: &Scan) -> Result<Job, WordsEr
     }
 }
 
-/// The job of a command by its scan: where the operands are as many as the command has, from what
-/// `clap` reads.
+// The job of a command by its scan: where the operands are as many as the command has, from what
+// `clap` reads.
 #[tactic(auto, using(crate::proofs::Jobs::refused))]
 fn scanned_job(alloc: Global, command: Command, scan: &Scan) -> Result<Job, WordsError>
     requires { FitsCanonical command (seen_scan scan.now) }

@@ -5,7 +5,7 @@ use std::alloc::{AllocError, Global};
 use std::process::Abort;
 use std::test::Fail;
 
-/// Runs a row whose fault goes to the standard error, behind `lls: ` and before an LF.
+// Runs a row whose fault goes to the standard error, behind `lls: ` and before an LF.
 fn faults(rt: &impl Abort, alloc: Global, row: Row) -> Result<(), Fail> {
     let (words, f, p, status, text) = row;
     let words = words_of(alloc, words)?;
@@ -238,7 +238,7 @@ fn faults_are_named(rt: HostRuntime) -> Result<(), Fail> {
     is_fault(&rt, rt.alloc(), &ended, Status::Words, "words: NoCommand")
 }
 
-/// A piece that many times.
+// A piece that many times.
 fn repeated(alloc: Global, piece: &[u8], times: u32) -> Result<Vec<u8>, AllocError> {
     let mut text = Vec::new(alloc);
     for _ in 0..times {

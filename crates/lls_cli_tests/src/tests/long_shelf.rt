@@ -1,47 +1,66 @@
 // A shelf whose file `p` goes on with blanks that it makes as they are read.
-use lls_base::{Failed, MemShelf, OpenFault, Shelf};
+ghost use Rattle.std.specs.Prelude.{◌<◌, ◌^◌};
 
-/// A shelf in memory, whose file `p` has so many blanks behind its bytes. It tells nothing.
+use lls_base::{Failed, OpenFault, Shelf};
+
+/// A shelf with the files `f` and `p`, the second of which has so many blanks behind its bytes. It tells nothing, and takes no output.
 #[derive(Drop)]
 pub struct LongShelf {
-    files: MemShelf,
+    problem: &'static [u8],
+    proof: &'static [u8],
     blanks: u64,
+    is_open: bool,
+    front: &'static [u8],
     left: u64,
+    faults: u64,
+    ghost faults_fit: { faults < 2 ^ 64 },
 }
 
 impl LongShelf {
-    pub fn new(files: MemShelf, blanks: u64) -> LongShelf {
+    pub fn new(problem: &'static [u8], proof: &'static [u8], blanks: u64) -> LongShelf {
         LongShelf {
-            files,
+            problem,
+            proof,
             blanks,
+            is_open: false,
+            front: b"",
             left: 0,
+            faults: 0,
         }
     }
 }
 
 impl Shelf for LongShelf {
-    ghost use Rattle.std.specs.Prelude.{None};
+    ghost use Rattle.std.specs.Prelude.{None, false};
 
     ghost told = { λ _. None };
 
-    ghost has_input = { λ shelf. ⟦<MemShelf as Shelf>⟧.has_input shelf.files };
+    ghost has_input = { λ shelf. shelf.is_open };
 
-    ghost has_output = { λ shelf. ⟦<MemShelf as Shelf>⟧.has_output shelf.files };
+    ghost has_output = { λ _. false };
 
-    ghost faults = { λ shelf. ⟦<MemShelf as Shelf>⟧.faults shelf.files };
+    ghost faults = { λ shelf. shelf.faults };
 
     ghost agrees = { λ _. tt };
 
-    ghost faults_fit = { λ shelf. ⟦<MemShelf as Shelf>⟧.faults_fit shelf.files };
+    ghost faults_fit = { λ shelf. shelf.faults_fit };
 
     fn open_input(&mut self, name: &str) -> Result<(), OpenFault> {
-        self.left = if name == "p" { self.blanks } else { 0 };
-        self.files.open_input(name)
+        self.is_open = false;
+        (self.front, self.left) = match name {
+            "f" => (self.problem, 0),
+            "p" => (self.proof, self.blanks),
+            _ => return Err(OpenFault::Absent),
+        };
+        self.is_open = true;
+        Ok(())
     }
 
     fn read(&mut self, buf: &mut [u8]) -> Result<usize, Failed> {
-        let count = self.files.read(buf)?;
+        let count = self.front.len().min(buf.len());
         if count > 0 {
+            buf[..count].copy_from_slice(&self.front[..count]);
+            self.front = &self.front[count..];
             return Ok(count);
         }
         let made = self.left.min(buf.len() as u64) as usize;
@@ -50,11 +69,12 @@ impl Shelf for LongShelf {
         Ok(made)
     }
 
-    fn create_output(&mut self, name: &str) -> Result<(), Failed> {
-        self.files.create_output(name)
+    fn create_output(&mut self, _name: &str) -> Result<(), Failed> {
+        self.faults = self.faults.saturating_add(1);
+        Err(Failed)
     }
 
-    fn write(&mut self, bytes: &[u8]) -> Result<usize, Failed> {
-        self.files.write(bytes)
+    fn write(&mut self, _bytes: &[u8]) -> Result<usize, Failed> {
+        unreachable!()
     }
 }

@@ -13,7 +13,7 @@ const SMALL: &str = "0 0\n1 0\n\n0 0\n0 0\n";
 
 const SMALL_SUMMARY: &str = "size 2\nknown 4\nlive 1 0\nvariables 8\nclauses 72\nanswer pattern\n";
 
-/// A command line, the file that is written, what it is then, and the summary.
+// A command line, the file that is written, what it is then, and the summary.
 type Found = (&'static str, &'static str, &'static str, &'static str);
 
 #[test]
@@ -54,7 +54,7 @@ fn problems_that_are_found(rt: HostRuntime) -> Result<(), Fail> {
     Ok(())
 }
 
-/// A call that fails, the line that tells it, what is in the file of the problem then, and what was given.
+// A call that fails, the line that tells it, what is in the file of the problem then, and what was given.
 type Failure = (Failing, &'static str, Option<&'static str>, &'static str);
 
 // A write to a file takes seven bytes.
@@ -111,7 +111,7 @@ fn failures_of_a_making(rt: HostRuntime) -> Result<(), Fail> {
 const UNDECIDED: &str =
     "size 15\nknown 193\nlive 112 61\nvariables 450\nclauses 90338\nanswer undecided\n";
 
-/// Answers the making of a problem with a search that learns one clause, which doesn't suffice.
+// Answers the making of a problem with a search that learns one clause, which doesn't suffice.
 fn undecided(alloc: Global, failing: Failing) -> Result<Ended, Fail> {
     let mut shelf = shelf_of(alloc, b"", b"", failing)?;
     let mut out = MemSink::new(alloc, vec![in alloc; failing.out]?, 3);

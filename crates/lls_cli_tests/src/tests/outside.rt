@@ -53,7 +53,7 @@ fn a_failing_error_stream_changes_no_status(rt: HostRuntime) -> Result<(), Fail>
     Ok(())
 }
 
-/// A command line, the files `f` and `p`, what fails, and the status and the text that are wanted.
+// A command line, the files `f` and `p`, what fails, and the status and the text that are wanted.
 type Row = (
     &'static str,
     &'static str,

@@ -1,6 +1,6 @@
 // Proofs that come in pieces.
 use super::long_shelf::LongShelf;
-use super::{Failing, NOTHING, is_fault, run_over, shelf_of, words_of};
+use super::{Failing, NOTHING, is_fault, run_over, words_of};
 use lls_base::MemSink;
 use lls_cli::run::run;
 use lls_cli::status::Status;
@@ -21,7 +21,7 @@ fn a_proof_comes_in_pieces(rt: HostRuntime) -> Result<(), Fail> {
         (b"5 d 0\r\n\r\n6 0 4 1 0", Status::Refused, "refused: NoConflict 3\n"),
     ];
     for (proof, status, text) in rows {
-        for most in 1..=proof.len() {
+        for most in 1..20 {
             let ended = run_over(alloc, &words, ONE_CELL, proof, Failing { most, ..NOTHING })?;
             assert_eq!(rt; ended.status, status);
             assert_eq!(rt; ended.out.bytes(), text.as_bytes());
@@ -66,8 +66,7 @@ fn a_proof_as_long_as_may_be(rt: HostRuntime) -> Result<(), Fail> {
         (LIMIT, Status::Done, ""),
         (LIMIT + 1, Status::Limit, "lls: limit: TooLong 1073741824\n"),
     ] {
-        let files = shelf_of(alloc, ONE_CELL, PROOF, NOTHING)?;
-        let mut shelf = LongShelf::new(files, length - PROOF.len() as u64);
+        let mut shelf = LongShelf::new(ONE_CELL, PROOF, length - PROOF.len() as u64);
         let mut out = MemSink::new(alloc, Vec::new(alloc), 1000);
         let mut err = MemSink::new(alloc, Vec::new(alloc), 1000);
         assert_eq!(rt; run(alloc, &words, &mut shelf, &mut out, &mut err), status);

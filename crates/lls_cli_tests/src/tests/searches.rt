@@ -5,8 +5,8 @@ use std::alloc::Global;
 use std::process::Abort;
 use std::test::Fail;
 
-/// A command line that searches, over the file `f`, how it ends with its text, and the command line that looks at what came
-/// out, which is then the file `p`.
+// A command line that searches, over the file `f`, how it ends with its text, and the command line that looks at what came
+// out, which is then the file `p`.
 type Search = (
     &'static str,
     &'static str,
@@ -15,7 +15,7 @@ type Search = (
     &'static str,
 );
 
-/// Runs a search whose proof goes to the file `q`, and looks at what came out.
+// Runs a search whose proof goes to the file `q`, and looks at what came out.
 fn searches(rt: &impl Abort, alloc: Global, row: Search) -> Result<(), Fail> {
     let (line, f, status, text, again) = row;
     let words = words_of(alloc, line)?;
@@ -29,7 +29,7 @@ fn searches(rt: &impl Abort, alloc: Global, row: Search) -> Result<(), Fail> {
     }
 }
 
-/// Looks at what came out of a search, where there is a command line for it.
+// Looks at what came out of a search, where there is a command line for it.
 fn looks(
     rt: &impl Abort,
     alloc: Global,
