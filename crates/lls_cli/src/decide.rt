@@ -5,9 +5,9 @@ ghost use Rattle.lls_cli.specs.Questions as questions;
 ghost use Rattle.lls_cli.specs.Answer.{IsAnswer};
 
 use crate::answer::Answer;
+use crate::effort::Effort;
 use crate::evidence::{check_proof, log_file};
 use crate::model::print_model;
-use crate::effort::Effort;
 use crate::status::Status;
 use crate::text::Text;
 use lls_base::Memory;

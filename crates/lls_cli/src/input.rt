@@ -13,13 +13,13 @@ use lls_base::{Name, ReadError, Shelf, read_all};
 use lls_cnf::{DimacsError, Formula, MOST_DIMACS_BYTES, read_dimacs};
 use lls_grid::History;
 use lls_problem::{Demands, Problem, make_problem};
-use lls_rle::{RleError, read_rle};
+use lls_rle::{MOST_BYTES, RleError, read_rle};
 use lls_rule::Rule;
 use lls_search_file::{HistoryError, HistoryFault, Posed, PosedError, read_history, read_posed};
 use std::alloc::Global;
 
 /// The longest search file, and the longest pattern file, in bytes.
-pub const SEARCH_LIMIT: u64 = 1_048_576;
+pub const SEARCH_LIMIT: u64 = MOST_BYTES as u64;
 
 /// The longest proof in bytes.
 pub const PROOF_LIMIT: u64 = 1_073_741_824;

@@ -10,12 +10,12 @@ ghost use Rattle.lls_cli.specs.Question.{formula_asked};
 
 use crate::absence::Absence;
 use crate::answer::Answer;
+use crate::asked::Asked;
 use crate::deliver::{give, lack};
+use crate::effort::Effort;
 use crate::evidence::{check_proof, log_file};
 use crate::outside::Outside;
 use crate::pattern::print_pattern;
-use crate::asked::Asked;
-use crate::effort::Effort;
 use crate::status::Status;
 use crate::text::Text;
 use lls_base::{Memory, Shelf, Sink};

@@ -1,23 +1,22 @@
 -- Logs of fresh additions and late deletions.
-use Rattle.std.proofs.Common.{◌≡◌, ◌<◌, ◌≤◌, zero, suc, ◌+◌, ◌-◌, ◌*◌, ◌^◌, ℕ, Bool, true, false, not, ◌||◌, ◌&&◌, cond, List, [], ◌∷◌, ◌++◌, length, map, refl, sym, ap, ◌∙◌, arith}
+use Rattle.std.proofs.Common.{◌≡◌, ◌<◌, ◌≤◌, ◌+◌, ◌-◌, ◌*◌, ◌^◌, ℕ, Bool, true, false, not, ◌||◌, ◌&&◌, cond, List, [], ◌∷◌, ◌++◌, length, map, refl, sym, ap, ◌∙◌, arith}
 use Rattle.std.specs.Prelude.{filter, count_by, fold, ℤ, ◌==◌}
-use Rattle.std.specs.List.{list_all, list_any, AllByRecursion, Contains}
+use Rattle.std.specs.List.{list_all, list_any, AllByRecursion}
 use Rattle.std.proofs.Math.Dec.{eqb}
 use Rattle.std.proofs.lemmas.Bool.{and_parts, eqb-true}
-use Rattle.std.proofs.Math.Nat.{add-mul, add-zero, add_assoc, mul-lt-mul_of_pos_left, mul-le-mul_right}
+use Rattle.std.proofs.Math.Nat.{add-mul, add-zero, mul-lt-mul_of_pos_left, mul-le-mul_right}
 use Rattle.std.proofs.lemmas.Nat.{mul-pow}
 use Rattle.std.proofs.lemmas.List.{map-append, length-map, length-append}
 use Rattle.std.proofs.lemmas.List.Folds.{list_all-append, list_all-map}
 use Rattle.lls_lit.specs.Formula.{Clause, Cnf, is_within}
 use Rattle.lls_prooflog.specs.declared.step.Step.{Step}
 use Rattle.lls_prooflog.specs.declared.step.Step.TheVariants.{Add, Del}
-use Rattle.lls_prooflog.specs.UnitWalk.{Live, is_among}
-use Rattle.lls_prooflog.specs.Steps.{after, clauses_of}
-use Rattle.lls_prooflog.specs.Fresh.{IsFresh, ShowsFresh, is_settled, is_closed}
-use Rattle.lls_prooflog.specs.Spent.{LogState, log_start, log_after, is_addition, EachStep, IsFreshAddition, AddsFresh, IsLateDeletion, DeletesLate, IsSpent, has_variables_once, least_added}
+use Rattle.lls_prooflog.specs.UnitWalk.{Live}
+use Rattle.lls_prooflog.specs.Steps.{clauses_of}
+use Rattle.lls_prooflog.specs.Fresh.{ShowsFresh, is_settled, is_closed}
+use Rattle.lls_prooflog.specs.Spent.{LogState, log_start, log_after, is_addition, EachStep, IsFreshAddition, AddsFresh, IsLateDeletion, DeletesLate, has_variables_once}
 use Rattle.lls_prooflog.proofs.FreshClauses.{no_weaker_clause}
-use Rattle.lls_prooflog.proofs.LiteralLists.{all_from}
-use Rattle.lls_counting.specs.Counting.{HaveSameLiterals, FreshClausesDiffer, number_of, state_after, IsFreshLog, AddedClausesAreFew, AdditionsAreFew, BudgetsDecide, KeptBudgetsDecide}
+use Rattle.lls_counting.specs.Counting.{FreshClausesDiffer, number_of, state_after, IsFreshLog, AddedClausesAreFew, AdditionsAreFew, BudgetsDecide, KeptBudgetsDecide}
 use Rattle.lls_counting.proofs.Digits.{number_below}
 use Rattle.lls_counting.proofs.Sets.{numbers_tell, numbered, part_of_same}
 use Rattle.lls_counting.proofs.Apart.{IsApart, all_push, all_filter, all_map, apart_push, apart_filter, fewer_than_bound}

@@ -1,5 +1,5 @@
 -- How many clauses there are: a clause is a number in base 3, with a digit for each variable. So logs of fresh clauses have an end.
-use Rattle.std.specs.Prelude.{◌≡◌, ◌<◌, ◌≤◌, ◌+◌, ◌-◌, ◌*◌, ◌^◌, ℕ, zero, suc, ℤ, pos, Bool, true, List, length, fold, count_by, if◌then◌else◌}
+use Rattle.std.specs.Prelude.{◌≡◌, ◌<◌, ◌≤◌, ◌+◌, ◌-◌, ◌*◌, ◌^◌, ℕ, zero, suc, ℤ, pos, true, List, length, fold, count_by, if◌then◌else◌}
 use Rattle.std.specs.List.{list_all, Contains}
 use Rattle.lls_lit.specs.Literal.{negation}
 use Rattle.lls_lit.specs.Formula.{Clause, Cnf, is_within}

@@ -1,8 +1,8 @@
 -- Literals and their places in a table of two entries a variable.
-use Rattle.std.proofs.Common.{◌≡◌, ℕ, ◌+◌, ◌-◌, ◌*◌, ◌/◌, ◌%◌, ◌<◌, ◌≤◌, Bool, true, false, cond, eqb, refl, sym, ap, ◌∙◌, arith}
+use Rattle.std.proofs.Common.{◌≡◌, ℕ, ◌+◌, ◌-◌, ◌*◌, ◌/◌, ◌%◌, true, false, cond, eqb, refl, arith}
 use Rattle.std.specs.Prelude.{ℤ, pos, negsuc}
 use Rattle.std.proofs.lemmas.Bool.Decides.{nat_tests}
-use Rattle.lls_lit.specs.Literal.{IsLiteral, variable_of, index_of, literal_at}
+use Rattle.lls_lit.specs.Literal.{IsLiteral, index_of, literal_at}
 
 pub index_of-literal_at : (i : ℕ) → index_of (literal_at i) ≡ i
 index_of-literal_at i =

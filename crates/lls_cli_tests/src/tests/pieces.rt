@@ -18,7 +18,11 @@ fn a_proof_comes_in_pieces(rt: HostRuntime) -> Result<(), Fail> {
         (PROOF, Status::Done, "accepted\n"),
         (b"5 0 1 2 4 0", Status::Done, "accepted\n"),
         (b"5 0 1 2 4 ", Status::Refused, "refused: NoZero 1\n"),
-        (b"5 d 0\r\n\r\n6 0 4 1 0", Status::Refused, "refused: NoConflict 3\n"),
+        (
+            b"5 d 0\r\n\r\n6 0 4 1 0",
+            Status::Refused,
+            "refused: NoConflict 3\n",
+        ),
     ];
     for (proof, status, text) in rows {
         for most in 1..20 {
@@ -50,7 +54,17 @@ fn reads_of_a_proof_fail(rt: HostRuntime) -> Result<(), Fail> {
             is_fault(&rt, alloc, &ended, Status::Outside, "outside: ReadFailed")?;
             assert!(rt; ended.out.bytes().is_empty());
         }
-        let ended = run_over(alloc, &words, ONE_CELL, proof, Failing { most: 6, read: 8, ..NOTHING })?;
+        let ended = run_over(
+            alloc,
+            &words,
+            ONE_CELL,
+            proof,
+            Failing {
+                most: 6,
+                read: 8,
+                ..NOTHING
+            },
+        )?;
         assert_eq!(rt; ended.status, status);
     }
     Ok(())

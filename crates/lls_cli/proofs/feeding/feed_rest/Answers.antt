@@ -1,10 +1,8 @@
-use Rattle.std.proofs.Common.{◌≡◌, ◌<◌, Ok, Err, refl, length, take, drop, sym, ap, ◌∙◌, arith}
+use Rattle.std.proofs.Common.{◌<◌, Ok, length, drop, ap, ◌∙◌, arith}
 use Rattle.std.specs.Option.{option_map}
 use Rattle.lls_base.specs.Shelf.{known_files, known_target, known_rest}
-use Rattle.lls_base.proofs.Faults.{Counts-refl, Counts-trans}
+use Rattle.lls_base.proofs.Faults.{Counts-trans}
 use Rattle.lls_base.proofs.Rest.{known_files-read, known_target-read, known_rest-read, front-read, option_map-drop}
-use Rattle.lls_lrat.specs.Feeding.{FeedState}
-use Rattle.lls_lrat.specs.declared.error.CheckError.TheVariants as errors
 use Rattle.lls_cli.proofs.FedProofs.{HasFed-more, fed_with-is, some_fed, all_read}
 use Rattle.lls_cli.proofs.feeding.feed_rest.Goals as goal
 

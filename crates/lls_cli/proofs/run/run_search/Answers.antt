@@ -1,7 +1,7 @@
 use Rattle.std.proofs.Common.{Ok}
 use Rattle.lls_base.specs.Results.{and_then}
 use Rattle.lls_words.specs.declared.job.Job.TheVariants as jobs
-use Rattle.lls_cli.specs.Question.{asked_with, effort_of, problem_in}
+use Rattle.lls_cli.specs.Question.{asked_with, problem_in}
 use Rattle.lls_cli.specs.Questions as questions
 use Rattle.lls_cli.proofs.Ending.{stopped, job_ended}
 use Rattle.lls_cli.proofs.Stopped.{only_made, only_stopped}

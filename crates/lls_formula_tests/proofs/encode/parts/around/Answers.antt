@@ -1,5 +1,5 @@
 -- The parts of a formula are few.
-use Rattle.std.proofs.Common.{◌≡◌, ◌∙◌, ℕ, ◌+◌, length, ap, arith, length-append}
+use Rattle.std.proofs.Common.{◌≡◌, ◌∙◌, ◌+◌, length, ap, arith, length-append}
 use Rattle.lls_lit.specs.Formula.{Cnf}
 use Rattle.lls_encode.specs.Formula.{front_part}
 use Rattle.lls_encode.proofs.Made.{length-front_part, length-after_part}
