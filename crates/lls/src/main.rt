@@ -4,14 +4,22 @@
 use lls_base::{DiskShelf, StdSink};
 use lls_cli::lack;
 use lls_cli::run::run;
-use std::env;
 use std::io::ErrorKind;
 use std::process::ExitCode;
+use std::{env, fs};
 
 // The status where the system gives no words.
 const NO_WORDS: u8 = 7;
 
+// A file that can be read, and not written to.
+const NOTHING: &str = "/dev/null";
+
 fn main(rt: HostRuntime) -> ExitCode {
+    // Where a standard stream is closed, the next file that is opened gets its number, and what is said would go into that file.
+    // So these numbers are taken first, for as long as the program runs.
+    let _first = fs::open(&rt, NOTHING);
+    let _second = fs::open(&rt, NOTHING);
+    let _third = fs::open(&rt, NOTHING);
     let mut err = StdSink::new(rt.stderr());
     let words = match env::args(&rt) {
         Ok(words) => words,
