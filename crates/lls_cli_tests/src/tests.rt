@@ -3,11 +3,13 @@ mod checks;
 mod demands;
 mod faults;
 mod formulas;
+mod hostile;
 mod judging;
 mod long_shelf;
 mod making;
 mod outside;
 mod pieces;
+mod places;
 mod searches;
 
 use lls_base::{MemShelf, MemSink, Name, Plan};
