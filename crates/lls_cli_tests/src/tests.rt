@@ -28,7 +28,8 @@ fn words_of(alloc: Global, text: &str) -> Result<Vec<String>, AllocError> {
     Ok(words)
 }
 
-// Which calls fail, by their numbers from 1 on, 0 for none; and how many bytes a read or a write of a file takes at most.
+// Which calls fail, by their numbers from 1 on, 0 for none; how many bytes a read or a write of a file takes at most, and how many a
+// write to the standard output.
 #[derive(Clone, Copy)]
 struct Failing {
     open: u64,
@@ -38,6 +39,7 @@ struct Failing {
     out: u64,
     err: u64,
     most: usize,
+    step: usize,
 }
 
 const NOTHING: Failing = Failing {
@@ -48,6 +50,7 @@ const NOTHING: Failing = Failing {
     out: 0,
     err: 0,
     most: 1000,
+    step: 3,
 };
 
 // A shelf with the files `f` and `p`.
@@ -73,7 +76,7 @@ struct Ended {
     err: MemSink,
 }
 
-// Runs words over a shelf with these files. A write to the standard output takes three bytes.
+// Runs words over a shelf with these files.
 fn run_over(
     alloc: Global,
     words: &[String],
@@ -82,7 +85,7 @@ fn run_over(
     failing: Failing,
 ) -> Result<Ended, AllocError> {
     let mut shelf = shelf_of(alloc, f, p, failing)?;
-    let mut out = MemSink::new(alloc, vec![in alloc; failing.out]?, 3);
+    let mut out = MemSink::new(alloc, vec![in alloc; failing.out]?, failing.step.max(1));
     let mut err = MemSink::new(alloc, vec![in alloc; failing.err]?, 1000);
     let status = run(alloc, words, &mut shelf, &mut out, &mut err);
     Ok(Ended {

@@ -172,3 +172,25 @@ fn every_place_fails(rt: HostRuntime) -> Result<(), Fail> {
     }
     Ok(())
 }
+
+#[test]
+fn an_output_that_takes_five_bytes_fails(rt: HostRuntime) -> Result<(), Fail> {
+    let blinker = "0 0 0\n1 1 1\n0 0 0\n\n* * *\n* * *\n* * *\n";
+    let text = "0 0 0\n1 1 1\n0 0 0\n\n0 1 0\n0 1 0\n0 1 0\n";
+    let case = case_of("search f q", blinker, "", 1, text, Status::Pattern);
+    let failing = Failing {
+        out: 3,
+        step: 5,
+        ..NOTHING
+    };
+    outputs_fail(&rt, rt.alloc(), &case)?;
+    fails(
+        &rt,
+        rt.alloc(),
+        &case,
+        failing,
+        "outside: OutFailed",
+        10,
+        None,
+    )
+}
