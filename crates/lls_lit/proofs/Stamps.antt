@@ -1,5 +1,5 @@
 -- The literals of a table of stamps.
-use Rattle.std.proofs.Common.{◌≡◌, ℕ, zero, suc, ◌+◌, ◌*◌, ◌<◌, ◌≤◌, ◌≢◌, Bool, true, false, ◌||◌, cond, eqb, List, [], ◌∷◌, length, get_or, set, refl, sym, ap, ◌∙◌, arith, add-zero, zero-add, eq-eqb}
+use Rattle.std.proofs.Common.{◌≡◌, ℕ, zero, suc, ◌+◌, ◌*◌, ◌<◌, ◌≤◌, ◌≢◌, Bool, true, false, not, ◌&&◌, ◌||◌, cond, eqb, List, [], ◌∷◌, length, get_or, set, refl, sym, ap, ◌∙◌, arith, add-zero, zero-add, eq-eqb}
 use Rattle.std.specs.Prelude.{ℤ, pos, negsuc, All}
 use Rattle.std.specs.List.{list_any}
 use Rattle.std.specs.Ordering.{int_cmp, int_eq}
@@ -61,6 +61,36 @@ none_before i (s ∷ ss) stamp q lt =
       | false ↦ rest
     ]
 
+-- to give a place another stamp is to take its literal out
+any-unset : (i : ℕ) (ss : List ℕ) (j stamp old : ℕ) (q : ℤ) → j < length ss → old < stamp → list_any (int_eq q) (stamped i (set ss j old) stamp) ≡ (not (int_eq q (literal_at (i + j))) && list_any (int_eq q) (stamped i ss stamp))
+any-unset i [] j stamp old q lt before = absurd (omega arith)
+any-unset i (s ∷ ss) zero stamp old q lt before =
+    let rest = stamped (i + 1) ss stamp in
+    let other : eqb old stamp ≡ false = grind (arith, nat_tests) in
+    let gone : list_any (int_eq q) rest ≡ (not (int_eq q (literal_at i)) && list_any (int_eq q) (cond (eqb s stamp) (literal_at i ∷ rest) rest)) =
+        elim (int_eq q (literal_at i)) as (λ h. int_eq q (literal_at i) ≡ h → list_any (int_eq q) rest ≡ (not h && list_any (int_eq q) (cond (eqb s stamp) (literal_at i ∷ rest) rest))) [
+          | true ↦ λ is. none_before (i + 1) ss stamp q (let at : index_of q ≡ i = ap index_of ((Decides-int_eq q (literal_at i)).0 is) ∙ index_of-literal_at i in omega (arith, at))
+          | false ↦ λ is. elim (eqb s stamp) as (λ b. list_any (int_eq q) rest ≡ list_any (int_eq q) (cond b (literal_at i ∷ rest) rest)) [ true ↦ rw is refl | false ↦ refl ]
+        ] refl
+    in rw (other, add-zero) gone
+any-unset i (s ∷ ss) (suc j) stamp old q lt before =
+    let were = stamped (i + 1) ss stamp in
+    let now = stamped (i + 1) (set ss j old) stamp in
+    let place : i + suc j ≡ i + 1 + j = omega arith in
+    let there = int_eq q (literal_at (i + suc j)) in
+    let fewer : list_any (int_eq q) now ≡ (not there && list_any (int_eq q) were) = rw place (any-unset (i + 1) ss j stamp old q (omega arith) before) in
+    let here_no_more : there ≡ true → int_eq q (literal_at i) ≡ false =
+        λ is. not_there i q (λ same. let at : index_of q ≡ i + suc j = ap index_of ((Decides-int_eq q (literal_at (i + suc j))).0 is) ∙ index_of-literal_at (i + suc j) in omega (arith, same, at))
+    in
+    elim (eqb s stamp) as (λ b. list_any (int_eq q) (cond b (literal_at i ∷ now) now) ≡ (not there && list_any (int_eq q) (cond b (literal_at i ∷ were) were))) [
+      | true ↦ ap (λ b. int_eq q (literal_at i) || b) fewer ∙ and_or (int_eq q (literal_at i)) there (list_any (int_eq q) were) here_no_more
+      | false ↦ fewer
+    ]
+  where
+    and_or : (a b c : Bool) → (b ≡ true → a ≡ false) → (a || (not b && c)) ≡ (not b && (a || c))
+    and_or a true c apart = rw (apart refl) refl
+    and_or a false c apart = refl
+
 -- a literal is there where its place has the stamp
 any-stamped : (i : ℕ) (ss : List ℕ) (j stamp : ℕ) (q : ℤ) → IsLiteral q → index_of q ≡ i + j → j < length ss → list_any (int_eq q) (stamped i ss stamp) ≡ eqb (get_or ss j 0) stamp
 any-stamped i [] j stamp q h e lt = absurd (omega arith)
@@ -100,6 +130,15 @@ marked-put vars stamps stamp l h lt =
     ∙ any-set 0 stamps (index_of l) stamp q lt
     ∙ ap (λ m. int_eq q m || list_any (int_eq q) (stamped 0 stamps stamp)) (ap literal_at (zero-add (index_of l)) ∙ literal_at-index_of l h)
     ∙ sym (members.contains-insert int_cmp_total (members.from_list (stamped 0 stamps stamp)) l q ∙ ap (λ b. int_eq q l || b) (members.contains-from_list int_cmp_total (stamped 0 stamps stamp) q))))
+
+pub marked-take : (vars : ℕ) (stamps : List ℕ) (stamp old : ℕ) (l : ℤ) → IsLiteral l → index_of l < length stamps → old < stamp → marked vars (set stamps (index_of l) old) stamp ≡ record { vars = vars; lits = members.remove (members.from_list (stamped 0 stamps stamp)) l }
+marked-take vars stamps stamp old l h lt before =
+    ap (λ s. record { vars = vars; lits = s })
+    (members.same_set int_cmp_total members.int_cmp-IsAntisymmetric _ _ (λ q.
+    members.contains-from_list int_cmp_total (stamped 0 (set stamps (index_of l) old) stamp) q
+    ∙ any-unset 0 stamps (index_of l) stamp old q lt before
+    ∙ ap (λ m. not (int_eq q m) && list_any (int_eq q) (stamped 0 stamps stamp)) (ap literal_at (zero-add (index_of l)) ∙ literal_at-index_of l h)
+    ∙ sym (members.contains-remove int_cmp_total (members.from_list (stamped 0 stamps stamp)) l q ∙ ap (λ b. not (int_eq q l) && b) (members.contains-from_list int_cmp_total (stamped 0 stamps stamp) q))))
 
 pub contains-marked : (stamps : List ℕ) (stamp : ℕ) (l : ℤ) → IsLiteral l → index_of l < length stamps → members.contains (members.from_list {R = int_cmp} (stamped 0 stamps stamp)) l ≡ eqb (get_or stamps (index_of l) 0) stamp
 contains-marked stamps stamp l h lt =

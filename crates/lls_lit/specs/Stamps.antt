@@ -18,3 +18,4 @@ pub record AreStamps (vars : ℕ) (stamps : List ℕ) (stamp : ℕ) : Type 0 whe
   pub vars_fit : vars ≤ MOST
   pub two_each : length stamps ≡ 2 * vars
   pub none_above : All (λ s. s ≤ stamp) stamps
+  pub some : 1 ≤ stamp

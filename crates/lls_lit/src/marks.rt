@@ -61,6 +61,14 @@ impl Marks {
         self.stamps[lit.index()] = self.stamp;
     }
 
+    /// Takes a literal out.
+    pub fn take(&mut self, lit: Lit)
+        requires { variable_of lit ≤ self.old.vars }
+        ensures { self.new ≡ record self.old { lits = set.remove self.old.lits lit } }
+    {
+        self.stamps[lit.index()] = self.stamp - 1;
+    }
+
     /// Whether a literal is in the set.
     pub fn has(&self, lit: Lit) -> bool
         requires { variable_of lit ≤ self.now.vars }
@@ -82,6 +90,7 @@ fn renewed(stamps: &mut [u32], stamp: u32) -> u32
     requires { All (λ s. s ≤ stamp) stamps.old }
     ensures len { length stamps.new ≡ length stamps.old }
     ensures newer { All (λ s. s < result) stamps.new }
+    ensures some { 1 ≤ result }
 {
     if stamp == u32::MAX {
         stamps.fill(0);

@@ -11,6 +11,7 @@ use Rattle.lls_lit.specs.Formula.{Clause, Cnf, is_literal_of, is_within}
 use Rattle.lls_cnf.proofs.Within.{is_within-more}
 use Rattle.lls_prooflog.specs.declared.step.Step.TheVariants.{Add, Del}
 use Rattle.lls_prooflog.specs.Steps.{Live, numbered, find_clause, unit_walk, fault_of, after, is_empty_addition}
+use Rattle.lls_prooflog.proofs.Proper.{AreProper-numbered, AreProper-after}
 use Rattle.lls_prooflog.proofs.Soundness.{KeepsSatisfiable-numbered, KeepsSatisfiable-after, unsatisfiable_at_empty}
 use Rattle.lls_lrat.specs.Hinted.{are_within}
 use Rattle.lls_lrat.specs.Checking.{IsChecking}

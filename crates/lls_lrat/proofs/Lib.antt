@@ -3,7 +3,6 @@ pub mod Indexed
 pub mod Flagged
 pub mod Found
 pub mod Lefts
-pub mod Walked
 pub mod Within
 pub mod Checks
 pub mod Verdicts

@@ -6,21 +6,13 @@ use Rattle.lls_lit.specs.Literal.{variable_of, negation}
 use Rattle.lls_lit.specs.Formula.{Clause, is_literal_of, is_within}
 use Rattle.lls_cnf.proofs.Elements.{passes_at}
 use Rattle.lls_prooflog.specs.UnitWalk.{Live, find_clause}
-use Rattle.lls_prooflog.proofs.Soundness.{found_passes}
+use Rattle.lls_prooflog.proofs.Walks.{found_passes}
 use Rattle.std.proofs.lemmas.List.Folds.{list_all-map}
-use Rattle.lls_lrat.specs.Hinted.{are_within, known_clause, hinted_clause}
+use Rattle.lls_lrat.specs.Hinted.{are_within}
 use Rattle.std.proofs.lemmas.Bool.{and_parts}
 
-found_within : (vars : ℕ) (live : Live) (id : ℕ) (clause : Clause) → are_within vars live ≡ true → find_clause live id ≡ Some clause → is_within vars clause ≡ true
+pub found_within : (vars : ℕ) (live : Live) (id : ℕ) (clause : Clause) → are_within vars live ≡ true → find_clause live id ≡ Some clause → is_within vars clause ≡ true
 found_within vars live id clause all e = found_passes (is_within vars) live id clause (list_all-map (is_within vars) (λ (pair : ℕ × Clause). pair.1) live ∙ all) e
-
-pub hinted_within : (vars : ℕ) (live : Live) (hint : ℤ) (clause : Clause) → are_within vars live ≡ true → hinted_clause live hint ≡ Ok clause → is_within vars clause ≡ true
-hinted_within vars live (pos id) clause all e =
-    elim (find_clause live id) as (λ o. find_clause live id ≡ o → known_clause (pos id) o ≡ Ok clause → is_within vars clause ≡ true) [
-      | None ↦ λ _ h. absurd cc
-      | Some found ↦ λ is h. let same : found ≡ clause = cc in found_within vars live id clause all (is ∙ ap (λ (c : Clause). Some c) same)
-    ] refl e
-hinted_within vars live (negsuc n) clause all e = absurd cc
 
 -- a literal of a clause that is within the variables
 pub literal_within : (vars : ℕ) (clause : Clause) (i : ℕ) (d : ℤ) → is_within vars clause ≡ true → i < length clause → variable_of (get_or clause i d) ≤ vars

@@ -3,7 +3,7 @@ use Rattle.std.specs.Prelude.{◌≡◌, ℕ, ◌+◌, [], ◌∷◌, length, Bo
 use Rattle.lls_lit.specs.Formula.{Cnf, IsUnsatisfiable}
 use Rattle.lls_prooflog.specs.declared.step.Step.{Step}
 use Rattle.lls_prooflog.specs.declared.step_fault.StepFault.{StepFault}
-use Rattle.lls_prooflog.specs.Steps.{Live, fault_of, after, is_empty_addition, KeepsSatisfiable}
+use Rattle.lls_prooflog.specs.Steps.{Live, fault_of, after, is_empty_addition, ids_differ, KeepsSatisfiable}
 use Rattle.lls_lrat.specs.Hinted.{are_within}
 use Rattle.lls_lrat.specs.declared.checker.Progress.{Progress}
 use Rattle.lls_lrat.specs.declared.checker.Progress.TheVariants.{Going, Done}
@@ -34,8 +34,9 @@ abbrev pub progress_of : Bool → Progress
 progress_of true = Done
 progress_of false = Going
 
--- what holds of the parts of a checker, whose marks reach to the variable
+-- what holds of the parts of a checker, with room for literals of the variables up to this one
 pub record IsChecking (formula : Cnf) (live : Live) (vars : ℕ) (done : Bool) : Type 0 where
   pub within : are_within vars live ≡ true
+  pub apart : ids_differ live ≡ true
   pub kept : KeepsSatisfiable formula live
   pub refuted : done ≡ true → IsUnsatisfiable formula

@@ -3,7 +3,9 @@ pub mod Stored
 pub mod Placed
 pub mod Hinted
 pub mod Left
-pub mod Assumed
+pub mod Entered
+pub mod Walked
+pub mod Grouped
 pub mod Checking
 pub mod Verdict
 pub mod UnderWay

@@ -1,13 +1,15 @@
 // The live clauses that steps added.
-ghost use Rattle.std.specs.Prelude.{◌≡◌, ◌≤◌, ℕ, ◌+◌, ◌*◌, ◌/◌, ◌<◌, true, not, [], ◌∷◌, ◌++◌, length, OnOk, OnErr, IfOk, Some, None, filter, is_ok, if◌then◌else◌, ◌==◌};
+ghost use Rattle.std.specs.Prelude.{◌≡◌, ◌≤◌, ℕ, ◌+◌, ◌*◌, ◌/◌, ◌<◌, true, not, [], ◌∷◌, ◌++◌, length, OnOk, OnErr, IfOk, Some, None, filter, find, is_ok, if◌then◌else◌, ◌==◌};
 ghost use Rattle.std.specs.List.{zip};
-ghost use Rattle.std.specs.Option.{option_copied};
+ghost use Rattle.std.specs.Option.{option_copied, option_map};
 ghost use Rattle.lls_prooflog.specs.UnitWalk.{find_clause};
 ghost use Rattle.lls_lrat.specs.Placed.{place_of};
 ghost use Rattle.lls_lrat.specs.Checking.{literals_of};
+ghost use Rattle.lls_lrat.specs.Grouped.{is_lacking};
 ghost use Rattle.lls_lrat.specs.Stored.{kept, literals_in};
 
 use crate::buffer::{Buffer, leads_to};
+use crate::given::is_lacking;
 use crate::places::Places;
 use lls_base::Memory;
 use lls_lit::Lit;
@@ -80,6 +82,20 @@ impl Added {
     {
         let place = self.places.get(id)?;
         Some(self.clauses.clause(place as usize))
+    }
+
+    /// The id of the first clause that holds the literal and has none of these ids.
+    pub(crate) fn first_lacking(&self, lit: Lit, ids: &[u64]) -> Option<u64>
+        ensures { result ≡ option_map (λ pair. pair.0) (find (is_lacking lit ids.now) self.now) }
+    {
+        for place in 0..self.ids.len() {
+            let id = self.ids[place];
+            let is_live = leads_to(self.places.get(id), place);
+            if is_live && is_lacking(self.clauses.clause(place), id, lit, ids) {
+                return Some(id);
+            }
+        }
+        None
     }
 
     /// Puts a clause at the end. After `Memory` the clauses are as before.

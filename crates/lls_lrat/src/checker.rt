@@ -8,14 +8,15 @@ ghost use Rattle.lls_prooflog.specs.Log.{step_of_ref};
 ghost use Rattle.lls_base.specs.Results.{GivesWrapped};
 ghost use Rattle.lls_prooflog.specs.declared.step.Step.TheVariants.{Add};
 
+use crate::assumed::Assumed;
 use crate::checked::Checked;
 use crate::error::CheckError;
 use crate::live::LiveClauses;
+use crate::pivot::check_hints;
 use crate::refusal::Refusal;
-use crate::walk::follow_hints;
 use lls_base::Memory;
 use lls_cnf::Formula;
-use lls_lit::{Lit, Marks, Var};
+use lls_lit::Lit;
 use lls_prooflog::{HintsRef, Step, StepFault, StepRef};
 use std::alloc::Global;
 use std::marker::Model;
@@ -39,7 +40,7 @@ pub struct Checker<'f> {
     alloc: Global,
     formula: &'f Formula,
     live: LiveClauses<'f>,
-    marks: Marks,
+    assumed: Assumed,
     done: bool,
 }
 
@@ -50,7 +51,7 @@ impl<'f> Model for Checker<'f> {
 
     ghost view = { λ c. record { formula = c.formula.now; live = c.live.all; added = c.live.added; done = c.done } };
 
-    ghost invariant = { λ c. IsChecking c.formula.now c.live.all c.marks.vars c.done };
+    ghost invariant = { λ c. IsChecking c.formula.now c.live.all c.assumed.vars c.done };
 }
 
 impl<'f> Checker<'f> {
@@ -66,12 +67,12 @@ impl<'f> Checker<'f> {
         }) }
     {
         let live = LiveClauses::new(alloc, formula)?;
-        let marks = Marks::new(alloc, formula.vars())?;
+        let assumed = Assumed::new(alloc, formula.vars())?;
         Ok(Checker {
             alloc,
             formula,
             live,
-            marks,
+            assumed,
             done: false,
         })
     }
@@ -161,8 +162,8 @@ impl<'f> Checker<'f> {
         if self.live.find(id).is_some() {
             return Err(StepFault::IdLive(id).into());
         }
-        reach(self.alloc, &mut self.marks, lits)?;
-        follow_hints(&self.live, &mut self.marks, lits, hints)?;
+        assume(self.alloc, &mut self.assumed, lits)?;
+        check_hints(self.alloc, &self.live, &mut self.assumed, lits, hints)?;
         self.live.push(id, lits)?;
         if lits.is_empty() {
             self.done = true;
@@ -172,15 +173,15 @@ impl<'f> Checker<'f> {
     }
 }
 
-// Makes the marks reach to the variables of the literals. The set may be emptied.
-fn reach(alloc: Global, marks: &mut Marks, lits: &[Lit]) -> Result<(), Memory>
-    ensures ok { OnOk result (is_within marks.new.vars lits.now ≡ true) }
-    ensures grown { marks.old.vars ≤ marks.new.vars }
+// Takes just these literals as false, and makes room for their variables.
+fn assume(alloc: Global, assumed: &mut Assumed, lits: &[Lit]) -> Result<(), Memory>
+    ensures lits { OnOk result (assumed.new.lits ≡ lits.now) }
+    ensures within { OnOk result (is_within assumed.new.vars lits.now ≡ true) }
+    ensures grown { assumed.old.vars ≤ assumed.new.vars }
 {
-    let most = greatest_variable(lits);
-    let vars = marks.vars();
-    if most > vars {
-        *marks = Marks::new(alloc, most.max((2 * vars).min(Var::MOST)))?;
+    assumed.begin(alloc, greatest_variable(lits))?;
+    for lit in lits {
+        assumed.put(*lit)?;
     }
     Ok(())
 }

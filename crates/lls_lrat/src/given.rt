@@ -1,8 +1,9 @@
 // The live clauses of the formula.
-ghost use Rattle.std.specs.Prelude.{◌≡◌, ℕ, ◌<◌, true, not, Some, None, IfSome, IfOk, filter, length, slice_get, replicate, if◌then◌else◌, ◌==◌};
-ghost use Rattle.std.specs.Option.{option_copied};
-ghost use Rattle.lls_prooflog.specs.UnitWalk.{numbered, find_clause};
+ghost use Rattle.std.specs.Prelude.{◌≡◌, ℕ, ◌<◌, true, not, Some, None, IfSome, IfOk, filter, length, slice_get, replicate, find, if◌then◌else◌, ◌==◌};
+ghost use Rattle.std.specs.Option.{option_copied, option_map};
+ghost use Rattle.lls_prooflog.specs.UnitWalk.{numbered, find_clause, is_among};
 ghost use Rattle.lls_lrat.specs.Stored.{flagged};
+ghost use Rattle.lls_lrat.specs.Grouped.{is_lacking};
 
 use lls_base::Memory;
 use lls_cnf::Formula;
@@ -47,12 +48,39 @@ impl<'f> Given<'f> {
         Some(self.formula.clause(place))
     }
 
+    /// The id of the first clause that holds the literal and has none of these ids.
+    pub(crate) fn first_lacking(&self, lit: Lit, ids: &[u64]) -> Option<u64>
+        ensures { result ≡ option_map (λ pair. pair.0) (find (is_lacking lit ids.now) self.now) }
+    {
+        for place in 0..self.live.len() {
+            let id = place as u64 + 1;
+            if self.live[place] && is_lacking(self.formula.clause(place), id, lit, ids) {
+                return Some(id);
+            }
+        }
+        None
+    }
+
     /// Takes the clause of the id out, if there is one.
     pub(crate) fn remove(&mut self, id: u64)
         ensures { self.new ≡ filter (λ pair. not (id == pair.0)) self.old }
     {
         clear_flag(&mut self.live, id);
     }
+}
+
+/// Whether a clause of that id holds the literal, and the id is none of these.
+pub(crate) fn is_lacking(clause: &[Lit], id: u64, lit: Lit, ids: &[u64]) -> bool
+    ensures { result ≡ is_lacking lit ids.now (id, clause.now) }
+{
+    holds(clause, lit) && !ids.contains(&id)
+}
+
+/// Whether a clause holds the literal.
+pub(crate) fn holds(clause: &[Lit], lit: Lit) -> bool
+    ensures { result ≡ is_among clause.now lit }
+{
+    clause.iter().any(|other| lit == *other)
 }
 
 // The place of the live clause of an id.

@@ -2,6 +2,7 @@
 #![tactic(auto)]
 
 mod added;
+mod assumed;
 mod buffer;
 mod bytes;
 mod checked;
@@ -12,6 +13,7 @@ mod given;
 mod line_checker;
 mod live;
 mod log;
+mod pivot;
 mod places;
 mod refusal;
 mod walk;

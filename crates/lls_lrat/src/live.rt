@@ -1,10 +1,11 @@
 // The live clauses with their ids.
-ghost use Rattle.std.specs.Prelude.{◌≡◌, ◌≤◌, ◌+◌, ◌*◌, not, [], ◌∷◌, ◌++◌, OnOk, OnErr, IfOk, None, filter, ◌==◌};
+ghost use Rattle.std.specs.Prelude.{◌≡◌, ◌≤◌, ◌+◌, ◌*◌, not, [], ◌∷◌, ◌++◌, OnOk, OnErr, IfOk, None, filter, find, ◌==◌};
 ghost use Rattle.std.specs.List.{list_any};
-ghost use Rattle.std.specs.Option.{option_copied};
+ghost use Rattle.std.specs.Option.{option_copied, option_map};
 ghost use Rattle.lls_prooflog.specs.Lent.{ids_of};
 ghost use Rattle.lls_prooflog.specs.UnitWalk.{numbered, find_clause};
 ghost use Rattle.lls_lrat.specs.Checking.{literals_of};
+ghost use Rattle.lls_lrat.specs.Grouped.{is_lacking};
 
 use crate::added::Added;
 use crate::given::Given;
@@ -46,6 +47,16 @@ impl<'f> LiveClauses<'f> {
         match self.given.find(id) {
             Some(clause) => Some(clause),
             None => self.added.find(id),
+        }
+    }
+
+    /// The id of the first clause that holds the literal and has none of these ids.
+    pub(crate) fn first_lacking(&self, lit: Lit, ids: &[u64]) -> Option<u64>
+        ensures { result ≡ option_map (λ pair. pair.0) (find (is_lacking lit ids.now) self.now.all) }
+    {
+        match self.given.first_lacking(lit, ids) {
+            Some(id) => Some(id),
+            None => self.added.first_lacking(lit, ids),
         }
     }
 

@@ -1,20 +1,20 @@
-// Unit propagation by hints, over marked literals.
-ghost use Rattle.std.specs.Prelude.{◌≡◌, true, not, Ok, Err, IfOk, IfErr, filter};
-ghost use Rattle.std.specs.List.{list_all};
-ghost use Rattle.std.specs.FinSet as set;
-ghost use Rattle.std.specs.Result.{result_err};
-ghost use Rattle.lls_lit.specs.Formula.{is_within};
-ghost use Rattle.lls_prooflog.specs.UnitWalk.{unit_walk};
+// Unit propagation by hints, over literals that are taken as false.
+ghost use Rattle.std.specs.Prelude.{◌≡◌, ◌≤◌, true, not, Ok, Err, IfOk, filter, length, drop, option_map};
+ghost use Rattle.lls_prooflog.specs.UnitWalk.{remaining};
 ghost use Rattle.lls_prooflog.specs.Lent.{hints_of};
-ghost use Rattle.lls_lrat.specs.Left.{left_in, IsOneWithin};
-ghost use Rattle.lls_lrat.specs.Hinted.{are_within, hinted_clause};
-ghost use Rattle.lls_lrat.specs.Assumed.{assumed_after, IsConflictAt};
+ghost use Rattle.lls_prooflog.specs.Pieces.{Begins};
+ghost use Rattle.lls_lit.specs.Formula.{is_within};
+ghost use Rattle.lls_lrat.specs.Left.{left_in, IsOneWithin, IsSomeWithin};
+ghost use Rattle.lls_lrat.specs.Hinted.{are_within};
+ghost use Rattle.lls_lrat.specs.Walked.{left_by, walk_from, EndsAs};
 
+use crate::assumed::Assumed;
 use crate::live::LiveClauses;
-use lls_lit::{Lit, Marks};
+use crate::refusal::Refusal;
+use lls_lit::Lit;
 use lls_prooflog::{HintsRef, StepFault};
 
-// The different literals of a clause that aren't marked.
+// The different literals of a clause that aren't taken as false.
 #[derive(Clone, Copy, Debug)]
 enum Left {
     Nothing,
@@ -22,75 +22,65 @@ enum Left {
     More,
 }
 
-/// Follows the hints to a conflict where the literals are taken as false, and answers how many hints it looked at. The marks
-/// begin anew, and hold what is taken as false at the end.
+/// How a walk along hints ends that meets no fault.
+#[derive(Clone, Copy, Debug)]
+pub(crate) enum WalkEnd {
+    /// Nothing is left of a clause. So many hints, from the first of the step on, stand up to that of the clause.
+    Conflict(usize),
+    /// The hints from this place on weren't followed: the first of them is negative, or there is none.
+    Open(usize),
+}
+
+/// Follows the hints from a place on: of each clause one literal may be left, whose negation is taken as false then.
 pub(crate) fn follow_hints(
     live: &LiveClauses,
-    marks: &mut Marks,
-    lits: &[Lit],
+    assumed: &mut Assumed,
     hints: HintsRef,
-) -> Result<usize, StepFault>
-    requires lits { is_within marks.old.vars lits.now ≡ true }
-    requires live { are_within marks.old.vars live.now.all ≡ true }
-    ensures exact { result_err result ≡ unit_walk live.now.all lits.now (hints_of hints.entry) }
-    ensures count { IfOk result (IsConflictAt live.now.all lits.now (hints_of hints.entry)) }
-    ensures lits { marks.new.lits ≡ set.from_list (assumed_after live.now.all lits.now (hints_of hints.entry)) }
-    ensures vars { marks.new.vars ≡ marks.old.vars }
+    from: usize,
+) -> Result<WalkEnd, Refusal>
+    requires place { from ≤ length (hints_of hints) }
+    requires within { are_within assumed.old.vars live.now.all ≡ true }
+    ensures exact { EndsAs result assumed.new.lits
+        (walk_from live.now.all assumed.old.lits from (drop from (hints_of hints.entry))) }
+    ensures begins { Begins assumed.old.lits assumed.new.lits }
+    ensures vars { assumed.new.vars ≡ assumed.old.vars }
 {
-    mark_all(marks, lits);
-    for k in 0..hints.len() {
+    for k in from..hints.len() {
         let hint = hints.get(k);
-        let clause = hinted(live, &hint)?;
-        match unmarked(clause, marks) {
-            Left::Nothing => return Ok(k + 1),
-            Left::One(lit) => marks.put(lit.negated()),
-            Left::More => return Err(not_unit(&hint)),
+        match left_by(live, assumed, hint)? {
+            Some(Left::Nothing) => return Ok(WalkEnd::Conflict(k + 1)),
+            Some(Left::One(lit)) => assumed.put(lit.negated())?,
+            Some(Left::More) => return Err(StepFault::NotUnit(hint).into()),
+            None => return Ok(WalkEnd::Open(k)),
         }
     }
-    Err(StepFault::NoConflict)
+    Ok(WalkEnd::Open(hints.len()))
 }
 
-// Marks these literals and no others.
-fn mark_all(marks: &mut Marks, lits: &[Lit])
-    requires { is_within marks.old.vars lits.now ≡ true }
-    ensures { marks.new ≡ record marks.old { lits = set.from_list lits.now } }
+// What is left of the clause of a hint. A negative hint has no clause.
+fn left_by(live: &LiveClauses, assumed: &Assumed, hint: i64) -> Result<Option<Left>, StepFault>
+    requires { are_within assumed.now.vars live.now.all ≡ true }
+    ensures exact { result ≡ left_by live.now.all assumed.now.lits hint }
+    ensures within { IfOk result (λ left. IsSomeWithin assumed.now.vars left) }
 {
-    marks.clear();
-    for lit in lits {
-        marks.put(*lit);
+    if hint < 0 {
+        return Ok(None);
+    }
+    match live.find(hint as u64) {
+        Some(clause) => Ok(Some(unmarked(clause, assumed))),
+        None => Err(StepFault::NoClause(hint)),
     }
 }
 
-// The clause of a hint. A negative hint has none.
-fn hinted<'a>(live: &'a LiveClauses, hint: &i64) -> Result<&'a [Lit], StepFault>
-    ensures clause { IfOk result (λ clause. hinted_clause live.now.all hint.now ≡ Ok clause.now) }
-    ensures fault { IfErr result (λ fault. hinted_clause live.now.all hint.now ≡ Err fault) }
-{
-    if *hint < 0 {
-        return Err(StepFault::RatHint(*hint));
-    }
-    match live.find(*hint as u64) {
-        Some(clause) => Ok(clause),
-        None => Err(StepFault::NoClause(*hint)),
-    }
-}
-
-// The fault of a hint whose clause has two literals left.
-fn not_unit(hint: &i64) -> StepFault
-    ensures { result ≡ StepFault.NotUnit hint.now }
-{
-    StepFault::NotUnit(*hint)
-}
-
-// What is left of a clause without the marked literals.
-fn unmarked(clause: &[Lit], marks: &Marks) -> Left
-    requires { is_within marks.now.vars clause.now ≡ true }
-    ensures left { result ≡ left_in (filter (λ l. not (set.contains marks.now.lits l)) clause.now) }
-    ensures within { IsOneWithin marks.now.vars result }
+// What is left of a clause without the literals that are taken as false.
+fn unmarked(clause: &[Lit], assumed: &Assumed) -> Left
+    requires { is_within assumed.now.vars clause.now ≡ true }
+    ensures left { result ≡ left_in (remaining assumed.now.lits clause.now) }
+    ensures within { IsOneWithin assumed.now.vars result }
 {
     let mut found = None;
     for lit in clause {
-        if marks.has(*lit) {
+        if assumed.has(*lit) {
             continue;
         }
         match found {

@@ -13,7 +13,7 @@ use Rattle.lls_prooflog.specs.declared.step_fault.StepFault.TheVariants.{NotUnit
 use Rattle.lls_prooflog.specs.UnitWalk.{Live, find_clause, is_among, remaining, at_clause, at_hint, unit_walk}
 use Rattle.lls_prooflog.specs.Steps.{clauses_of}
 use Rattle.lls_prooflog.proofs.LiteralLists.{same_literal, passes_among, none_passes, all_from, filter_passes, any_kept, any_of_more, true_alone, negation-negation}
-use Rattle.lls_prooflog.proofs.Soundness.{found_passes}
+use Rattle.lls_prooflog.proofs.Walks.{found_passes}
 use Rattle.lls_prooflog.specs.Fresh.{is_not_false, is_consistent, has_two, is_settled, is_closed, ShowsFresh, NoWeakerClauseIsFresh, NoHintsRefuteWhereFresh}
 
 -- equal literals are no two

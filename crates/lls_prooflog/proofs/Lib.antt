@@ -1,4 +1,7 @@
 pub mod LiteralLists
+pub mod Walks
+pub mod Proper
+mod Turned
 pub mod Soundness
 pub mod Lists
 mod Given

@@ -7,7 +7,7 @@ use Rattle.lls_prooflog.specs.declared.line_fault.LineFault.TheVariants.{BadWord
 use Rattle.lls_prooflog.specs.declared.line_error.LineError.{LineError}
 use Rattle.lls_prooflog.specs.declared.line_error.LineError.TheVariants.{Fault, Memory}
 use Rattle.lls_prooflog.specs.declared.step_fault.StepFault.{StepFault}
-use Rattle.lls_prooflog.specs.declared.step_fault.StepFault.TheVariants.{IdLive, NoClause, NotUnit, NoConflict, RatHint}
+use Rattle.lls_prooflog.specs.declared.step_fault.StepFault.TheVariants.{IdLive, NoClause, NotUnit, NoConflict, RatMissing, RatOther}
 use Rattle.lls_prooflog.specs.declared.step_fault.Culprit.{Culprit}
 use Rattle.lls_prooflog.specs.declared.step_fault.Culprit.TheVariants.{Id, Hint}
 
@@ -40,7 +40,8 @@ step_fault_name (IdLive id) = codes "IdLive"
 step_fault_name (NoClause hint) = codes "NoClause"
 step_fault_name (NotUnit hint) = codes "NotUnit"
 step_fault_name NoConflict = codes "NoConflict"
-step_fault_name (RatHint hint) = codes "RatHint"
+step_fault_name (RatMissing id) = codes "RatMissing"
+step_fault_name (RatOther id) = codes "RatOther"
 
 -- the id or the hint that is at fault
 abbrev pub culprit_of : StepFault → Option Culprit
@@ -48,7 +49,8 @@ culprit_of (IdLive id) = Some (Id id)
 culprit_of (NoClause hint) = Some (Hint hint)
 culprit_of (NotUnit hint) = Some (Hint hint)
 culprit_of NoConflict = None
-culprit_of (RatHint hint) = Some (Hint hint)
+culprit_of (RatMissing id) = Some (Id id)
+culprit_of (RatOther id) = Some (Id id)
 
 abbrev pub culprit_text : Culprit → List ℕ
 culprit_text (Id id) = decimal id

@@ -1,4 +1,5 @@
 pub mod UnitWalk
+pub mod Rat
 pub mod Steps
 pub mod Worked
 pub mod Range

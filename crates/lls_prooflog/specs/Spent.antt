@@ -6,7 +6,7 @@ use Rattle.lls_lit.specs.Formula.{Clause, Cnf, is_within}
 use Rattle.lls_prooflog.specs.declared.step.Step.{Step}
 use Rattle.lls_prooflog.specs.declared.step.Step.TheVariants.{Add, Del}
 use Rattle.lls_prooflog.specs.UnitWalk.{Live, numbered, find_clause, unit_walk}
-use Rattle.lls_prooflog.specs.Steps.{fault_of, after, clauses_of}
+use Rattle.lls_prooflog.specs.Steps.{rup_fault, after, clauses_of}
 use Rattle.lls_prooflog.specs.Fresh.{IsFresh}
 
 -- a log under way: the live clauses, those of them that were added, and how many deletions came before
@@ -40,8 +40,20 @@ abbrev pub has_variables_once : Clause → Bool
 has_variables_once [] = true
 has_variables_once (l ∷ ls) = not (list_any (λ m. variable_of m == variable_of l) ls) && has_variables_once ls
 
+abbrev pub is_positive : ℤ → Bool
+is_positive (pos zero) = false
+is_positive (pos (suc n)) = true
+is_positive (negsuc n) = false
+
+-- unit propagation along hints that are ids gives the clause, under a new id
+pub record AddsByPropagation (live : Live) (id : ℕ) (lits : Clause) (hints : List ℤ) : Type 0 where
+  pub positive : list_all is_positive hints ≡ true
+  pub good : rup_fault live id lits hints ≡ None
+
+-- an addition by unit propagation, or any deletion
 abbrev pub IsGood : LogState → Step → Type 0
-IsGood state step = fault_of state.live step ≡ None
+IsGood state (Add id lits hints) = AddsByPropagation state.live id lits hints
+IsGood state (Del ids) = Unit {0}
 
 -- an added clause: fresh against the clauses that are live before it, not empty, of different variables of the formula
 pub record AddsFresh (vars : ℕ) (live : Live) (lits : Clause) : Type 0 where
@@ -66,11 +78,6 @@ pub record DeletesLate (state : LogState) (ids : List ℕ) : Type 0 where
 abbrev pub IsLateDeletion : LogState → Step → Type 0
 IsLateDeletion state (Add id lits hints) = Unit {0}
 IsLateDeletion state (Del ids) = DeletesLate state ids
-
-abbrev pub is_positive : ℤ → Bool
-is_positive (pos zero) = false
-is_positive (pos (suc n)) = true
-is_positive (negsuc n) = false
 
 -- some further clause can be learnt: it is fresh, and hints lead to it
 pub record CanBeLearnt (vars : ℕ) (live : Live) (lits : Clause) (hints : List ℤ) : Type 0 where

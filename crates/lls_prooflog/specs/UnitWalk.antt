@@ -5,7 +5,7 @@ use Rattle.std.specs.Ordering.{int_eq}
 use Rattle.lls_lit.specs.Literal.{negation}
 use Rattle.lls_lit.specs.Formula.{Clause}
 use Rattle.lls_prooflog.specs.declared.step_fault.StepFault.{StepFault}
-use Rattle.lls_prooflog.specs.declared.step_fault.StepFault.TheVariants.{NoClause, NotUnit, NoConflict, RatHint}
+use Rattle.lls_prooflog.specs.declared.step_fault.StepFault.TheVariants.{NoClause, NotUnit, NoConflict}
 
 -- clauses with their ids
 abbrev pub Live : Type 0
@@ -36,9 +36,14 @@ abbrev pub at_hint : ℤ → List ℤ → Option Clause → (ℤ → Option Step
 at_hint hint assumed None goes_on = Some (NoClause hint)
 at_hint hint assumed (Some clause) goes_on = at_clause hint (remaining assumed clause) goes_on
 
--- what keeps the hints from a conflict, where the assumed literals are taken as false: None where they lead to one
+-- unit propagation along the hints before the first negative one, where the assumed literals are taken as false: None where they lead to a
+-- conflict, or the fault of a hint; where they end, what is said of the literals that are taken as false by then
+abbrev pub walk_on : Live → (List ℤ → Option StepFault) → List ℤ → List ℤ → Option StepFault
+walk_on live at_end assumed [] = at_end assumed
+walk_on live at_end assumed (pos id ∷ hints) =
+    at_hint (pos id) assumed (find_clause live id) (λ l. walk_on live at_end (assumed ++ negation l ∷ []) hints)
+walk_on live at_end assumed (negsuc n ∷ hints) = at_end assumed
+
+-- what keeps these hints from a conflict: None where they lead to one
 abbrev pub unit_walk : Live → List ℤ → List ℤ → Option StepFault
-unit_walk live assumed [] = Some NoConflict
-unit_walk live assumed (pos id ∷ hints) =
-    at_hint (pos id) assumed (find_clause live id) (λ l. unit_walk live (assumed ++ negation l ∷ []) hints)
-unit_walk live assumed (negsuc n ∷ hints) = Some (RatHint (negsuc n))
+unit_walk live assumed hints = walk_on live (λ _. Some NoConflict) assumed hints

@@ -13,10 +13,12 @@ pub enum StepFault {
     NoClause(i64),
     /// The clause of this hint has two different literals that aren't false.
     NotUnit(i64),
-    /// The hints are at their end, and no clause has only false literals.
+    /// The hints, or those of a group, are at their end, and no clause has only false literals.
     NoConflict,
-    /// This hint is negative.
-    RatHint(i64),
+    /// The live clause of this id holds the negation of the added clause's first literal, and no group of hints is about it.
+    RatMissing(u64),
+    /// A group of hints is about the clause of this id, which doesn't hold the negation of the added clause's first literal.
+    RatOther(u64),
 }
 
 /// The id or the hint of a step that is at fault.
@@ -36,7 +38,8 @@ impl StepFault {
             StepFault::NoClause(_) => "NoClause",
             StepFault::NotUnit(_) => "NotUnit",
             StepFault::NoConflict => "NoConflict",
-            StepFault::RatHint(_) => "RatHint",
+            StepFault::RatMissing(_) => "RatMissing",
+            StepFault::RatOther(_) => "RatOther",
         }
     }
 
@@ -45,10 +48,10 @@ impl StepFault {
         ensures { result ≡ culprit_of self.now }
     {
         match *self {
-            StepFault::IdLive(id) => Some(Culprit::Id(id)),
-            StepFault::NoClause(hint) | StepFault::NotUnit(hint) | StepFault::RatHint(hint) => {
-                Some(Culprit::Hint(hint))
+            StepFault::IdLive(id) | StepFault::RatMissing(id) | StepFault::RatOther(id) => {
+                Some(Culprit::Id(id))
             }
+            StepFault::NoClause(hint) | StepFault::NotUnit(hint) => Some(Culprit::Hint(hint)),
             StepFault::NoConflict => None,
         }
     }
