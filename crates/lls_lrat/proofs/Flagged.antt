@@ -1,14 +1,14 @@
 -- The places of a formula's clauses whose flags are set.
-use Rattle.std.proofs.Common.{◌≡◌, ℕ, zero, suc, ◌+◌, ◌<◌, Bool, true, false, List, [], ◌∷◌, length, Option, Some, None, refl, sym, ap, ◌∙◌, arith}
+use Rattle.std.proofs.Common.{◌≡◌, ℕ, zero, suc, ◌+◌, ◌<◌, Bool, true, false, List, [], ◌∷◌, length, Option, Some, None, refl, sym, ap, ◌∙◌, arith, eq-eqb}
 use Rattle.std.specs.Prelude.{slice_get, replicate}
 use Rattle.std.specs.List.{enumerate_from}
 use Rattle.std.proofs.lemmas.Option.{same_Some}
 use Rattle.lls_lit.specs.Formula.{Clause}
 use Rattle.lls_prooflog.specs.UnitWalk.{numbered, find_clause}
-use Rattle.lls_lrat.specs.Stored.{kept, flagged, where_set}
+use Rattle.lls_lrat.specs.Stored.{is_at, kept, flagged, where_set}
 use Rattle.lls_lrat.proofs.Kept.{find-kept_some, kept-enumerate_from}
 
-get-enumerate_from : (n : ℕ) (clauses : List Clause) (k : ℕ) (clause : Clause) → slice_get clauses k ≡ Some clause → slice_get (enumerate_from n clauses) k ≡ Some (n + k, clause)
+pub get-enumerate_from : (n : ℕ) (clauses : List Clause) (k : ℕ) (clause : Clause) → slice_get clauses k ≡ Some clause → slice_get (enumerate_from n clauses) k ≡ Some (n + k, clause)
 get-enumerate_from n [] k clause e = absurd cc
 get-enumerate_from n (c ∷ cs) zero clause e =
     let z : n ≡ n + 0 = omega arith in
@@ -45,3 +45,13 @@ kept-flagged clauses =
     let e : 0 + 1 + j ≡ suc j = omega arith in
     let z : j ≡ 0 + j = omega arith in
     rw e (ap (λ o. where_set o j) (get-replicate (length clauses) j lt) ∙ ap (λ (n : ℕ). Some n) z))
+
+-- the clause behind a place is live where the flag there is set
+pub is_at-flagged : (flags : List Bool) (place : ℕ) (set : Bool) → slice_get flags place ≡ Some set → is_at (flagged flags (1 + place)) place ≡ set
+is_at-flagged flags place set e =
+    let next : 1 + place ≡ suc place = omega arith in
+    rw next (ap (λ o. is_at (where_set o place) place) e ∙ by_flag set)
+  where
+    by_flag : (b : Bool) → is_at (where_set (Some b) place) place ≡ b
+    by_flag true = eq-eqb place place refl
+    by_flag false = refl

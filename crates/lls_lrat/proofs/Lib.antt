@@ -3,6 +3,10 @@ pub mod Indexed
 pub mod Flagged
 pub mod Found
 pub mod Lefts
+pub mod Entries
+pub mod Walked
+pub mod Groups
+pub mod Lacking
 pub mod Within
 pub mod Checks
 pub mod Verdicts

@@ -1,5 +1,6 @@
 -- Literals that are taken as false, as they are put one after another. What speaks of entries is for private contracts alone.
-use Rattle.std.specs.Prelude.{◌≡◌, ◌≤◌, ℕ, ℤ, not, List, [], ◌∷◌, ◌++◌, map, All}
+use Rattle.std.specs.Prelude.{◌≡◌, ℕ, ℤ, true, not, List, [], ◌∷◌, ◌++◌, map, nat_le}
+use Rattle.std.specs.List.{list_all}
 use Rattle.std.specs.FinSet as set
 use Rattle.lls_lit.specs.Literal.{variable_of}
 use Rattle.lls_lit.specs.Marked.{Marked}
@@ -22,5 +23,5 @@ AreFirsts before (entry ∷ entries) = (entry.is_first ≡ not (is_among before 
 -- just the literals of the entries are marked
 pub record AreEntered (marks : Marked) (entries : List Entry) : Type 0 where
   pub marked : marks.lits ≡ set.from_list (lits_of entries)
-  pub within : All (λ entry. variable_of entry.lit ≤ marks.vars) entries
+  pub within : list_all (λ entry. nat_le (variable_of entry.lit) marks.vars) entries ≡ true
   pub firsts : AreFirsts [] entries

@@ -1,5 +1,5 @@
 -- What is left of a clause: no literal, one, or several that differ.
-use Rattle.std.specs.Prelude.{◌≤◌, ℕ, ℤ, List, [], ◌∷◌, Option, Some, None, if◌then◌else◌}
+use Rattle.std.specs.Prelude.{◌≤◌, ℕ, ℤ, List, [], ◌∷◌, if◌then◌else◌}
 use Rattle.std.specs.List.{list_all}
 use Rattle.std.specs.Ordering.{int_eq}
 use Rattle.lls_lit.specs.Literal.{variable_of}
@@ -14,7 +14,3 @@ abbrev pub IsOneWithin : ℕ → Left → Type 0
 IsOneWithin vars (One l) = variable_of l ≤ vars
 IsOneWithin vars Nothing = Unit {0}
 IsOneWithin vars More = Unit {0}
-
-abbrev pub IsSomeWithin : ℕ → Option Left → Type 0
-IsSomeWithin vars None = Unit {0}
-IsSomeWithin vars (Some left) = IsOneWithin vars left

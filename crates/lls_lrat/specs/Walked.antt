@@ -13,15 +13,6 @@ use Rattle.lls_lrat.specs.declared.refusal.Refusal.{Refusal}
 use Rattle.lls_lrat.specs.declared.refusal.Refusal.TheVariants.{Fault, Memory}
 use Rattle.lls_lrat.specs.Left.{left_in}
 
-abbrev pub left_of_clause : ℤ → List ℤ → Option Clause → Result (Option Left) StepFault
-left_of_clause hint assumed None = Err (NoClause hint)
-left_of_clause hint assumed (Some clause) = Ok (Some (left_in (remaining assumed clause)))
-
--- what is left of the clause of a hint; None where the hint is negative, so that it begins a group
-abbrev pub left_by : Live → List ℤ → ℤ → Result (Option Left) StepFault
-left_by live assumed (pos id) = left_of_clause (pos id) assumed (find_clause live id)
-left_by live assumed (negsuc n) = Ok None
-
 -- how a walk ends
 pub data Walk : Type 0 where
   -- nothing is left of a clause; the place behind its hint
@@ -31,18 +22,21 @@ pub data Walk : Type 0 where
   -- a hint is at fault
   Stops : StepFault → Walk
 
-abbrev pub at_left : ℤ → ℕ → List ℤ → Result (Option Left) StepFault → (ℤ → Walk) → Walk
-at_left hint place assumed (Err fault) goes_on = Stops fault
-at_left hint place assumed (Ok None) goes_on = Stays place assumed
-at_left hint place assumed (Ok (Some Nothing)) goes_on = Closes (place + 1)
-at_left hint place assumed (Ok (Some (One l))) goes_on = goes_on l
-at_left hint place assumed (Ok (Some More)) goes_on = Stops (NotUnit hint)
+abbrev pub at_left : ℤ → ℕ → Left → (ℤ → Walk) → Walk
+at_left hint place Nothing goes_on = Closes (place + 1)
+at_left hint place (One l) goes_on = goes_on l
+at_left hint place More goes_on = Stops (NotUnit hint)
+
+abbrev pub at_found : ℤ → ℕ → List ℤ → Option Clause → (ℤ → Walk) → Walk
+at_found hint place assumed None goes_on = Stops (NoClause hint)
+at_found hint place assumed (Some clause) goes_on = at_left hint place (left_in (remaining assumed clause)) goes_on
 
 -- the walk along these hints, of which the first has that place
 abbrev pub walk_from : Live → List ℤ → ℕ → List ℤ → Walk
 walk_from live assumed place [] = Stays place assumed
-walk_from live assumed place (hint ∷ hints) =
-    at_left hint place assumed (left_by live assumed hint) (λ l. walk_from live (assumed ++ negation l ∷ []) (place + 1) hints)
+walk_from live assumed place (pos id ∷ hints) =
+    at_found (pos id) place assumed (find_clause live id) (λ l. walk_from live (assumed ++ negation l ∷ []) (place + 1) hints)
+walk_from live assumed place (negsuc n ∷ hints) = Stays place assumed
 
 -- a call answered so, with these literals taken as false behind it
 abbrev pub EndsAs : Result WalkEnd Refusal → List ℤ → Walk → Type 0

@@ -16,7 +16,7 @@ use crate::pivot::check_hints;
 use crate::refusal::Refusal;
 use lls_base::Memory;
 use lls_cnf::Formula;
-use lls_lit::Lit;
+use lls_lit::{Lit, Var};
 use lls_prooflog::{HintsRef, Step, StepFault, StepRef};
 use std::alloc::Global;
 use std::marker::Model;

@@ -10,6 +10,7 @@ mod checker;
 mod error;
 mod feed;
 mod given;
+mod hint;
 mod line_checker;
 mod live;
 mod log;

@@ -9,10 +9,11 @@ ghost use Rattle.lls_prooflog.specs.UnitWalk.{is_among, walk_on};
 ghost use Rattle.lls_prooflog.specs.Rat.{groups_of, others, has_true, group_fault, groups_fault, rat_fault};
 ghost use Rattle.lls_prooflog.specs.Pieces.{Begins};
 ghost use Rattle.lls_lrat.specs.Hinted.{are_within};
-ghost use Rattle.lls_lrat.specs.Grouped.{begins_group, is_negative, ids_of_groups, TellsFault};
+ghost use Rattle.lls_lrat.specs.Grouped.{begins_group, is_negative, ids_of_groups, IsNextGroup, TellsFault};
 
 use crate::assumed::Assumed;
 use crate::given::holds;
+use crate::hint::{id_of, is_negative};
 use crate::live::LiveClauses;
 use crate::refusal::Refusal;
 use crate::walk::{WalkEnd, follow_hints};
@@ -79,7 +80,7 @@ fn fault_without_pivot(hints: HintsRef, place: usize) -> StepFault
     if place == hints.len() {
         StepFault::NoConflict
     } else {
-        StepFault::RatOther(hints.get(place).unsigned_abs())
+        StepFault::RatOther(id_of(hints.get(place)))
     }
 }
 
@@ -106,22 +107,26 @@ fn check_groups(
     while place < hints.len() {
         let hint = hints.get(place);
         check_group(live, assumed, pivot, hint, hints, place + 1)?;
-        ids.push(hint.unsigned_abs())?;
+        note(&mut ids, id_of(hint))?;
         place = next_group(hints, place + 1);
     }
     Ok(ids)
 }
 
+fn note(ids: &mut Vec<u64>, id: u64) -> Result<(), Memory>
+    ensures { OnOk result (ids.new.items ≡ ids.old.items ++ id ∷ []) }
+{
+    ids.push(id)?;
+    Ok(())
+}
+
 // The place of the next hint, from a place on, that begins a group, or the number of hints.
 fn next_group(hints: HintsRef, from: usize) -> usize
     requires { from ≤ length (hints_of hints) }
-    ensures groups { groups_of (drop result (hints_of hints.entry)) ≡ groups_of (drop from (hints_of hints.entry)) }
-    ensures group { begins_group (drop result (hints_of hints.entry)) ≡ true }
-    ensures from { from ≤ result }
-    ensures within { result ≤ length (hints_of hints.entry) }
+    ensures { IsNextGroup (hints_of hints.entry) from result }
 {
     for k in from..hints.len() {
-        if hints.get(k) < 0 {
+        if is_negative(hints.get(k)) {
             return k;
         }
     }
@@ -146,7 +151,7 @@ fn check_group(
     ensures kept { IfOk result (λ _. assumed.new ≡ assumed.old) }
     ensures vars { assumed.new.vars ≡ assumed.old.vars }
 {
-    let id = hint.unsigned_abs();
+    let id = id_of(hint);
     let Some(clause) = live.find(id) else {
         return Err(StepFault::NoClause(hint).into());
     };
@@ -174,7 +179,7 @@ fn has_true(assumed: &Assumed, clause: &[Lit], left_out: Lit) -> bool
     ensures { result ≡ has_true assumed.now.lits (others left_out clause.now) }
 {
     for lit in clause {
-        if *lit != left_out && assumed.has(lit.negated()) {
+        if left_out != *lit && assumed.has(lit.negated()) {
             return true;
         }
     }
@@ -188,7 +193,7 @@ fn assume_others(assumed: &mut Assumed, clause: &[Lit], left_out: Lit) -> Result
     ensures vars { assumed.new.vars ≡ assumed.old.vars }
 {
     for lit in clause {
-        if *lit != left_out {
+        if left_out != *lit {
             assumed.put(*lit)?;
         }
     }

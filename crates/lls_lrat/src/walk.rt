@@ -1,14 +1,16 @@
 // Unit propagation by hints, over literals that are taken as false.
-ghost use Rattle.std.specs.Prelude.{◌≡◌, ◌≤◌, true, not, Ok, Err, IfOk, filter, length, drop, option_map};
+ghost use Rattle.std.specs.Prelude.{◌≡◌, ◌≤◌, true, OnOk, length, drop};
 ghost use Rattle.lls_prooflog.specs.UnitWalk.{remaining};
 ghost use Rattle.lls_prooflog.specs.Lent.{hints_of};
 ghost use Rattle.lls_prooflog.specs.Pieces.{Begins};
 ghost use Rattle.lls_lit.specs.Formula.{is_within};
-ghost use Rattle.lls_lrat.specs.Left.{left_in, IsOneWithin, IsSomeWithin};
+ghost use Rattle.lls_lrat.specs.Left.{left_in, IsOneWithin};
 ghost use Rattle.lls_lrat.specs.Hinted.{are_within};
-ghost use Rattle.lls_lrat.specs.Walked.{left_by, walk_from, EndsAs};
+ghost use Rattle.lls_lrat.specs.Grouped.{StaysAtGroup};
+ghost use Rattle.lls_lrat.specs.Walked.{walk_from, EndsAs};
 
 use crate::assumed::Assumed;
+use crate::hint::{id_of, is_negative};
 use crate::live::LiveClauses;
 use crate::refusal::Refusal;
 use lls_lit::Lit;
@@ -42,34 +44,25 @@ pub(crate) fn follow_hints(
     requires within { are_within assumed.old.vars live.now.all ≡ true }
     ensures exact { EndsAs result assumed.new.lits
         (walk_from live.now.all assumed.old.lits from (drop from (hints_of hints.entry))) }
-    ensures begins { Begins assumed.old.lits assumed.new.lits }
+    ensures group { StaysAtGroup (hints_of hints.entry) from result }
+    ensures begins { OnOk result (Begins assumed.old.lits assumed.new.lits) }
     ensures vars { assumed.new.vars ≡ assumed.old.vars }
 {
     for k in from..hints.len() {
         let hint = hints.get(k);
-        match left_by(live, assumed, hint)? {
-            Some(Left::Nothing) => return Ok(WalkEnd::Conflict(k + 1)),
-            Some(Left::One(lit)) => assumed.put(lit.negated())?,
-            Some(Left::More) => return Err(StepFault::NotUnit(hint).into()),
-            None => return Ok(WalkEnd::Open(k)),
+        if is_negative(hint) {
+            return Ok(WalkEnd::Open(k));
+        }
+        let Some(clause) = live.find(id_of(hint)) else {
+            return Err(StepFault::NoClause(hint).into());
+        };
+        match unmarked(clause, assumed) {
+            Left::Nothing => return Ok(WalkEnd::Conflict(k + 1)),
+            Left::One(lit) => assumed.put(lit.negated())?,
+            Left::More => return Err(StepFault::NotUnit(hint).into()),
         }
     }
     Ok(WalkEnd::Open(hints.len()))
-}
-
-// What is left of the clause of a hint. A negative hint has no clause.
-fn left_by(live: &LiveClauses, assumed: &Assumed, hint: i64) -> Result<Option<Left>, StepFault>
-    requires { are_within assumed.now.vars live.now.all ≡ true }
-    ensures exact { result ≡ left_by live.now.all assumed.now.lits hint }
-    ensures within { IfOk result (λ left. IsSomeWithin assumed.now.vars left) }
-{
-    if hint < 0 {
-        return Ok(None);
-    }
-    match live.find(hint as u64) {
-        Some(clause) => Ok(Some(unmarked(clause, assumed))),
-        None => Err(StepFault::NoClause(hint)),
-    }
 }
 
 // What is left of a clause without the literals that are taken as false.

@@ -7,5 +7,5 @@ use Rattle.lls_lrat.proofs.checker.Checker.take.Goals as goal
 pub invariant_of-self : goal.invariant_of-self
 invariant_of-self c =
     let k = c.self.inside in
-    let before : IsChecking k.formula.now k.live.all k.marks.vars false = rw c.if-self.false at c.self.invariant in
-    rw (c.delete.ensures, c.if-self.false) (IsChecking-delete k.formula.now k.live.all k.marks.vars (ids_of c.in-Del.ids) before)
+    let before : IsChecking k.formula.now k.live.all k.assumed.vars false = rw c.if-self.false at c.self.invariant in
+    rw (c.delete.ensures, c.if-self.false) (IsChecking-delete k.formula.now k.live.all k.assumed.vars (ids_of c.in-Del.ids) before)
