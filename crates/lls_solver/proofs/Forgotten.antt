@@ -1,9 +1,9 @@
 -- A search goes on where marked clauses are taken out, and the others are numbered anew.
 use Rattle.std.proofs.Common.{◌≡◌, ◌≢◌, inl, inr, ℕ, zero, suc, ◌+◌, ◌<◌, ◌≤◌, Bool, true, false, not, cond, List, [], ◌∷◌, ◌++◌, length, length-append, get_or, map, Some, is_some, refl, sym, ap, subst, ◌∙◌, arith}
-use Rattle.std.specs.Prelude.{ℤ, All, AllPairs, Contains, filter, fold, ◌||◌, ◌&&◌, ◌==◌, ◌-◌, ◌/◌, nat_le, nat_lt}
+use Rattle.std.specs.Prelude.{ℤ, All, AllPairs, Contains, filter, fold, ◌||◌, ◌&&◌, ◌==◌, ◌-◌, ◌/◌, nat_le, nat_lt, ◌↔◌, IsTrue}
 use Rattle.std.specs.List.{list_any, list_all}
 use Rattle.std.specs.Ordering.{int_eq}
-use Rattle.std.proofs.lemmas.Bool.{and_from, cases_order, eq-eqb, ne_eqb}
+use Rattle.std.proofs.lemmas.Bool.{and_from, cases_order, eq-eqb, le-leb, leb-true, ne_eqb}
 use Rattle.std.proofs.lemmas.List.{get_or_default}
 use Rattle.std.proofs.lemmas.Bool.Decides.{nat_tests}
 use Rattle.std.proofs.lemmas.List.Folds.{list_all-append}
@@ -264,10 +264,13 @@ learnt_counted formula steps log =
     ap length (live_parts formula steps log) ∙ length-append (numbered formula.clauses) (fold log_after (log_start formula) steps).added ∙ ap (λ n. n + length (fold log_after (log_start formula) steps).added) (length-enumerate_from 1 formula.clauses)
 
 -- and whether they are so many that a deletion may come
-pub late_from : (formula : Cnf) (steps : List Step) (learnt many adds : ℕ) → learnt ≡ length (added_after formula steps) → many ≡ length steps → adds ≡ additions steps
-    → 64 ≤ learnt → many - adds ≤ (learnt - 64) / 64 → IsLate formula steps
-late_from formula steps learnt many adds learnt_is many_is adds_is least few =
-    omega (arith, learnt_is, many_is, adds_is, least, few, steps_counted (log_start formula) steps)
+pub late_exactly : (formula : Cnf) (steps : List Step) (learnt many adds : ℕ) → learnt ≡ length (added_after formula steps) → many ≡ length steps → adds ≡ additions steps
+    → 64 ≤ learnt → IsTrue (nat_le (many - adds) ((learnt - 64) / 64)) ↔ IsLate formula steps
+late_exactly formula steps learnt many adds learnt_is many_is adds_is least =
+    let counted = steps_counted (log_start formula) steps in (
+      λ is. let few = leb-true (many - adds) ((learnt - 64) / 64) is in omega (arith, learnt_is, many_is, adds_is, least, few, counted),
+      λ late. le-leb (many - adds) ((learnt - 64) / 64) (omega (arith, learnt_is, many_is, adds_is, least, late, counted)),
+    )
 
 -- a search goes on over the clauses that are left
 pub searching_forgotten : (formula : Cnf) (steps : List Step) (store : StoreState) (trail : TrailState) (marks : List Bool) → AreLive store → IsSearching formula steps store trail → IsLate formula steps

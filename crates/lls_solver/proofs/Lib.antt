@@ -8,5 +8,6 @@ pub mod Logs
 pub mod LearntClauses
 pub mod Below
 mod Start
+mod Outcomes
 mod Forgotten
 mod Marks

@@ -5,7 +5,7 @@ use Rattle.std.specs.Prelude.{ℤ, ◌⊎◌, ◌-◌, All, AllPairs, Contains, 
 use Rattle.std.proofs.lemmas.Bool.{cases_order}
 use Rattle.std.proofs.lemmas.Bool.Decides.{eqb_tells, nat_tests}
 use Rattle.std.proofs.lemmas.List.{get_or-set_other, get_or-set_same, append-nil, get_or_default, map-append, take_more}
-use Rattle.std.proofs.lemmas.List.Elements.{All-contains, All-push, All-take, Contains-append_left, Contains-push, filter-append}
+use Rattle.std.proofs.lemmas.List.Elements.{All-contains, All-more, All-push, All-take, All-weaker, Contains-append_left, Contains-push, filter-append}
 use Rattle.std.specs.List.Sorted.{IsPermutation}
 use Rattle.std.proofs.lemmas.List.Sorted.{All-permutation}
 use Rattle.std.proofs.lemmas.Option.{get_or_from_slice_get, same_Some, slice_get_within}
@@ -82,6 +82,23 @@ numbers_more xs k c d marks lt before is =
       | inl same ↦ subst (Contains (map number (take k xs) ++ x.number ∷ [])) (sym same) (Contains-push (map number (take k xs)) x.number)
       | inr old ↦ Contains-append_left (map number (take k xs)) (x.number ∷ []) c (before c old)
     ])
+
+-- and one more candidate, which is marked as those before it are
+pub candidates_more : (xs : List Candidate) (k : ℕ) (d : Candidate) (marks : List Bool) → k < length xs → (get_or xs k d).number < length marks → All (λ (x : Candidate). is_marked marks x.number ≡ true) (take k xs)
+    → All (λ (x : Candidate). is_marked (slice_set marks (get_or xs k d).number true) x.number ≡ true) (take (k + 1) xs)
+candidates_more xs k d marks lt fits before =
+    All-more IsMarked xs k d lt (All-weaker (λ (x : Candidate). is_marked marks x.number ≡ true) IsMarked still (take k xs) before) (get_or-set_same marks n true false fits) where
+      n : ℕ
+      n = (get_or xs k d).number
+
+      IsMarked : Candidate → Type 0
+      IsMarked x = is_marked (slice_set marks n true) x.number ≡ true
+
+      still : (x : Candidate) → is_marked marks x.number ≡ true → IsMarked x
+      still x is = elim (eqb_tells x.number n) [
+        | inl t ↦ ap (is_marked (slice_set marks n true)) t.1 ∙ get_or-set_same marks n true false fits
+        | inr t ↦ get_or-set_other marks n x.number true false t.1 ∙ is
+      ]
 
 -- what holds of all holds of the first half of them in another order
 pub half_may_go : (P : Candidate → Type 0) (xs sorted half : List Candidate) (n : ℕ) → All P xs → IsPermutation xs sorted → half ≡ take n sorted → All P half

@@ -1,5 +1,5 @@
 -- A search under way: what holds of its clauses and of its log.
-use Rattle.std.specs.Prelude.{◌≡◌, ◌≤◌, ℕ, ◌+◌, Bool, true, not, List, [], ◌∷◌, ◌++◌, map, length, count_by, Result, Ok, OnErr}
+use Rattle.std.specs.Prelude.{◌≡◌, ◌≢◌, ◌≤◌, ℕ, ◌+◌, ◌^◌, Bool, true, not, List, [], ◌∷◌, ◌++◌, map, length, count_by, Result, Ok, OnErr}
 use Rattle.std.specs.List.{list_all}
 use Rattle.lls_lit.specs.Formula.{Cnf, satisfies}
 use Rattle.lls_prooflog.specs.UnitWalk.{Live, numbered}
@@ -101,7 +101,8 @@ pub record HoldsFormula (formula : Cnf) (store : StoreState) : Type 0 where
   pub more : Live
   pub spelled : Spells store.live (numbered formula.clauses ++ more)
 
--- what each answer of a search says, with the steps that it leaves in the log
+-- what each answer of a search says, with the steps that it leaves in the log; with such budgets it never gives up, for no log
+-- spends them
 pub record IsOutcome (formula : Cnf) (budget : ℕ) (keep_all : Bool) (steps : List Step) (result : Result Outcome Memory) : Type 0 where
   pub sat : (values : List Bool) → result ≡ Ok (Sat values) → IsModel formula values
   pub learnt : (values : List Bool) → result ≡ Ok (Sat values) → IsLogWithin formula budget steps
@@ -109,3 +110,5 @@ pub record IsOutcome (formula : Cnf) (budget : ℕ) (keep_all : Bool) (steps : L
   pub undecided : result ≡ Ok Undecided → IsExhausted formula budget steps
   pub memory : OnErr result (IsLogWithin formula budget steps)
   pub all_kept : KeepsAll keep_all steps
+  pub decides : 9 ^ formula.vars ≤ budget → result ≢ Ok Undecided
+  pub decides_kept : keep_all ≡ true → 3 ^ formula.vars ≤ budget → result ≢ Ok Undecided

@@ -1,8 +1,8 @@
 // What is decided next, and what is undone.
-ghost use Rattle.std.specs.Prelude.{◌≡◌, ◌<◌, ◌≤◌, [], length, true, false, IfOk, IfSome, IfNone, IsSome, IsTrue, nat_lt};
+ghost use Rattle.std.specs.Prelude.{◌≡◌, ◌<◌, ◌≤◌, [], length, true, false, EachIndex, IfOk, IfSome, IfNone, IsSome, IsTrue, nat_lt};
 ghost use Rattle.std.specs.Option.{option_map_or};
 ghost use Rattle.lls_lit.specs.Literal.{variable_of};
-ghost use Rattle.lls_lit.specs.Formula.{is_within};
+ghost use Rattle.lls_lit.specs.Formula.{is_within, value_at};
 ghost use Rattle.lls_store.specs.Trail.{IsTrail, entry_of, level_of};
 ghost use Rattle.lls_store.specs.Closed.{IsClosed};
 ghost use Rattle.lls_store.specs.Sound.{IsSound};
@@ -43,8 +43,8 @@ impl Model for Course {
 }
 
 impl Course {
-    /// No variable has a value, and a decision makes it false at first.
-    pub(crate) fn new(alloc: Global, vars: u32) -> Result<Course, Memory>
+    /// No variable has a value. The first decision of each gives it the value that stands here, by variable, and false past the end.
+    pub(crate) fn new(alloc: Global, vars: u32, phases: &[bool]) -> Result<Course, Memory>
         requires { vars ≤ Var.MOST }
         ensures { IfOk result (λ course. course ≡ empty_trail vars) }
     {
@@ -54,7 +54,7 @@ impl Course {
         Ok(Course {
             trail,
             order: Order::new(alloc, vars)?,
-            phases: vec![in alloc; false; vars as usize]?,
+            phases: first_phases(alloc, vars, phases)?,
         })
     }
 
@@ -146,6 +146,18 @@ impl Course {
         // What holds of every trail is known from here on.
         let _level = self.trail.current();
     }
+}
+
+// So many values, by variable: those that are given, and false past their end.
+fn first_phases(alloc: Global, vars: u32, given: &[bool]) -> Result<Vec<bool>, Memory>
+    ensures len { IfOk result (λ phases. length phases.items ≡ vars) }
+    ensures values { IfOk result (λ phases. EachIndex phases.items (λ n. value_at phases.items n ≡ value_at given.now n)) }
+{
+    let mut phases = Vec::with_capacity(alloc, vars as usize)?;
+    for n in 0..vars as usize {
+        phases.push(n < given.len() && given[n])?;
+    }
+    Ok(phases)
 }
 
 // Puts the variables whose values go with the levels above this one back into the order, and keeps their values for the

@@ -1,5 +1,5 @@
 // What a search forgets: the half of its learnt clauses that was of least use, in one step of the log.
-ghost use Rattle.std.specs.Prelude.{◌≡◌, ◌≤◌, ◌<◌, ℕ, All, Contains, Some, false, true, IfOk, IsSome, IsTrue, OnErr, OnOk, length, map, replicate};
+ghost use Rattle.std.specs.Prelude.{◌≡◌, ◌≤◌, ◌<◌, ◌↔◌, ℕ, All, Contains, Some, false, true, IfOk, IsSome, IsTrue, OnErr, OnOk, length, map, replicate};
 ghost use Rattle.lls_lit.specs.Formula.{Cnf};
 ghost use Rattle.lls_prooflog.specs.Spent.{live_after};
 ghost use Rattle.lls_store.specs.Trail.{reason_of};
@@ -35,7 +35,7 @@ struct Candidate {
 
 /// Whether so many learnt clauses are live that a deletion may come.
 pub(crate) fn is_late(log: &Log, learnt: u64) -> bool
-    ensures { (formula : Cnf) → learnt ≡ length (added_after formula log.now.steps) → IsTrue result → IsLate formula log.now.steps }
+    ensures { (formula : Cnf) → learnt ≡ length (added_after formula log.now.steps) → (IsTrue result ↔ IsLate formula log.now.steps) }
 {
     let deletions = log.len() as u64 - log.additions();
     if learnt < LEAST_LEARNT {
@@ -121,6 +121,7 @@ fn mark_numbers(marks: &mut [bool], candidates: &[Candidate])
     requires within { All (λ x. x.number < length marks.old) candidates.now }
     ensures len { length marks.new ≡ length marks.old }
     ensures marked { (c : ℕ) → is_marked marks.new c ≡ true → Contains (map (λ x. x.number) candidates.now) c }
+    ensures each { All (λ x. is_marked marks.new x.number ≡ true) candidates.now }
 {
     for candidate in candidates {
         marks[candidate.number as usize] = true;

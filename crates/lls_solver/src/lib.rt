@@ -17,4 +17,4 @@ mod solving;
 mod values;
 
 pub use outcome::Outcome;
-pub use solving::{MOST_BUDGET, solve};
+pub use solving::{MOST_BUDGET, solve, solve_from};

@@ -65,14 +65,20 @@ impl<S: Store> Model for Searcher<S> {
 }
 
 impl<S: Store + Drop> Searcher<S> {
-    /// A searcher over the clauses of a formula, which are added to an empty store.
-    pub(crate) fn new(alloc: Global, mut store: S, formula: &Formula) -> Result<Searcher<S>, Memory>
+    /// A searcher over the clauses of a formula, which are added to an empty store. Its first decisions go towards these values, by
+    /// variable, and towards false past their end.
+    pub(crate) fn new(
+        alloc: Global,
+        mut store: S,
+        formula: &Formula,
+        phases: &[bool],
+    ) -> Result<Searcher<S>, Memory>
         requires store { S.state store ≡ empty_store formula.now.vars }
         requires tracked { S.tracks store (empty_trail formula.now.vars) }
         ensures { IfOk result (λ searcher. IsSearching formula.now [] searcher.store searcher.trail) }
     {
         let vars = formula.vars();
-        let course = Course::new(alloc, vars)?;
+        let course = Course::new(alloc, vars, phases)?;
         let analyser = Analyser::new(alloc, vars)?;
         load(&mut store, &course.trail, formula)?;
         let policy = Policy::new(alloc, vars, store.count() as usize)?;

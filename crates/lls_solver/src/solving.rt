@@ -1,6 +1,6 @@
 // The search for an assignment: turns of a searcher, one after the other.
-ghost use Rattle.std.specs.Prelude.{◌≡◌, ◌≢◌, ◌≤◌, ◌^◌, Bool, true, List, [], Ok, OnErr};
-ghost use Rattle.lls_solver.specs.Searching.{IsExhausted, IsLogWithin, IsModel, IsOutcome, IsRefutation, IsSearching, KeepsAll};
+ghost use Rattle.std.specs.Prelude.{◌≡◌, ◌≤◌, [], Ok};
+ghost use Rattle.lls_solver.specs.Searching.{IsOutcome, IsSearching};
 
 use crate::outcome::Outcome;
 use crate::searcher::{Searcher, Turn};
@@ -28,20 +28,28 @@ pub fn solve(
 ) -> Result<Outcome, Memory>
     requires none { log.old.steps ≡ [] }
     requires budget { budget ≤ MOST_BUDGET }
-    ensures sat { (values : List Bool) → result ≡ Ok (Outcome.Sat values) → IsModel formula.now values }
-    ensures learnt { (values : List Bool) → result ≡ Ok (Outcome.Sat values) → IsLogWithin formula.now budget log.new.steps }
-    ensures unsat { result ≡ Ok Outcome.Unsat → IsRefutation formula.now budget log.new.steps }
-    ensures undecided { result ≡ Ok Outcome.Undecided → IsExhausted formula.now budget log.new.steps }
-    ensures memory { OnErr result (IsLogWithin formula.now budget log.new.steps) }
-    ensures all_kept { KeepsAll keep_all log.new.steps }
+    ensures { IsOutcome formula.now budget keep_all log.new.steps result }
+{
+    solve_from(alloc, formula, &[], budget, keep_all, log)
+}
 
-    // With such budgets a search never gives up, for no log spends them.
-    ensures decides { 9 ^ formula.now.vars ≤ budget → result ≢ Ok Outcome.Undecided }
-    ensures decides_kept { keep_all ≡ true → 3 ^ formula.now.vars ≤ budget → result ≢ Ok Outcome.Undecided }
+/// The same search, in which the first decision of each variable gives it the value that stands in `phases`, by variable, and false
+/// past their end: where these are of an assignment that nearly satisfies the formula, the search begins near it.
+pub fn solve_from(
+    alloc: Global,
+    formula: &Formula,
+    phases: &[bool],
+    budget: u32,
+    keep_all: bool,
+    log: &mut Log,
+) -> Result<Outcome, Memory>
+    requires none { log.old.steps ≡ [] }
+    requires budget { budget ≤ MOST_BUDGET }
+    ensures { IsOutcome formula.now budget keep_all log.new.steps result }
 {
     let vars = formula.vars();
     let store = WatchStore::new(alloc, vars)?;
-    let mut searcher = Searcher::new(alloc, store, formula)?;
+    let mut searcher = Searcher::new(alloc, store, formula, phases)?;
     take_turns(alloc, formula, &mut searcher, log, budget, keep_all)
 }
 

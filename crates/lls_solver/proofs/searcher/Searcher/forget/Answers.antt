@@ -13,4 +13,5 @@ pub forget_half-requires-clause-late : goal.forget_half-requires-clause-late
 forget_half-requires-clause-late g c =
     let h = c.requires.searching in
     let same = ap (λ (s : SearcherState). s.store.count) c.self.view_is in
-    c.is_late.ensures c.args.formula.now (omega (arith, c.from.ensures, c.count.ensures.count, same, h.holds.count, c.len.ensures.len, learnt_counted c.args.formula.now c.args.log.now.steps h.log)) c.if-not-is_late.false
+    let exactly = c.is_late.ensures c.args.formula.now (omega (arith, c.from.ensures, c.count.ensures.count, same, h.holds.count, c.len.ensures.len, learnt_counted c.args.formula.now c.args.log.now.steps h.log)) in
+    exactly.0 c.if-not-is_late.false
