@@ -25,8 +25,13 @@ pub(crate) fn literals(alloc: Global, numbers: &[i32]) -> Result<Vec<Lit>, Fail>
 }
 
 pub(crate) fn formula(rt: &impl Abort, alloc: Global) -> Result<Formula, Fail> {
+    formula_of(rt, alloc, &[&[1], &[2], &[1, -2], &[-1, -2]])
+}
+
+// A formula over two variables.
+fn formula_of(rt: &impl Abort, alloc: Global, clauses: &[&[i32]]) -> Result<Formula, Fail> {
     let mut formula = Formula::new(alloc, 2);
-    for clause in [[1].as_slice(), &[2], &[1, -2], &[-1, -2]] {
+    for clause in clauses {
         let lits = literals(alloc, clause)?;
         assert!(rt; formula.len() < Formula::MOST_CLAUSES);
         assert!(rt; are_within(&lits, formula.vars()));
@@ -37,7 +42,17 @@ pub(crate) fn formula(rt: &impl Abort, alloc: Global) -> Result<Formula, Fail> {
 
 fn compare(rt: &impl Abort, alloc: Global, text: &[u8], want: &str) -> Result<(), Fail> {
     let formula = formula(rt, alloc)?;
-    let found = match check_bytes(alloc, &formula, text) {
+    compare_over(rt, alloc, &formula, text, want)
+}
+
+fn compare_over(
+    rt: &impl Abort,
+    alloc: Global,
+    formula: &Formula,
+    text: &[u8],
+    want: &str,
+) -> Result<(), Fail> {
+    let found = match check_bytes(alloc, formula, text) {
         Ok(_) => String::from_str(alloc, "accepted")?,
         Err(fault) => format!(in alloc; "{fault}")?,
     };
@@ -55,7 +70,7 @@ fn proofs_are_accepted_or_refused_as_worked(rt: HostRuntime) -> Result<(), Fail>
         ("4 0 1 2 4 0", "IdLive 1 4"),
         ("5 d 4 0\n6 0 1 2 4 0\n", "NoClause 2 4"),
         ("5 0 1 0", "NoConflict 1"),
-        ("5 0 -1 0", "RatHint 1 -1"),
+        ("5 0 -1 0", "RatOther 1 1"),
         ("5 0 1 x 0", "BadWord 1 7"),
         ("5 1 0 1 0\n5 d 1 0\n6 0 5 2 4 0\nrubbish", "accepted"),
         ("5 1 0 1 0\r\nc rubbish\n \t\n5 0 1 2 4 0\r\n", "IdLive 4 5"),
@@ -66,6 +81,41 @@ fn proofs_are_accepted_or_refused_as_worked(rt: HostRuntime) -> Result<(), Fail>
     ];
     for (text, want) in rows {
         compare(&rt, rt.alloc(), text.as_bytes(), want)?;
+    }
+    Ok(())
+}
+
+// Proofs over the clauses 1 2, 1 -2, -1 2 and -1 -2. Each but those for the empty clause begins with a clause of a new variable.
+const PIVOTS: [(&str, &str); 17] = [
+    ("5 3 0 0\n6 1 0 1 2 0\n7 0 6 3 4 0", "accepted"),
+    ("5 3 0 0\n6 -3 1 0 -5 1 2 0\n7 1 0 1 2 0\n8 0 7 3 4 0", "accepted"),
+    ("5 3 0 0\n6 -3 1 0 -5 0", "NoConflict 2"),
+    ("5 3 0 0\n6 -3 1 0 -1 0", "RatOther 2 1"),
+    ("5 3 0 0\n6 3 1 0 0\n7 -3 1 0 -5 1 2 0", "RatMissing 3 6"),
+    ("5 3 0 0\n6 -3 1 0 -9 0", "NoClause 2 -9"),
+    // The pivot isn't first.
+    ("5 3 0 0\n6 1 -3 0 -5 1 2 0", "RatOther 2 5"),
+    // The other clause has a true literal, so nothing is to be shown.
+    ("5 3 1 0 0\n6 -3 -1 0 -5 0", "NoEmpty"),
+    ("5 3 0 0", "NoEmpty"),
+    ("5 3 0 0\n6 -3 0 0", "NoConflict 2"),
+    ("5 3 0 0\n6 d 5 0\n7 -3 0 0", "NoEmpty"),
+    // What one group takes as false isn't taken so in the next.
+    ("5 3 0 0\n6 3 2 0 0\n7 -3 1 0 -6 1 -5 1 0", "NoConflict 3"),
+    ("5 3 0 0\n6 3 2 0 0\n7 -3 1 0 -6 1 -5 1 2 0", "NoEmpty"),
+    ("5 3 0 0\n6 -3 1 0 -5 1 2 -5 1 2 0", "NoEmpty"),
+    ("5 3 0 0\n6 0 -5 1 0", "RatOther 2 5"),
+    // Clauses of the formula need groups too.
+    ("5 -1 0 -1 3 0", "RatMissing 1 2"),
+    ("5 -1 0 -2 4 -1 3 0\n6 0 5 1 2 0", "accepted"),
+];
+
+#[test]
+fn pivots_are_shown_by_groups(rt: HostRuntime) -> Result<(), Fail> {
+    let clauses: [&[i32]; 4] = [&[1, 2], &[1, -2], &[-1, 2], &[-1, -2]];
+    let formula = formula_of(&rt, rt.alloc(), &clauses)?;
+    for (text, want) in PIVOTS {
+        compare_over(&rt, rt.alloc(), &formula, text.as_bytes(), want)?;
     }
     Ok(())
 }
@@ -196,7 +246,7 @@ const STEPS: [(Row, Result<Progress, Refusal>); 10] = [
     ),
     (
         Row::Add(6, &[], &[5, -2, 4]),
-        Err(Refusal::Fault(StepFault::RatHint(-2))),
+        Err(Refusal::Fault(StepFault::RatOther(2))),
     ),
     (
         Row::Add(6, &[], &[3, 2, 4]),

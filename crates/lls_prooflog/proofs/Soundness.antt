@@ -26,6 +26,11 @@ good_by_propagation live id lits hints good =
       | false ↦ λ h. walk_closes live (rat_fault live lits (groups_of hints)) lits hints h
     ] good
 
+-- and so is each step of a log
+pub fault_of_good : (state : LogState) (step : Step) → IsGood state step → fault_of state.live step ≡ None
+fault_of_good state (Add id lits hints) adds = good_by_propagation state.live id lits hints adds.good
+fault_of_good state (Del ids) good = refl
+
 -- and its hints lead to a conflict
 pub walk_is_good : (live : Live) (id : ℕ) (lits hints : List ℤ) → rup_fault live id lits hints ≡ None → unit_walk live lits hints ≡ None
 walk_is_good live id lits hints e =

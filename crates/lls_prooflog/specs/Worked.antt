@@ -12,6 +12,10 @@ refuted = record { vars = 2; clauses = (pos 1 ∷ []) ∷ (pos 2 ∷ []) ∷ (po
 abbrev pub worked : Live
 worked = numbered refuted.clauses
 
+-- the clauses 1 2, 1 -2, -1 2 and -1 -2, and 3 behind them
+abbrev pub with_three : Live
+with_three = numbered ((pos 1 ∷ pos 2 ∷ []) ∷ (pos 1 ∷ negsuc 1 ∷ []) ∷ (negsuc 0 ∷ pos 2 ∷ []) ∷ (negsuc 0 ∷ negsuc 1 ∷ []) ∷ (pos 3 ∷ []) ∷ [])
+
 -- the clauses 1 2 3, 1 2 -3, 1 -2 3 and 1 -2 -3, of which none is unit
 abbrev pub searched : Cnf
 searched = record {

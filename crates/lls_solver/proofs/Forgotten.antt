@@ -229,7 +229,7 @@ good_forgotten formula steps store entries marks last live holds log late may =
     found_added formula steps clause.id log (learnt_marked store.live entries (length formula.clauses) marks clause live.numbers may contains is) (spells_found store.live (live_after formula steps) clause holds.spelled contains)) in
     record {
       numbered_on = numbered_deleted (length formula.clauses + 1) steps ids log.numbered_on;
-      good = each_push IsGood (log_start formula) steps (Del ids) log.good refl;
+      good = each_push IsGood (log_start formula) steps (Del ids) log.good tt;
       fresh = each_push (IsFreshAddition formula.vars) (log_start formula) steps (Del ids) log.fresh tt;
       deletions = each_push IsLateDeletion (log_start formula) steps (Del ids) log.deletions (record { added_alone = added; late = late });
       none_empty = list_all-append (λ step. not (is_empty_addition step)) steps (Del ids ∷ []) ∙ and_from (list_all (λ step. not (is_empty_addition step)) steps) true log.none_empty refl;

@@ -11,7 +11,8 @@ use Rattle.std.proofs.lemmas.List.{append-nil}
 use Rattle.lls_lit.specs.Formula.{Clause, Cnf}
 use Rattle.lls_prooflog.specs.UnitWalk.{Live, numbered, find_clause}
 use Rattle.lls_prooflog.specs.Steps.{fault_of, after, are_accepted, is_empty_addition}
-use Rattle.lls_prooflog.specs.Spent.{LogState, log_start, log_after, live_after, EachStep, IsGood, IsFreshAddition, AddsFresh, IsLateDeletion, SomeCanBeLearnt, IsUnrefuted, is_addition}
+use Rattle.lls_prooflog.specs.Spent.{LogState, log_start, log_after, live_after, EachStep, IsGood, AddsByPropagation, IsFreshAddition, AddsFresh, IsLateDeletion, SomeCanBeLearnt, IsUnrefuted, is_addition}
+use Rattle.lls_prooflog.proofs.Soundness.{fault_of_good}
 use Rattle.lls_prooflog.proofs.FreshClauses.{no_hints_refute}
 use Rattle.lls_prooflog.specs.declared.step.Step.{Step}
 use Rattle.lls_prooflog.specs.declared.step.Step.TheVariants.{Add, Del}
@@ -64,7 +65,7 @@ holds_learnt formula steps store id lits hints h is =
 pub kept_push : (keep_all : Bool) (steps : List Step) (id : ℕ) (lits hints : List ℤ) → KeepsAll keep_all steps → KeepsAll keep_all (steps ++ Add id lits hints ∷ [])
 kept_push keep_all steps id lits hints kept = λ is. list_all-append is_addition steps (Add id lits hints ∷ []) ∙ and_from (list_all is_addition steps) true (kept is) refl
 
-pub good_push : (formula : Cnf) (steps : List Step) (id : ℕ) (lits hints : List ℤ) → IsGoodLog formula steps → length formula.clauses + 1 + additions steps ≡ id → fault_of (live_after formula steps) (Add id lits hints) ≡ None → AddsFresh formula.vars (live_after formula steps) lits → IsGoodLog formula (steps ++ Add id lits hints ∷ [])
+pub good_push : (formula : Cnf) (steps : List Step) (id : ℕ) (lits hints : List ℤ) → IsGoodLog formula steps → length formula.clauses + 1 + additions steps ≡ id → AddsByPropagation (live_after formula steps) id lits hints → AddsFresh formula.vars (live_after formula steps) lits → IsGoodLog formula (steps ++ Add id lits hints ∷ [])
 good_push formula steps id lits hints h is good adds = record {
   numbered_on = numbered_push (length formula.clauses + 1) steps id lits hints h.numbered_on is;
   good = each_push IsGood (log_start formula) steps (Add id lits hints) h.good good;
@@ -78,20 +79,21 @@ accepted_from : (state : LogState) (steps : List Step) (last : Step) → EachSte
 accepted_from state [] last each good empty = rw (good, empty) refl
 accepted_from state (step ∷ steps) last each good empty =
     let rest = accepted_from (log_after state step) steps last each.1 good empty in
-    rw (each.0, rest) (or_true (is_empty_addition step)) where
+    rw (fault_of_good state step each.0, rest) (or_true (is_empty_addition step)) where
       or_true : (b : Bool) → (b || true) ≡ true
       or_true true = refl
       or_true false = refl
 
 pub refutation_push : (formula : Cnf) (budget : ℕ) (steps : List Step) (id : ℕ) (hints : List ℤ) → IsGoodLog formula steps → additions steps ≤ budget → length formula.clauses + 1 + additions steps ≡ id
-    → fault_of (live_after formula steps) (Add id [] hints) ≡ None → IsRefutation formula budget (steps ++ Add id [] hints ∷ [])
+    → AddsByPropagation (live_after formula steps) id [] hints → IsRefutation formula budget (steps ++ Add id [] hints ∷ [])
 refutation_push formula budget steps id hints h within is good = record {
   learnt = steps;
   last = Add id [] hints;
   log = record { log = h; within = within };
   ends = refl;
   empties = refl;
-  accepted = accepted_from (log_start formula) steps (Add id [] hints) h.good good refl;
+  good = each_push IsGood (log_start formula) steps (Add id [] hints) h.good good;
+  accepted = accepted_from (log_start formula) steps (Add id [] hints) h.good (fault_of_good (fold log_after (log_start formula) steps) (Add id [] hints) good) refl;
   numbered_on = numbered_push (length formula.clauses + 1) steps id [] hints h.numbered_on is;
 }
 

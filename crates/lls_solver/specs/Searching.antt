@@ -44,7 +44,7 @@ additions steps = count_by is_addition steps
 abbrev pub KeepsAll : Bool → List Step → Type 0
 KeepsAll keep_all steps = keep_all ≡ true → list_all is_addition steps ≡ true
 
--- additions that are good and fresh in their turn, none of which is empty, with the ids behind those of the formula's clauses, and
+-- additions by unit propagation that are fresh in their turn, none of which is empty, with the ids behind those of the formula's clauses, and
 -- deletions of live additions alone, each of them late
 pub record IsGoodLog (formula : Cnf) (steps : List Step) : Type 0 where
   pub good : EachStep IsGood (log_start formula) steps
@@ -87,6 +87,7 @@ pub record IsRefutation (formula : Cnf) (budget : ℕ) (steps : List Step) : Typ
   pub log : IsLogWithin formula budget learnt
   pub ends : steps ≡ learnt ++ last ∷ []
   pub empties : is_empty_addition last ≡ true
+  pub good : EachStep IsGood (log_start formula) steps
   pub accepted : are_accepted (numbered formula.clauses) steps ≡ true
   pub numbered_on : AreNumberedFrom (length formula.clauses + 1) steps
 

@@ -189,7 +189,7 @@ fn answers_with_ample_memory(rt: HostRuntime) -> Result<(), Fail> {
             "1\n\n1\n",
             "5 0 -1 0\n",
             Status::Refused,
-            "refused: RatHint 1 -1\n",
+            "refused: RatOther 1 1\n",
         ),
         (
             "check f p --formula 1",

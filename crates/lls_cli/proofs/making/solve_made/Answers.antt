@@ -1,7 +1,6 @@
 -- A made problem has a solution, so no refutation of its formula is found.
 use Rattle.std.proofs.Common.{ap, Ok, ◌∙◌}
-use Rattle.lls_prooflog.specs.UnitWalk.{numbered}
-use Rattle.lls_prooflog.proofs.Soundness.{KeepsSatisfiable-numbered, unsatisfiable_if_accepted}
+use Rattle.lls_prooflog.proofs.Soundness.{unsatisfiable_by_propagation}
 use Rattle.lls_cli.specs.declared.status.Status.TheVariants as statuses
 use Rattle.lls_cli.specs.Answer.{shown, summed_behind}
 use Rattle.lls_cli.proofs.Makings.{solved_answer, unsolved_answer}
@@ -11,7 +10,7 @@ pub unreachable-requires : goal.unreachable-requires
 unreachable-requires c =
     let formula = c.in_ok-formula.formula in
     let refutation = c.in_ok-solve.ensures.unsat (ap Ok c.in-Unsat.is) in
-    let unsatisfiable = unsatisfiable_if_accepted formula (numbered formula.clauses) c.solve.new.log.steps (KeepsSatisfiable-numbered formula) refutation.accepted in
+    let unsatisfiable = unsatisfiable_by_propagation formula c.solve.new.log.steps refutation.good refutation.accepted in
     c.in_ok-formula.ensures.absent unsatisfiable c.args.pair.now.history c.requires.solution
 
 pub returns-in-Sat : goal.returns-in-Sat

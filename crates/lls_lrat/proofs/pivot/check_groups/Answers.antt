@@ -29,7 +29,7 @@ pub loop-place-preserved : goal.loop-place-preserved
 loop-place-preserved c =
     let hint = to_z w64 (of_z w64 c.get-hint.result) in
     let good : group_fault c.args.live.now.all c.args.pivot c.args.assumed.now.lits (record { id = variable_of hint; hints = drop (c.loop-place.place + 1) (hints_of c.args.hints) }) ≡ None =
-        subst (λ (a : AssumedState). group_fault c.args.live.now.all c.args.pivot a.lits (record { id = variable_of hint; hints = drop (c.loop-place.place + 1) (hints_of c.args.hints) }) ≡ None) c.loop-place.invariant.1 c.in_ok-check_group.ensures.exact
+    subst (λ (a : AssumedState). group_fault c.args.live.now.all c.args.pivot a.lits (record { id = variable_of hint; hints = drop (c.loop-place.place + 1) (hints_of c.args.hints) }) ≡ None) c.loop-place.invariant.1 c.in_ok-check_group.ensures.exact
     in
     let on = groups_on c.args.live.now.all c.args.pivot c.args.assumed.now.lits (hints_of c.args.hints) c.args.from c.loop-place.ids.items c.loop-place.place c.loop-place.invariant.0 hint
     (omega (arith, c.loop-place-test.true, c.len.ensures)) (same_number c.get-hint.result c.get-hint.type_inv ∙ sym (get_or_from_slice_get (hints_of c.args.hints) c.loop-place.place c.get-hint.result (pos 0) c.get-hint.ensures))

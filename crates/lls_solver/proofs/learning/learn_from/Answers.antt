@@ -1,8 +1,7 @@
 use Rattle.std.proofs.Common.{◌≡◌, ◌<◌, ◌+◌, ◌++◌, ◌∷◌, [], ℕ, List, length, sym, ap, ◌∙◌, subst, arith, true}
 use Rattle.std.specs.Prelude.{IsSome}
 use Rattle.lls_lit.specs.Formula.{is_within}
-use Rattle.lls_prooflog.proofs.Soundness.{good_by_propagation}
-use Rattle.lls_prooflog.specs.Spent.{live_after}
+use Rattle.lls_prooflog.specs.Spent.{live_after, AddsByPropagation}
 use Rattle.lls_prooflog.specs.declared.step.Step.{Step}
 use Rattle.lls_prooflog.specs.declared.step.Step.TheVariants.{Add}
 use Rattle.lls_store.specs.Trail.{TrailState}
@@ -99,7 +98,7 @@ returns-clause-searching g c =
     let after : length formula.clauses + 1 + additions steps ≡ id = omega (arith, c.len.ensures.len, count) in
     let holds : HoldsClauses middle formula.vars (live_after formula steps) last_id = subst (λ (s : StoreState). HoldsClauses s formula.vars (live_after formula steps) last_id) (sym c.in_ok-reserve_conflict.ensures.state) h.holds in
     let more = holds_learnt formula steps middle id learns.lits learns.hints holds next in
-    let good = good_by_propagation (live_after formula steps) id learns.lits learns.hints (learns.step.good (live_after formula steps) holds.spelled) in
+    let good : AddsByPropagation (live_after formula steps) id learns.lits learns.hints = record { positive = learns.step.positive; good = learns.step.good (live_after formula steps) holds.spelled } in
     let t = c.course.inside.trail in
     let back = c.learn-learnt.result.back in
     let vars = ap (λ (x : TrailState). x.vars) c.course.view_is ∙ g.met.S.Store.tracks_vars c.args.store.now c.args.course.now c.requires.tracked ∙ h.holds.store_vars in

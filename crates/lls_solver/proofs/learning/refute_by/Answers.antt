@@ -1,6 +1,5 @@
 use Rattle.std.proofs.Common.{◌≡◌, ◌+◌, ◌++◌, ◌∷◌, [], List, length, sym, ap, ◌∙◌, subst, arith}
-use Rattle.lls_prooflog.specs.Spent.{live_after}
-use Rattle.lls_prooflog.proofs.Soundness.{good_by_propagation}
+use Rattle.lls_prooflog.specs.Spent.{live_after, AddsByPropagation}
 use Rattle.lls_prooflog.specs.declared.step.Step.{Step}
 use Rattle.lls_prooflog.specs.declared.step.Step.TheVariants.{Add}
 use Rattle.lls_store.specs.Store.{StoreState, IsNewId}
@@ -33,7 +32,7 @@ returns-clause-refutation g c =
     let refutes = c.refute.ensures.refutes in
     let id = c.len.result + c.additions.result + 1 in
     let spelled = subst (λ (s : StoreState). Spells s.live (live_after formula steps)) (sym c.in_ok-reserve_conflict.ensures.state) h.holds.spelled in
-    let good = good_by_propagation (live_after formula steps) id [] refutes.hints (refutes.step.good (live_after formula steps) spelled) in
+    let good : AddsByPropagation (live_after formula steps) id [] refutes.hints = record { positive = refutes.step.positive; good = refutes.step.good (live_after formula steps) spelled } in
     let count : c.additions.result ≡ additions steps = c.additions.ensures ∙ ap additions same in
     let next : length formula.clauses + 1 + additions steps ≡ id = omega (arith, c.len.ensures.len, count) in
     λ budget within. subst (IsRefutation formula budget) (sym (refutes.step.logged ∙ ap (λ (ss : List Step). ss ++ Add id [] refutes.hints ∷ []) same))
