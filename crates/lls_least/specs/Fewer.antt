@@ -18,6 +18,10 @@ at_most k = record { generation = 0; low = 0; high = Some k }
 abbrev pub fewer : PosedProblem → ℕ → PosedProblem
 fewer p k = record p { demands = record p.demands { bounds = p.demands.bounds ++ at_most k ∷ [] } }
 
--- beside the counters of the problem's bounds there is room for one of all cells of a generation
+-- how many variables the counters of the problem's bounds have, and one more that counts up to all cells of a generation
+abbrev pub counters_with_one_more : PosedProblem → ℕ
+counters_with_one_more p = all_counter_vars (grid_size p.posed) p.demands.bounds + grid_size p.posed * grid_size p.posed
+
+-- so there is room for the counter of each such bound
 abbrev pub LeavesRoom : PosedProblem → Type 0
-LeavesRoom p = all_counter_vars (grid_size p.posed) p.demands.bounds + grid_size p.posed * grid_size p.posed ≤ most_counters
+LeavesRoom p = counters_with_one_more p ≤ most_counters

@@ -6,8 +6,10 @@ mod bounding;
 mod copying;
 mod effort;
 mod looking;
+mod room;
 mod tightening;
 
 pub use answer::Least;
 pub use bounding::fewer;
+pub use room::counters_with_one_more;
 pub use tightening::least;
