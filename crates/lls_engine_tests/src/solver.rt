@@ -5,7 +5,7 @@ use crate::draws::Draws;
 use lls_cnf::{Formula, MOST_DIMACS_BYTES, holds, read_dimacs};
 use lls_lit::Var;
 use lls_prooflog::{Log, print_log};
-use lls_solver::{MOST_BUDGET, Outcome, solve};
+use lls_solver::{MOST_BUDGET, Outcome, solve, solve_from};
 use std::alloc::Global;
 use std::process::Abort;
 use std::test::Fail;
@@ -187,5 +187,40 @@ fn decisions_keep_the_last_value(rt: HostRuntime) -> Result<(), Fail> {
         print_log(rt.alloc(), &log)?.as_slice(),
         b"5 3 0 3 2 0\n".as_slice()
     );
+    Ok(())
+}
+
+// Where nothing is decided otherwise, each variable is as it was handed in, and false where it wasn't; the first of two that are tied
+// decides for both.
+#[test]
+fn searches_begin_with_values(rt: HostRuntime) -> Result<(), Fail> {
+    let rows = [
+        (
+            b"p cnf 3 0\n".as_slice(),
+            [true, false, true].as_slice(),
+            [true, false, true],
+        ),
+        (b"p cnf 3 0\n", &[true], [true, false, false]),
+        (b"p cnf 3 0\n", &[], [false; 3]),
+        (
+            b"p cnf 3 0\n",
+            &[false, true, false, true],
+            [false, true, false],
+        ),
+        (
+            b"p cnf 3 2\n1 -2 0 -1 2 0\n",
+            &[true, false, true],
+            [true; 3],
+        ),
+    ];
+    for (text, phases, want) in rows {
+        assert!(rt; text.len() <= MOST_DIMACS_BYTES);
+        let formula = read_dimacs(rt.alloc(), text)?;
+        let mut log = Log::new(rt.alloc());
+        match solve_from(rt.alloc(), &formula, phases, 0, true, &mut log)? {
+            Outcome::Sat(assignment) => assert_eq!(rt; assignment.values(), want.as_slice()),
+            _ => return Err(Fail::from("an assignment")),
+        }
+    }
     Ok(())
 }

@@ -17,6 +17,8 @@ mod dimacs;
 #[cfg(test)]
 mod encode;
 #[cfg(test)]
+mod least;
+#[cfg(test)]
 mod lrat;
 #[cfg(test)]
 mod lrat_held;

@@ -1,0 +1,12 @@
+// How a problem is searched.
+use lls_problem::Form;
+
+/// Which formula a problem gets, and how far that is searched.
+#[derive(Clone, Copy)]
+pub(crate) struct Effort {
+    pub(crate) form: Form,
+    /// So many clauses may be learnt.
+    pub(crate) budget: u32,
+    /// None of them is deleted.
+    pub(crate) keep_all: bool,
+}
