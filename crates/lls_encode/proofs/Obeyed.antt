@@ -69,7 +69,7 @@ cubes_contain Rows rule = forbidden_cubes rule
 cubes_contain Cover rule = covering_cubes rule
 
 -- clauses that aren't repeated say the same
-satisfies-clauses_at : (values : List Bool) (form : Form) (cubes : List Cube) (inputs : List Place) → satisfies values (clauses_at form cubes inputs) ≡ satisfies values (cube_clauses inputs cubes)
+pub satisfies-clauses_at : (values : List Bool) (form : Form) (cubes : List Cube) (inputs : List Place) → satisfies values (clauses_at form cubes inputs) ≡ satisfies values (cube_clauses inputs cubes)
 satisfies-clauses_at values Rows cubes inputs = refl
 satisfies-clauses_at values Cover cubes inputs = satisfies-distinct values (cube_clauses inputs cubes)
 
