@@ -1,0 +1,4 @@
+pub mod Ranges
+pub mod Giving
+pub mod Told
+pub mod Listed

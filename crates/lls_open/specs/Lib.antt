@@ -1,0 +1,5 @@
+pub mod Between
+pub mod Classes
+pub mod Targets
+pub mod Formula
+pub mod Decoding
