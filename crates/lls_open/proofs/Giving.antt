@@ -1,5 +1,5 @@
 -- What a rule gives at a class.
-use Rattle.std.proofs.Common.{◌≡◌, ℕ, ◌<◌, Bool, true, false, ◌&&◌, List, sym, arith}
+use Rattle.std.proofs.Common.{◌≡◌, ℕ, ◌<◌, Bool, true, false, ◌&&◌, List, arith}
 use Rattle.std.proofs.lemmas.Bool.{and_from}
 use Rattle.lls_rule.specs.Rule.{answer}
 use Rattle.lls_open.specs.declared.class.SideClass.{SideClass}

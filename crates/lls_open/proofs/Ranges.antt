@@ -1,5 +1,5 @@
 -- Tests over a range of numbers.
-use Rattle.std.proofs.Common.{◌≡◌, ◌⊎◌, ℕ, zero, suc, ◌+◌, ◌<◌, ◌≤◌, Bool, true, false, ◌||◌, refl, ap, ◌∙◌, sym, arith, inl, inr}
+use Rattle.std.proofs.Common.{◌≡◌, ℕ, zero, suc, ◌+◌, ◌<◌, ◌≤◌, Bool, true, false, ◌||◌, refl, ap, ◌∙◌, sym, arith, inl, inr}
 use Rattle.std.specs.List.{list_any, range_with_len}
 use Rattle.std.proofs.lemmas.Bool.Decides.{eqb_tells}
 
@@ -41,3 +41,7 @@ found_in p a (suc n) any =
       | true ↦ λ here any. record { k = a; low = omega arith; high = omega arith; passes = here }
       | false ↦ λ here any. let later = found_in p (a + 1) n any in record { k = later.k; low = omega (arith, later.low); high = omega (arith, later.high); passes = later.passes }
     ] refl any
+
+pub any_same : (p q : ℕ → Bool) (a n : ℕ) → ((k : ℕ) → p k ≡ q k) → list_any p (range_with_len a n) ≡ list_any q (range_with_len a n)
+any_same p q a zero same = refl
+any_same p q a (suc n) same = ap (λ b. b || list_any p (range_with_len (a + 1) n)) (same a) ∙ ap (λ b. q a || b) (any_same p q (a + 1) n same)

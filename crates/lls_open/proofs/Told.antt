@@ -1,12 +1,11 @@
 -- A neighbourhood is of the class of its centre and of its eight others, and of no other.
-use Rattle.std.proofs.Common.{◌≡◌, ℕ, ◌<◌, nat_eq, Bool, true, false, ◌&&◌, List, [], ◌∷◌, ap, ◌∙◌, sym}
+use Rattle.std.proofs.Common.{◌≡◌, ℕ, ◌<◌, nat_eq, ◌&&◌, [], ◌∷◌, ap, ◌∙◌, sym}
 use Rattle.std.proofs.Math.Bool.{beq}
 use Rattle.lls_rule.specs.Rule.{has_bit, around}
 use Rattle.lls_hensel.specs.declared.class.Class.{Class}
 use Rattle.lls_hensel.specs.Class.{classes_of, is_of_class, same_letter}
 use Rattle.lls_hensel.specs.Entries.{tells}
 use Rattle.lls_hensel.specs.Groups.{around_number}
-use Rattle.lls_hensel.specs.Neighbours.{eight_of}
 use Rattle.lls_hensel.specs.Numbers.{class_by_number}
 use Rattle.lls_hensel.proofs.Classes.{classes_of-class_by_number}
 use Rattle.lls_hensel.proofs.Tells.{around_number-lt, around-eight_of, is_of_class-eight_of}

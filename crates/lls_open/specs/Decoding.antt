@@ -1,5 +1,5 @@
 -- What an assignment of the formula's variables says of the rule, and the assignments that say a history and a rule.
-use Rattle.std.specs.Prelude.{◌≡◌, ℕ, ◌+◌, Bool, true, false, List, ◌++◌, map, length, take, slice_index_or, ◌||◌, ◌&&◌}
+use Rattle.std.specs.Prelude.{◌≡◌, ℕ, ◌+◌, Bool, true, false, List, ◌++◌, map, length, slice_index_or, ◌||◌, ◌&&◌}
 use Rattle.std.specs.List.{list_any, range_with_len}
 use Rattle.lls_lit.specs.Formula.{Cnf, satisfies}
 use Rattle.lls_rule.specs.Rule.{answer, table_of}

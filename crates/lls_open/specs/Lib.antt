@@ -3,3 +3,4 @@ pub mod Classes
 pub mod Targets
 pub mod Formula
 pub mod Decoding
+pub mod Cubes

@@ -1,5 +1,5 @@
 -- The places whose transitions a formula is of, in their order.
-use Rattle.std.specs.Prelude.{ℕ, ◌+◌, ◌-◌, ℤ, pos, ◌-ℤ◌, List, [], ◌∷◌, if◌then◌else◌}
+use Rattle.std.specs.Prelude.{ℕ, ◌+◌, ◌-◌, ◌<◌, ℤ, pos, ◌-ℤ◌, List, [], ◌∷◌, if◌then◌else◌}
 use Rattle.std.specs.List.{flat_map, range_with_len}
 use Rattle.lls_problem.specs.Problem.{PosedProblem}
 use Rattle.lls_problem.specs.Solution.{is_marked}
@@ -27,3 +27,9 @@ generation_targets p t = flat_map (line_targets p t) (range_with_len (first_fram
 
 unfoldable pub targets_of : PosedProblem → List Target
 targets_of p = flat_map (generation_targets p) (range_with_len 0 (p.posed.generations - 1))
+
+-- a place that can be read: of a generation but the last, and at most one row and one column beside a grid of 64
+pub record IsTarget (p : PosedProblem) (target : Target) : Type 0 where
+  pub generation : target.t + 1 < p.posed.generations
+  pub line : target.line < 66
+  pub column : target.column < 66

@@ -3,9 +3,16 @@
 #![tactic(auto)]
 
 mod class;
+mod cubes;
+mod decoding;
+mod formula;
 mod table;
 mod target;
+mod transition;
 
 pub use class::{SideClass, open_classes};
-pub use table::{OPEN_INPUTS, OPEN_WORDS, class_table, settled_table};
-pub use target::{Target, targets_of};
+pub use decoding::decode_open;
+pub use formula::encode_open;
+pub use table::{OPEN_INPUTS, OPEN_WORDS};
+pub use target::Target;
+pub use transition::MOST_OPEN_CELLS;

@@ -36,12 +36,7 @@ fn push_place(targets: &mut Vec<Target>, problem: &Problem, target: Target) -> R
 }
 
 // Pushes the places of a line.
-fn push_line(
-    targets: &mut Vec<Target>,
-    problem: &Problem,
-    t: u32,
-    line: u32,
-) -> Result<(), Memory>
+fn push_line(targets: &mut Vec<Target>, problem: &Problem, t: u32, line: u32) -> Result<(), Memory>
     requires generation { t + 1 < problem.now.posed.generations }
     requires line { line < MOST_LINE }
     ensures { OnOk result (targets.new.items ≡ targets.old.items ++ line_targets problem.now t line) }

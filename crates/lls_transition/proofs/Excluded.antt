@@ -31,11 +31,11 @@ pub number_of-split : (n : ℕ) (bits : List Bool) → length bits ≡ suc n →
 number_of-split n bits count = ap number_of (split_last n bits count) ∙ number_of-append (take n bits) (get_or bits n false)
 
 -- the bits of twice a number and one more bit
-lowest : (m : ℕ) (bit : Bool) → nat_eq ((2 * m + cond bit 1 0) % 2) 1 ≡ bit
+pub lowest : (m : ℕ) (bit : Bool) → nat_eq ((2 * m + cond bit 1 0) % 2) 1 ≡ bit
 lowest m true = let odd : (2 * m + 1) % 2 ≡ 1 = omega arith in rw odd refl
 lowest m false = let even : (2 * m + 0) % 2 ≡ 0 = omega arith in rw even refl
 
-halved : (m : ℕ) (bit : Bool) → (2 * m + cond bit 1 0) / 2 ≡ m
+pub halved : (m : ℕ) (bit : Bool) → (2 * m + cond bit 1 0) / 2 ≡ m
 halved m true = omega arith
 halved m false = omega arith
 

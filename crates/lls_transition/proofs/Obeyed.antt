@@ -71,7 +71,7 @@ halved n = (omega arith, omega arith)
 halved_odd : (n : ℕ) → ((2 * n + 1) / 2 ≡ n) × ((2 * n + 1) % 2 ≡ 1)
 halved_odd n = (omega arith, omega arith)
 
-is_forbidden-row : (rule : List Bool) (n : ℕ) (last : Bool) → is_forbidden rule (2 * n + cond last 1 0) ≡ cond (answer rule n) (not last) last
+pub is_forbidden-row : (rule : List Bool) (n : ℕ) (last : Bool) → is_forbidden rule (2 * n + cond last 1 0) ≡ cond (answer rule n) (not last) last
 is_forbidden-row rule n true = rw ((halved_odd n).0, (halved_odd n).1) refl
 is_forbidden-row rule n false = rw ((halved n).0, (halved n).1) refl
 

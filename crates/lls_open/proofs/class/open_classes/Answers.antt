@@ -1,4 +1,4 @@
-use Rattle.std.proofs.Common.{◌≡◌, ◌++◌, Bool, true, false, ◌∙◌, ap, sym}
+use Rattle.std.proofs.Common.{◌++◌, true, false, ◌∙◌, ap, sym}
 use Rattle.std.specs.Prelude.{filter}
 use Rattle.std.proofs.lemmas.List.Elements.{filter-append}
 use Rattle.lls_open.specs.Classes.{is_open, side_classes, open_classes}

@@ -1,4 +1,4 @@
-use Rattle.std.proofs.Common.{◌≡◌, ◌++◌, List, Bool, map, take}
+use Rattle.std.proofs.Common.{◌≡◌, ◌++◌, Bool, map, take}
 use Rattle.std.specs.Prelude.{filter}
 use Rattle.lls_hensel.specs.declared.class.Class.{Class}
 use Rattle.lls_open.specs.declared.class.SideClass.{SideClass}

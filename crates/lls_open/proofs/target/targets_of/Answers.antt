@@ -1,4 +1,4 @@
-use Rattle.std.proofs.Common.{◌≡◌, ◌+◌, [], ◌∙◌, ap, arith}
+use Rattle.std.proofs.Common.{◌≡◌, [], ◌∙◌, ap, arith}
 use Rattle.lls_open.specs.Targets.{generation_targets, targets_of}
 use Rattle.lls_open.proofs.Listed.{appended_more, appended_all}
 use Rattle.lls_open.proofs.target.targets_of.Goals as goal

@@ -1,4 +1,4 @@
-use Rattle.std.proofs.Common.{◌≡◌, ℕ, ◌/◌, bit_and, nat_eq, Bool, ◌&&◌, true, false, Option, Some, None, ◌∙◌, refl, sym, ap, arith}
+use Rattle.std.proofs.Common.{◌≡◌, ℕ, ◌/◌, bit_and, nat_eq, ◌&&◌, true, false, Option, Some, None, ◌∙◌, refl, sym, ap, arith}
 use Rattle.std.proofs.Math.Bool.{beq}
 use Rattle.std.specs.Option.{option_eq}
 use Rattle.std.proofs.lemmas.Nat.{and_mask}

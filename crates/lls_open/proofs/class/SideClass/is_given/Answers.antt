@@ -1,6 +1,5 @@
-use Rattle.std.proofs.Common.{◌≡◌, ◌&&◌, Bool, true, false, ◌∙◌, refl, ap, sym, arith, below_more}
+use Rattle.std.proofs.Common.{◌≡◌, ◌&&◌, Bool, true, false, ◌∙◌, refl, sym, arith, below_more}
 use Rattle.std.proofs.lemmas.Bool.{and_left}
-use Rattle.lls_rule.specs.Rule.{answer}
 use Rattle.lls_open.specs.Classes.{is_of}
 use Rattle.lls_open.proofs.Giving.{gives-at, gives-none}
 use Rattle.lls_open.proofs.class.SideClass.is_given.Goals as goal
