@@ -5,7 +5,7 @@ use Rattle.std.specs.List.{range_with_len, list_any}
 use Rattle.std.proofs.Math.Nat.{mod-eq_of_lt}
 use Rattle.std.proofs.lemmas.List.{append-nil}
 use Rattle.std.proofs.lemmas.List.Elements.{All-nil, All-cons}
-use Rattle.std.proofs.lemmas.Nat.{and_mask}
+use Rattle.std.proofs.lemmas.Nat.{and_mask, pow_pos}
 use Rattle.std.proofs.lemmas.Bool.Decides.{eqb_tells, nat_tests}
 use Rattle.lls_cube.specs.declared.cube.Cube.{Cube}
 use Rattle.lls_cube.specs.Cube.{row_cube, contains}
@@ -101,3 +101,8 @@ cared_from p k a (suc n) within =
 
 pub All-cubes : (p : ℕ → Bool) (k n : ℕ) → n ≡ 2 ^ k → All (λ cube. bit_and cube.value cube.care ≡ cube.value) (map (row_cube k) (filter p (range_with_len 0 n)))
 All-cubes p k n all = cared_from p k 0 n (omega arith)
+
+-- and these cubes care for the inputs alone
+pub All-row_cubes : (k : ℕ) (rows : List ℕ) → All (λ (cube : Cube). cube.care < 2 ^ k) (map (row_cube k) rows)
+All-row_cubes k [] = All-nil (λ (cube : Cube). cube.care < 2 ^ k)
+All-row_cubes k (row ∷ rows) = All-cons (λ (cube : Cube). cube.care < 2 ^ k) (row_cube k row) (map (row_cube k) rows) (omega (arith, pow_pos k)) (All-row_cubes k rows)

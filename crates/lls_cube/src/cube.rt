@@ -54,8 +54,9 @@ pub fn rows<const K: usize, const W: usize>(
     ensures covers { IfOk result (λ cubes. (row : ℕ) → row < 2 ^ K
         → list_any (contains row) cubes.items ≡ is_forbidden table.now row) }
 
-    // No value has a bit that its cube doesn't care for.
+    // No value has a bit that its cube doesn't care for, and no cube cares for more than the inputs.
     ensures cared { IfOk result (λ cubes. All (λ cube. bit_and cube.value cube.care ≡ cube.value) cubes.items) }
+    ensures inputs { IfOk result (λ cubes. All (λ cube. cube.care < 2 ^ K) cubes.items) }
 {
     let every_input = (table.row_count() - 1) as u16;
     let mut cubes = Vec::new(alloc);

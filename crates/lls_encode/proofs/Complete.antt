@@ -132,7 +132,7 @@ satisfies-place_clauses p form cubes just h values has obeys t y x next_in in_fr
 satisfies-place_clauses p form cubes just h values has obeys t y x next_in in_frame false mark =
     satisfies-by_successor p form cubes just h values has t y x next_in (obeys t y x next_in in_frame mark)
 
-satisfies-framed : (values : List Bool) (f : ℤ → List Clause) (edge : Edge) (size : ℕ) → ((x : ℤ) → IsFramedLine edge size x → satisfies values (f x) ≡ true)
+pub satisfies-framed : (values : List Bool) (f : ℤ → List Clause) (edge : Edge) (size : ℕ) → ((x : ℤ) → IsFramedLine edge size x → satisfies values (f x) ≡ true)
     → satisfies values (flat_map f (framed edge size)) ≡ true
 satisfies-framed values f edge size each =
     ap (satisfies values) (flat_map-map f (λ (k : ℕ). pos k -ℤ pos 1) _)
@@ -191,7 +191,7 @@ has_extension p h values kept fitting has enough meets =
           ∙ satisfies-append (before ++ marks) (bounds_part p (length values)) (difference_part p (length values + bounds_vars p)) ∙ and_from _ _ bounds difference;
     }
 
-HasCells-cells_of : (p : PosedProblem) (h : History) → IsPosed p.posed → HasSizes p.posed.generations p.posed.height p.posed.width h → HasCells p (cells_of h) h
+pub HasCells-cells_of : (p : PosedProblem) (h : History) → IsPosed p.posed → HasSizes p.posed.generations p.posed.height p.posed.width h → HasCells p (cells_of h) h
 HasCells-cells_of p h kept sizes = record { kept = kept; sizes = sizes; cells = λ k k_in. refl }
 
 -- the theorem

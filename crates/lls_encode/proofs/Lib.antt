@@ -22,3 +22,4 @@ pub mod AllBounds
 pub mod Counters
 pub mod Made
 pub mod Appended
+pub mod Taken

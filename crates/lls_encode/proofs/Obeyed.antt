@@ -24,7 +24,7 @@ use Rattle.lls_encode.specs.Place.{place_at, place_in, inputs_at}
 use Rattle.lls_encode.proofs.Values.{HasCells, values-inputs_at}
 
 -- a known value, or a literal that isn't 0
-abbrev place_is_literal : Place → Bool
+abbrev pub place_is_literal : Place → Bool
 place_is_literal (Known value) = true
 place_is_literal (Of literal) = leb 1 (variable_of literal)
 
@@ -34,7 +34,7 @@ is_literal_in p t (Some row) (Some column) = le-leb 1 (place_of p.posed t row co
 is_literal_in p t (Some row) None = refl
 is_literal_in p t None column = refl
 
-inputs_are_literals : (p : PosedProblem) (t : ℕ) (y x : ℤ) → list_all place_is_literal (inputs_at p t y x) ≡ true
+pub inputs_are_literals : (p : PosedProblem) (t : ℕ) (y x : ℤ) → list_all place_is_literal (inputs_at p t y x) ≡ true
 inputs_are_literals p t y x =
     let lit : (t : ℕ) (y x : ℤ) → place_is_literal (place_at p t y x) ≡ true = λ t y x. is_literal_in p t _ _ in
     rw (
@@ -51,12 +51,12 @@ inputs_are_literals p t y x =
     )
 
 -- so they are literals of some number of variables
-abbrev most_of : List Place → ℕ
+abbrev pub most_of : List Place → ℕ
 most_of [] = 0
 most_of (Known value ∷ places) = most_of places
 most_of (Of literal ∷ places) = variable_of literal + most_of places
 
-within_most : (places : List Place) (vars : ℕ) → most_of places ≤ vars → list_all place_is_literal places ≡ true → list_all (place_within vars) places ≡ true
+pub within_most : (places : List Place) (vars : ℕ) → most_of places ≤ vars → list_all place_is_literal places ≡ true → list_all (place_within vars) places ≡ true
 within_most [] vars few all = refl
 within_most (Known value ∷ places) vars few all = within_most places vars few all
 within_most (Of literal ∷ places) vars few all =
@@ -69,7 +69,7 @@ cubes_contain Rows rule = forbidden_cubes rule
 cubes_contain Cover rule = covering_cubes rule
 
 -- clauses that aren't repeated say the same
-satisfies-clauses_at : (values : List Bool) (form : Form) (cubes : List Cube) (inputs : List Place) → satisfies values (clauses_at form cubes inputs) ≡ satisfies values (cube_clauses inputs cubes)
+pub satisfies-clauses_at : (values : List Bool) (form : Form) (cubes : List Cube) (inputs : List Place) → satisfies values (clauses_at form cubes inputs) ≡ satisfies values (cube_clauses inputs cubes)
 satisfies-clauses_at values Rows cubes inputs = refl
 satisfies-clauses_at values Cover cubes inputs = satisfies-distinct values (cube_clauses inputs cubes)
 

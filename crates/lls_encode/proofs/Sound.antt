@@ -51,7 +51,7 @@ cells_of-history_of p values kept enough =
     length-take-le (length p.posed.cells) values enough ∙ kept.count in
     cells_of-folded p.posed.generations p.posed.height p.posed.width (take (length p.posed.cells) values) count
 
-HasSizes-history_of : (p : PosedProblem) (values : List Bool) → IsPosed p.posed → HasSizes p.posed.generations p.posed.height p.posed.width (history_of p values)
+pub HasSizes-history_of : (p : PosedProblem) (values : List Bool) → IsPosed p.posed → HasSizes p.posed.generations p.posed.height p.posed.width (history_of p values)
 HasSizes-history_of p values kept =
     let some : 0 < p.posed.generations = omega (arith, kept.generations.0) in
     let rows : 0 < p.posed.height = omega (arith, kept.height.0) in

@@ -83,10 +83,14 @@ framed_count Bare size = size
 abbrev pub framed : Edge → ℕ → List ℤ
 framed edge size = map (λ i. pos i -ℤ pos 1) (range_with_len (first_framed edge) (framed_count edge size))
 
--- the cubes of a rule's transitions: one for each row that it forbids, ascending, or the cover of these rows
+-- the cubes of a table of so many inputs: one for each forbidden row, ascending, or the cover of these rows
+abbrev pub cubes_in : Form → ℕ → List Bool → List Cube
+cubes_in Rows inputs table = map (row_cube inputs) (forbidden_rows table)
+cubes_in Cover inputs table = cover_of table inputs
+
+-- those of a rule's transitions
 abbrev pub cubes_of : Form → List Bool → List Cube
-cubes_of Rows rule = map (row_cube INPUTS) (forbidden_rows (table_of rule))
-cubes_of Cover rule = cover_of (table_of rule) INPUTS
+cubes_of form rule = cubes_in form INPUTS (table_of rule)
 
 -- the clauses of cubes with these inputs; of a cover's, one that equals an earlier one, as a list, is left out
 abbrev pub clauses_at : Form → List Cube → List Place → List Clause

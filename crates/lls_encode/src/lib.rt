@@ -3,6 +3,7 @@
 
 mod append;
 mod cells;
+mod cubes;
 mod decoding;
 mod difference;
 mod equal;
@@ -15,7 +16,9 @@ mod population;
 mod symmetry;
 mod transition;
 
+pub use cubes::{cubes_in, push_cubes_of};
 pub use decoding::decode;
 pub use formula::{CLAUSES_BELOW, encode};
 pub use outer::{push_after, push_before};
-pub use place::inputs;
+pub use place::{inputs, inputs_at};
+pub use transition::{first_framed, framed_count};

@@ -1,19 +1,19 @@
 // The clauses of transitions.
-ghost use Rattle.std.specs.Prelude.{◌≡◌, ◌-◌, ◌<◌, ◌≤◌, ◌+◌, ℤ, pos, ◌-ℤ◌, length, true, OnOk, IfOk};
-ghost use Rattle.std.specs.List.{list_all};
-ghost use Rattle.lls_transition.specs.Place.{place_within};
+ghost use Rattle.std.specs.Prelude.{◌≡◌, ◌-◌, ◌<◌, ◌≤◌, ◌+◌, ◌^◌, ℤ, pos, ◌-ℤ◌, length, All, OnOk, IfOk};
+ghost use Rattle.lls_transition.specs.declared.table.TheConstants.{INPUTS};
 ghost use Rattle.lls_transition.specs.Clause.{with_clauses};
-ghost use Rattle.lls_encode.specs.Formula.{cubes_of, clauses_at, place_clauses, line_clauses, generation_clauses, transition_part, first_framed, framed_count};
+ghost use Rattle.lls_encode.specs.Formula.{cubes_of, place_clauses, line_clauses, generation_clauses, transition_part, first_framed, framed_count};
 ghost use Rattle.lls_encode.specs.Room.{HasRoom};
 
+use crate::cubes::{cubes_in, push_cubes_of};
 use crate::place::inputs_at;
 use lls_base::Memory;
 use lls_cnf::Formula;
-use lls_cube::{Cube, cover, rows};
+use lls_cube::Cube;
 use lls_grid::History;
 use lls_problem::{Edge, Form, Problem};
 use lls_rule::Rule;
-use lls_transition::{INPUTS, MOST_CLAUSES_EACH, Place, push_cubes, push_cubes_once, table_of};
+use lls_transition::{MOST_CLAUSES_EACH, table_of};
 use std::alloc::Global;
 
 // A line has at most 64 cells and one cell of the ring at each end.
@@ -29,30 +29,10 @@ const MOST_CLAUSES_ALL: usize = (History::MOST_GENERATIONS as usize - 1) * MOST_
 // The cubes of a rule's transitions. The transition into each place takes the same.
 fn cubes_of(alloc: Global, form: Form, rule: &Rule) -> Result<Vec<Cube>, Memory>
     ensures cubes { IfOk result (λ cubes. cubes.items ≡ cubes_of form rule.now) }
+    ensures cares { IfOk result (λ cubes. All (λ cube. cube.care < 2 ^ INPUTS) cubes.items) }
     ensures few { IfOk result (λ cubes. length cubes.items ≤ MOST_CLAUSES_EACH) }
 {
-    let table = table_of(rule);
-    match form {
-        Form::Rows => rows(alloc, &table),
-        Form::Cover => cover(alloc, &table),
-    }
-}
-
-// Pushes the clauses of cubes with these inputs.
-fn push_clauses_at(
-    formula: &mut Formula,
-    form: Form,
-    cubes: &[Cube],
-    inputs: &[Place; INPUTS],
-) -> Result<(), Memory>
-    requires within { list_all (place_within formula.old.vars) inputs.now ≡ true }
-    requires room { HasRoom formula.old (length cubes.now) }
-    ensures { OnOk result (formula.new ≡ with_clauses formula.old (clauses_at form cubes.now inputs.now)) }
-{
-    match form {
-        Form::Rows => push_cubes(formula, cubes, inputs),
-        Form::Cover => push_cubes_once(formula, cubes, inputs),
-    }
+    cubes_in(alloc, form, &table_of(rule))
 }
 
 // Pushes the transition into a place of generation t + 1, unless a mark frees it. The line and the column count from
@@ -67,6 +47,7 @@ fn push_place(
     column: u32,
 ) -> Result<(), Memory>
     requires cubes { length cubes.now ≤ MOST_CLAUSES_EACH }
+    requires cares { All (λ cube. cube.care < 2 ^ INPUTS) cubes.now }
     requires generation { t + 1 < problem.now.posed.generations }
     requires line { line < MOST_LINE }
     requires column { column < MOST_LINE }
@@ -79,13 +60,13 @@ fn push_place(
     let y = line as i32 - 1;
     let x = column as i32 - 1;
     if !problem.is_marked(t + 1, y, x) {
-        push_clauses_at(formula, form, cubes, &inputs_at(problem, t, y, x))?;
+        push_cubes_of(formula, form, cubes, &inputs_at(problem, t, y, x))?;
     }
     Ok(())
 }
 
-// The first framed row or column, counted from the one before the grid.
-fn first_framed(edge: Edge) -> u32
+/// The first framed row or column, counted from the one before the grid.
+pub fn first_framed(edge: Edge) -> u32
     ensures value { result ≡ first_framed edge }
     ensures small { result ≤ 1 }
 {
@@ -95,8 +76,8 @@ fn first_framed(edge: Edge) -> u32
     }
 }
 
-// How many rows or columns are framed where the grid has `size`.
-fn framed_count(edge: Edge, size: u32) -> u32
+/// How many rows or columns are framed where the grid has `size`.
+pub fn framed_count(edge: Edge, size: u32) -> u32
     requires { size ≤ History.MOST_WIDTH }
     ensures value { result ≡ framed_count edge size }
     ensures small { result + first_framed edge ≤ size + 2 }
@@ -117,6 +98,7 @@ fn push_line(
     line: u32,
 ) -> Result<(), Memory>
     requires cubes { length cubes.now ≤ MOST_CLAUSES_EACH }
+    requires cares { All (λ cube. cube.care < 2 ^ INPUTS) cubes.now }
     requires generation { t + 1 < problem.now.posed.generations }
     requires line { line < MOST_LINE }
     requires vars { formula.old.vars ≡ length problem.now.posed.cells }
@@ -140,6 +122,7 @@ fn push_generation(
     t: u32,
 ) -> Result<(), Memory>
     requires cubes { length cubes.now ≤ MOST_CLAUSES_EACH }
+    requires cares { All (λ cube. cube.care < 2 ^ INPUTS) cubes.now }
     requires generation { t + 1 < problem.now.posed.generations }
     requires vars { formula.old.vars ≡ length problem.now.posed.cells }
     requires room { HasRoom formula.old MOST_CLAUSES_GENERATION }

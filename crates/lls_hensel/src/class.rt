@@ -1,9 +1,11 @@
 // The classes of the eight neighbours of a cell.
-ghost use Rattle.std.specs.Prelude.{◌≡◌, ◌≤◌, [], ◌∷◌, Some, count_ones};
-ghost use Rattle.lls_hensel.specs.Class.{classes_of, same_letter};
+ghost use Rattle.std.specs.Prelude.{◌≡◌, ◌<◌, ◌≤◌, [], ◌∷◌, Some, count_ones};
+ghost use Rattle.lls_rule.specs.Rule.{around};
+ghost use Rattle.lls_hensel.specs.Class.{classes, classes_of, same_letter};
 ghost use Rattle.lls_hensel.specs.Neighbours.{eight_of};
 ghost use Rattle.lls_hensel.specs.Numbers.{representatives_of, representative_by_number, letter_by_number, images_by_number, fewer_of, turned, mirrored, flipped};
 
+use crate::nine::around;
 use lls_rule::Rule;
 
 /// Half of the neighbours of a cell: with more live ones the dead ones are fewer.
@@ -46,6 +48,39 @@ pub fn class_of(eight: u8) -> Class
     let count = live_count(eight);
     let letter = letter_of(count, fewer(eight));
     Class { count, letter }
+}
+
+/// The class of the eight neighbours of a neighbourhood, which has a number as in [`Rule`].
+pub fn class_at(nine: u16) -> Class
+    requires { nine < Rule.NEIGHBOURHOODS }
+    ensures { classes_of (around nine) ≡ result ∷ [] }
+{
+    class_of(around(nine))
+}
+
+/// The 51 classes by count, those of a count by their letters in alphabetical order.
+pub fn all_classes() -> &'static [Class]
+    ensures { result.now ≡ classes }
+{
+    // The one class of no live neighbour and that of eight have no letter.
+    macro_rules! table {
+        ($($count:literal $letter:literal),*) => {
+            &[
+                Class { count: 0, letter: None },
+                $(Class { count: $count, letter: Some($letter) }),*,
+                Class { count: 8, letter: None }
+            ]
+        };
+    }
+    table![
+        1 b'c', 1 b'e',
+        2 b'a', 2 b'c', 2 b'e', 2 b'i', 2 b'k', 2 b'n',
+        3 b'a', 3 b'c', 3 b'e', 3 b'i', 3 b'j', 3 b'k', 3 b'n', 3 b'q', 3 b'r', 3 b'y',
+        4 b'a', 4 b'c', 4 b'e', 4 b'i', 4 b'j', 4 b'k', 4 b'n', 4 b'q', 4 b'r', 4 b't', 4 b'w', 4 b'y', 4 b'z',
+        5 b'a', 5 b'c', 5 b'e', 5 b'i', 5 b'j', 5 b'k', 5 b'n', 5 b'q', 5 b'r', 5 b'y',
+        6 b'a', 6 b'c', 6 b'e', 6 b'i', 6 b'k', 6 b'n',
+        7 b'c', 7 b'e'
+    ]
 }
 
 // The letter of a count whose class has these neighbours, of which at most half are live.

@@ -7,6 +7,6 @@ mod nine;
 mod print;
 mod read;
 
-pub use class::{Class, class_of};
+pub use class::{Class, all_classes, class_at, class_of};
 pub use print::{PrintRuleError, print_rule};
 pub use read::{RuleError, read_rule};

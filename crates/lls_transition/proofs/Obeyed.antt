@@ -7,7 +7,7 @@ use Rattle.std.proofs.lemmas.List.Elements.{All-nil, All-cons}
 use Rattle.std.proofs.lemmas.List.FromFn.{length-map-range_with_len, get_or-map-range_with_len}
 use Rattle.lls_lit.specs.Formula.{satisfies}
 use Rattle.lls_rule.specs.Rule.{answer, number_of}
-use Rattle.lls_rule.proofs.Numbers.{number_of-lt, number_of-append}
+use Rattle.lls_rule.proofs.Numbers.{number_of-lt}
 use Rattle.lls_cube.specs.declared.cube.Cube.{Cube}
 use Rattle.lls_cube.specs.Table.{forbidden_rows}
 use Rattle.lls_cube.specs.Table as table
@@ -20,7 +20,7 @@ use Rattle.lls_transition.specs.declared.place.Place.TheVariants.{Known}
 use Rattle.lls_transition.specs.Place.{place_within, value_of}
 use Rattle.lls_transition.specs.Clause.{cube_clauses, row_of}
 use Rattle.lls_transition.specs.Transition.{is_forbidden, table_of, transition_clauses, ContainForbidden, Obeys}
-use Rattle.lls_transition.proofs.Excluded.{satisfies-cube_clauses}
+use Rattle.lls_transition.proofs.Excluded.{number_of-split, satisfies-cube_clauses}
 
 length-table_of : (rule : List Bool) → length (table_of rule) ≡ 1024
 unfolding table_of
@@ -38,13 +38,17 @@ row_in : (values : List Bool) (inputs : List Place) → length inputs ≡ 10 →
 row_in values inputs ten =
     subst (λ n. row_of values inputs < 2 ^ n) (length-map inputs (value_of values) ∙ ten) (number_of-lt (map (value_of values) inputs))
 
+-- the cubes care for no input but those of a transition
+pub cares_of : (rule : List Bool) (inputs : List Place) (cubes : List Cube) → length inputs ≡ 10 → ContainForbidden rule cubes → All (λ cube. cube.care < 2 ^ length inputs) cubes
+cares_of rule inputs cubes ten just = subst (λ (n : ℕ). All (λ (cube : Cube). cube.care < 2 ^ n) cubes) (sym ten) just.inputs
+
 -- the row of the inputs' values isn't forbidden
 satisfies-forbidden : (values : List Bool) (vars : ℕ) (rule : List Bool) (inputs : List Place) (cubes : List Cube) → list_all (place_within vars) inputs ≡ true → length inputs ≡ 10 → ContainForbidden rule cubes
     → satisfies values (cube_clauses inputs cubes) ≡ not (is_forbidden rule (row_of values inputs))
 satisfies-forbidden values vars rule inputs cubes all ten just =
     let row = row_of values inputs in
     let inside = row_in values inputs ten in
-    satisfies-cube_clauses values vars inputs cubes all ten just.inputs ∙ ap not (just.rows row inside ∙ is_forbidden-table_of rule row inside)
+    satisfies-cube_clauses values vars inputs cubes all (cares_of rule inputs cubes ten just) ∙ ap not (just.rows row inside ∙ is_forbidden-table_of rule row inside)
 
 -- the cubes of the forbidden rows
 pub forbidden_cubes : (rule : List Bool) → ContainForbidden rule (map (row_cube 10) (forbidden_rows (table_of rule)))
@@ -67,18 +71,9 @@ halved n = (omega arith, omega arith)
 halved_odd : (n : ℕ) → ((2 * n + 1) / 2 ≡ n) × ((2 * n + 1) % 2 ≡ 1)
 halved_odd n = (omega arith, omega arith)
 
-is_forbidden-row : (rule : List Bool) (n : ℕ) (last : Bool) → is_forbidden rule (2 * n + cond last 1 0) ≡ cond (answer rule n) (not last) last
+pub is_forbidden-row : (rule : List Bool) (n : ℕ) (last : Bool) → is_forbidden rule (2 * n + cond last 1 0) ≡ cond (answer rule n) (not last) last
 is_forbidden-row rule n true = rw ((halved_odd n).0, (halved_odd n).1) refl
 is_forbidden-row rule n false = rw ((halved n).0, (halved n).1) refl
-
-split_last : (n : ℕ) (bits : List Bool) → length bits ≡ suc n → bits ≡ take n bits ++ get_or bits n false ∷ []
-split_last n [] e = absurd (omega arith)
-split_last zero (bit ∷ []) e = refl
-split_last zero (bit ∷ other ∷ bits) e = absurd (omega arith)
-split_last (suc n) (bit ∷ bits) e = ap (λ rest. bit ∷ rest) (split_last n bits (omega arith))
-
-number_of-ten : (bits : List Bool) → length bits ≡ 10 → number_of bits ≡ 2 * number_of (take 9 bits) + cond (get_or bits 9 false) 1 0
-number_of-ten bits ten = ap number_of (split_last 9 bits ten) ∙ number_of-append (take 9 bits) (get_or bits 9 false)
 
 agrees : (a b : Bool) → (not (cond a (not b) b) ≡ true) ↔ (b ≡ a)
 agrees true true = (λ e. refl, λ e. refl)
@@ -97,7 +92,7 @@ cubes_obey values vars rule inputs cubes all ten just =
     let bits : List Bool = map (value_of values) inputs in
     let count : length bits ≡ 10 = length-map inputs (value_of values) ∙ ten in
     both (satisfies values (cube_clauses inputs cubes)) (answer rule (number_of (take 9 bits))) (get_or bits 9 false) _ _
-    (satisfies-forbidden values vars rule inputs cubes all ten just ∙ ap not (ap (is_forbidden rule) (number_of-ten bits count) ∙ is_forbidden-row rule (number_of (take 9 bits)) (get_or bits 9 false)))
+    (satisfies-forbidden values vars rule inputs cubes all ten just ∙ ap not (ap (is_forbidden rule) (number_of-split 9 bits count) ∙ is_forbidden-row rule (number_of (take 9 bits)) (get_or bits 9 false)))
     (get_or-map (value_of values) inputs 9 (Known false) false (omega arith))
     (ap (λ bs. answer rule (number_of bs)) (take-map (value_of values) 9 inputs))
 

@@ -32,7 +32,7 @@ within-chosen vars false place within = refl
 within-places : (vars : ℕ) (inputs : List Place) (cube : Cube) (a n : ℕ) → list_all (place_within vars) inputs ≡ true → list_all (place_within vars) (map (cube_place inputs cube) (range_with_len a n)) ≡ true
 within-places vars inputs cube a zero all = refl
 within-places vars inputs cube a (suc n) all =
-    and_from _ _ (within-chosen vars (input_bit cube.care a) _ (within-differing vars (get_or inputs a (Known false)) (input_bit cube.value a) (within_at vars inputs a all))) (within-places vars inputs cube (a + 1) n all)
+    and_from _ _ (within-chosen vars (input_bit (length inputs) cube.care a) _ (within-differing vars (get_or inputs a (Known false)) (input_bit (length inputs) cube.value a) (within_at vars inputs a all))) (within-places vars inputs cube (a + 1) n all)
 
 one_more : (vars : ℕ) (l : ℤ) (o : Option Clause) (clause : Clause) → is_literal_of vars l ≡ true → ((rest : Clause) → o ≡ Some rest → is_within vars rest ≡ true)
     → option_map (λ rest. l ∷ rest) o ≡ Some clause → is_within vars clause ≡ true
@@ -52,7 +52,7 @@ is_within-clause_of vars (Of l ∷ places) clause all e =
 -- a cube's clause is of the variables of the inputs
 pub is_within-cube_clause : (vars : ℕ) (inputs : List Place) (cube : Cube) (clause : Clause) → list_all (place_within vars) inputs ≡ true → cube_clause inputs cube ≡ Some clause → is_within vars clause ≡ true
 unfolding cube_places
-is_within-cube_clause vars inputs cube clause all e = is_within-clause_of vars (map (cube_place inputs cube) (range_with_len 0 10)) clause (within-places vars inputs cube 0 10 all) e
+is_within-cube_clause vars inputs cube clause all e = is_within-clause_of vars (map (cube_place inputs cube) (range_with_len 0 (length inputs))) clause (within-places vars inputs cube 0 (length inputs) all) e
 
 -- a cube without a clause, and one with one
 pub cube_clauses-none : (formula : Cnf) (inputs : List Place) (cube : Cube) → cube_clause inputs cube ≡ None → formula ≡ with_clauses formula (cube_clauses inputs (cube ∷ []))

@@ -11,19 +11,25 @@ use Rattle.lls_transition.specs.Clause.{clause_of, cube_place, cube_places, cube
 
 -- the places from i on
 unfoldable pub places_from : List Place → Cube → ℕ → List Place
-places_from inputs cube i = map (cube_place inputs cube) (range_with_len i (10 - i))
+places_from inputs cube i = map (cube_place inputs cube) (range_with_len i (length inputs - i))
 
-one_less : (i : ℕ) → i < 10 → 10 - i ≡ suc (10 - (i + 1))
-one_less i inside = omega arith
+one_less : (n i : ℕ) → i < n → n - i ≡ suc (n - (i + 1))
+one_less n i inside = omega (arith, inside)
 
-places_from-at : (inputs : List Place) (cube : Cube) (i : ℕ) (place : Place) → i < 10 → place ≡ cube_place inputs cube i → places_from inputs cube i ≡ place ∷ places_from inputs cube (i + 1)
+none_left : (n : ℕ) → n - n ≡ 0
+none_left n = omega arith
+
+all_left : (n : ℕ) → n ≡ n - 0
+all_left n = omega arith
+
+places_from-at : (inputs : List Place) (cube : Cube) (i : ℕ) (place : Place) → i < length inputs → place ≡ cube_place inputs cube i → places_from inputs cube i ≡ place ∷ places_from inputs cube (i + 1)
 unfolding places_from
 places_from-at inputs cube i place inside is =
-    ap (λ n. map (cube_place inputs cube) (range_with_len i n)) (one_less i inside) ∙ ap (λ p. p ∷ map (cube_place inputs cube) (range_with_len (i + 1) (10 - (i + 1)))) (sym is)
+    ap (λ n. map (cube_place inputs cube) (range_with_len i n)) (one_less (length inputs) i inside) ∙ ap (λ p. p ∷ map (cube_place inputs cube) (range_with_len (i + 1) (length inputs - (i + 1)))) (sym is)
 
-places_from-end : (inputs : List Place) (cube : Cube) → places_from inputs cube 10 ≡ []
+places_from-end : (inputs : List Place) (cube : Cube) → places_from inputs cube (length inputs) ≡ []
 unfolding places_from
-places_from-end inputs cube = refl
+places_from-end inputs cube = ap (λ n. map (cube_place inputs cube) (range_with_len (length inputs) n)) (none_left (length inputs))
 
 -- the literals so far, before those of the inputs from i on, are the whole clause
 abbrev pub Goes : List Place → Cube → ℕ → Clause → Type 0
@@ -35,30 +41,32 @@ nothing_before (Some clause) = refl
 
 pub goes_first : (inputs : List Place) (cube : Cube) → Goes inputs cube 0 []
 unfolding places_from cube_places
-goes_first inputs cube = nothing_before (clause_of (map (cube_place inputs cube) (range_with_len 0 10)))
+goes_first inputs cube =
+    nothing_before (clause_of (map (cube_place inputs cube) (range_with_len 0 (length inputs))))
+    ∙ ap (λ n. option_map (λ rest. [] ++ rest) (clause_of (map (cube_place inputs cube) (range_with_len 0 n)))) (all_left (length inputs))
 
-goes_with : (inputs : List Place) (cube : Cube) (i : ℕ) (place : Place) (clause : Clause) → i < 10 → place ≡ cube_place inputs cube i → Goes inputs cube i clause
+goes_with : (inputs : List Place) (cube : Cube) (i : ℕ) (place : Place) (clause : Clause) → i < length inputs → place ≡ cube_place inputs cube i → Goes inputs cube i clause
     → cube_clause inputs cube ≡ option_map (λ rest. clause ++ rest) (clause_of (place ∷ places_from inputs cube (i + 1)))
 goes_with inputs cube i place clause inside is goes =
     goes ∙ ap (λ ps. option_map (λ rest. clause ++ rest) (clause_of ps)) (places_from-at inputs cube i place inside is)
 
-pub goes_out : (inputs : List Place) (cube : Cube) (i : ℕ) (clause : Clause) → i < 10 → Known true ≡ cube_place inputs cube i → Goes inputs cube i clause → cube_clause inputs cube ≡ None
+pub goes_out : (inputs : List Place) (cube : Cube) (i : ℕ) (clause : Clause) → i < length inputs → Known true ≡ cube_place inputs cube i → Goes inputs cube i clause → cube_clause inputs cube ≡ None
 goes_out inputs cube i clause inside is goes = goes_with inputs cube i (Known true) clause inside is goes
 
-pub goes_past : (inputs : List Place) (cube : Cube) (i : ℕ) (clause : Clause) → i < 10 → Known false ≡ cube_place inputs cube i → Goes inputs cube i clause → Goes inputs cube (i + 1) clause
+pub goes_past : (inputs : List Place) (cube : Cube) (i : ℕ) (clause : Clause) → i < length inputs → Known false ≡ cube_place inputs cube i → Goes inputs cube i clause → Goes inputs cube (i + 1) clause
 goes_past inputs cube i clause inside is goes = goes_with inputs cube i (Known false) clause inside is goes
 
 pushed : (o : Option Clause) (clause : Clause) (l : ℤ) → option_map (λ rest. clause ++ rest) (option_map (λ rest. l ∷ rest) o) ≡ option_map (λ rest. (clause ++ l ∷ []) ++ rest) o
 pushed None clause l = refl
 pushed (Some rest) clause l = ap Some (sym (append_assoc clause (l ∷ []) rest))
 
-pub goes_on : (inputs : List Place) (cube : Cube) (i n : ℕ) (l : ℤ) (lits : List ℤ) → i < 10 → n ≤ i → length lits ≡ 10 → Of l ≡ cube_place inputs cube i
+pub goes_on : (inputs : List Place) (cube : Cube) (i n : ℕ) (l : ℤ) (lits : List ℤ) → i < length inputs → n ≤ i → i < length lits → Of l ≡ cube_place inputs cube i
     → Goes inputs cube i (take n lits) → Goes inputs cube (i + 1) (take (n + 1) (set lits n l))
-goes_on inputs cube i n l lits inside few ten is goes =
+goes_on inputs cube i n l lits inside few room is goes =
     goes_with inputs cube i (Of l) (take n lits) inside is goes
     ∙ pushed (clause_of (places_from inputs cube (i + 1))) (take n lits) l
-    ∙ ap (λ (clause : Clause). option_map (λ rest. clause ++ rest) (clause_of (places_from inputs cube (i + 1)))) (sym (take_more_set lits n l (omega arith)))
+    ∙ ap (λ (clause : Clause). option_map (λ rest. clause ++ rest) (clause_of (places_from inputs cube (i + 1)))) (sym (take_more_set lits n l (omega (arith, few, room))))
 
-pub goes_through : (inputs : List Place) (cube : Cube) (i : ℕ) (clause : Clause) → i ≡ 10 → Goes inputs cube i clause → cube_clause inputs cube ≡ Some clause
+pub goes_through : (inputs : List Place) (cube : Cube) (i : ℕ) (clause : Clause) → i ≡ length inputs → Goes inputs cube i clause → cube_clause inputs cube ≡ Some clause
 goes_through inputs cube i clause all goes =
     goes ∙ ap (λ k. option_map (λ rest. clause ++ rest) (clause_of (places_from inputs cube k))) all ∙ ap (λ ps. option_map (λ rest. clause ++ rest) (clause_of ps)) (places_from-end inputs cube) ∙ ap Some (append-nil clause)

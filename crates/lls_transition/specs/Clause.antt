@@ -1,5 +1,5 @@
--- The clause of a cube of a transition's rows: that some input differs from its bit.
-use Rattle.std.specs.Prelude.{ℕ, ◌-◌, ◌==◌, Bool, true, false, not, List, [], ◌∷◌, ◌++◌, map, fold, Option, None, Some, slice_index_or, if◌then◌else◌}
+-- The clause of a cube of rows: that some input differs from its bit.
+use Rattle.std.specs.Prelude.{ℕ, ◌-◌, ◌==◌, Bool, true, false, not, List, [], ◌∷◌, ◌++◌, map, fold, Option, None, Some, length, slice_index_or, if◌then◌else◌}
 use Rattle.std.specs.Option.{option_map}
 use Rattle.std.specs.List.{filter_map, list_any, range_with_len}
 use Rattle.std.specs.Int.{bit_at}
@@ -11,7 +11,6 @@ use Rattle.lls_rule.specs.Rule.{number_of}
 use Rattle.lls_cube.specs.declared.cube.Cube.{Cube}
 use Rattle.lls_transition.specs.declared.place.Place.{Place}
 use Rattle.lls_transition.specs.declared.place.Place.TheVariants.{Known, Of}
-use Rattle.lls_transition.specs.declared.table.TheConstants.{INPUTS}
 use Rattle.lls_transition.specs.Place.{value_of}
 
 -- an input's literal, negated where the bit is 1: what is true where the input isn't the bit
@@ -27,17 +26,17 @@ clause_of (Known true ∷ places) = None
 clause_of (Known false ∷ places) = clause_of places
 clause_of (Of literal ∷ places) = option_map (λ clause. literal ∷ clause) (clause_of places)
 
--- the bit of input i, from the greatest weight to the least
-abbrev pub input_bit : ℕ → ℕ → Bool
-input_bit n i = bit_at n (INPUTS - 1 - i) == 1
+-- the bit of input i of so many, from the greatest weight to the least
+abbrev pub input_bit : ℕ → ℕ → ℕ → Bool
+input_bit inputs n i = bit_at n (inputs - 1 - i) == 1
 
 -- what input i adds to a cube's clause; one that the cube doesn't care for adds nothing
 abbrev pub cube_place : List Place → Cube → ℕ → Place
 cube_place inputs cube i =
-    if input_bit cube.care i then differing (slice_index_or inputs i (Known false)) (input_bit cube.value i) else Known false
+    if input_bit (length inputs) cube.care i then differing (slice_index_or inputs i (Known false)) (input_bit (length inputs) cube.value i) else Known false
 
 unfoldable pub cube_places : List Place → Cube → List Place
-cube_places inputs cube = map (cube_place inputs cube) (range_with_len 0 INPUTS)
+cube_places inputs cube = map (cube_place inputs cube) (range_with_len 0 (length inputs))
 
 abbrev pub cube_clause : List Place → Cube → Option Clause
 cube_clause inputs cube = clause_of (cube_places inputs cube)

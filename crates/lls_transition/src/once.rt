@@ -7,13 +7,14 @@ ghost use Rattle.lls_lit.specs.Formula.{is_within, satisfies};
 ghost use Rattle.lls_cube.specs.Cube.{contains};
 ghost use Rattle.lls_transition.specs.Place.{place_within};
 ghost use Rattle.lls_transition.specs.Clause.{with_clauses, with_new, distinct, cube_clauses, row_of};
+ghost use Rattle.lls_transition.specs.declared.table.TheConstants.{INPUTS};
 ghost use Rattle.lls_transition.specs.Transition.{ContainForbidden, Obeys};
 
+use crate::Place;
 use crate::clause::write_clause;
-use crate::{INPUTS, Place};
 use lls_base::Memory;
 use lls_cnf::Formula;
-use lls_cube::Cube;
+use lls_cube::{Cube, MOST_INPUTS};
 use lls_lit::Lit;
 
 // Whether a clause stands among a formula's from one on.
@@ -49,25 +50,28 @@ fn push_new(formula: &mut Formula, first: usize, lits: &[Lit]) -> Result<(), Mem
 pub fn push_cubes_once(
     formula: &mut Formula,
     cubes: &[Cube],
-    inputs: &[Place; INPUTS],
+    inputs: &[Place],
 ) -> Result<(), Memory>
     requires within { list_all (place_within formula.old.vars) inputs.now ≡ true }
+    requires most { length inputs.now ≤ MOST_INPUTS }
+    requires cares { All (λ cube. cube.care < 2 ^ length inputs.now) cubes.now }
     requires room { length formula.old.clauses + length cubes.now ≤ Formula.MOST_CLAUSES }
     ensures ok { OnOk result (formula.new ≡ with_clauses formula.old (distinct (cube_clauses inputs.now cubes.now))) }
     ensures err { OnErr result (formula.new ≡ formula.old) }
 
     // An assignment satisfies the distinct clauses exactly where it satisfies them all, so where no cube contains the row
     // of the inputs' values.
-    ensures excludes { (values : List Bool) → All (λ cube. cube.care < 2 ^ INPUTS) cubes.now
+    ensures excludes { (values : List Bool)
         → satisfies values (distinct (cube_clauses inputs.now cubes.now)) ≡ not (list_any (contains (row_of values inputs.now)) cubes.now) }
 
-    // Where the cubes contain just the rows that a rule forbids, that is where the last input is the rule's successor.
-    ensures obeys { (values rule : List Bool) → ContainForbidden rule cubes.now
+    // Where the inputs are those of a transition, and the cubes contain just the rows that a rule forbids, that is where the
+    // last input is the rule's successor.
+    ensures obeys { (values rule : List Bool) → length inputs.now ≡ INPUTS → ContainForbidden rule cubes.now
         → (satisfies values (distinct (cube_clauses inputs.now cubes.now)) ≡ true) ↔ Obeys values rule inputs.now }
 {
     let clauses = formula.len();
     let vars = formula.vars();
-    let mut clause = [Lit::from_number(1).unwrap(); INPUTS];
+    let mut clause = [Lit::from_number(1).unwrap(); MOST_INPUTS];
     for cube in cubes {
         if let Some(len) = write_clause(inputs, *cube, &mut clause) {
             match push_new(formula, clauses, &clause[..len]) {

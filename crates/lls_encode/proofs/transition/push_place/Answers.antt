@@ -6,8 +6,8 @@ use Rattle.lls_encode.specs.Formula.{clauses_at}
 use Rattle.lls_encode.proofs.Steps.{with_clauses-unless}
 use Rattle.lls_encode.proofs.transition.push_place.Goals as goal
 
-pub push_clauses_at-requires-clause-room : goal.push_clauses_at-requires-clause-room
-push_clauses_at-requires-clause-room c =
+pub push_cubes_of-requires-clause-room : goal.push_cubes_of-requires-clause-room
+push_cubes_of-requires-clause-room c =
     let few = c.requires.cubes in
     let room = c.requires.room in
     omega (arith, few, room)

@@ -22,7 +22,7 @@ loop-i-preserved c = elim c.match-cube_place.branch [
   | in-Of w ↦ rw (w.len-is, w.clause-is) record {
     few = omega (arith, c.loop-i.invariant.few);
     room = length-set _ _ _ ∙ c.loop-i.invariant.room;
-    goes = goes_on c.args.inputs.now c.args.cube c.loop-i.i c.loop-i.len w.in-Of.literal c.loop-i.clause c.loop-i-test.true c.loop-i.invariant.few c.loop-i.invariant.room w.in-Of.ensures c.loop-i.invariant.goes;
+    goes = goes_on c.args.inputs.now c.args.cube c.loop-i.i c.loop-i.len w.in-Of.literal c.loop-i.clause c.loop-i-test.true c.loop-i.invariant.few (omega (arith, c.loop-i-test.true, c.loop-i.invariant.room, c.requires)) w.in-Of.ensures c.loop-i.invariant.goes;
   }
 ]
 

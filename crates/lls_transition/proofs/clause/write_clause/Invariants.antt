@@ -4,4 +4,4 @@ use Rattle.lls_transition.proofs.clause.write_clause.Given as goal
 
 -- the literals so far
 abbrev pub invariant-loop-i : goal.invariant-loop-i
-invariant-loop-i l = record { few : l.len ≤ l.i; room : length l.clause ≡ 10; goes : Goes l.inputs l.cube l.i (take l.len l.clause) }
+invariant-loop-i l = record { few : l.len ≤ l.i; room : length l.clause ≡ 11; goes : Goes l.inputs l.cube l.i (take l.len l.clause) }

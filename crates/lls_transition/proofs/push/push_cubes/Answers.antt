@@ -14,16 +14,16 @@ loop-cube-preserved c =
 
 pub returns-in-Err-clause-excludes : goal.returns-in-Err-clause-excludes
 returns-in-Err-clause-excludes c =
-    λ values small. satisfies-cube_clauses values c.args.formula.now.vars c.args.inputs.now c.args.cubes.now c.requires.within c.type_inv.inputs small
+    λ values. satisfies-cube_clauses values c.args.formula.now.vars c.args.inputs.now c.args.cubes.now c.requires.within c.requires.cares
 
 pub returns-clause-excludes : goal.returns-clause-excludes
 returns-clause-excludes c =
-    λ values small. satisfies-cube_clauses values c.args.formula.now.vars c.args.inputs.now c.args.cubes.now c.requires.within c.type_inv.inputs small
+    λ values. satisfies-cube_clauses values c.args.formula.now.vars c.args.inputs.now c.args.cubes.now c.requires.within c.requires.cares
 
 pub returns-in-Err-clause-obeys : goal.returns-in-Err-clause-obeys
 returns-in-Err-clause-obeys c =
-    λ values rule just. cubes_obey values c.args.formula.now.vars rule c.args.inputs.now c.args.cubes.now c.requires.within c.type_inv.inputs just
+    λ values rule ten just. cubes_obey values c.args.formula.now.vars rule c.args.inputs.now c.args.cubes.now c.requires.within ten just
 
 pub returns-clause-obeys : goal.returns-clause-obeys
 returns-clause-obeys c =
-    λ values rule just. cubes_obey values c.args.formula.now.vars rule c.args.inputs.now c.args.cubes.now c.requires.within c.type_inv.inputs just
+    λ values rule ten just. cubes_obey values c.args.formula.now.vars rule c.args.inputs.now c.args.cubes.now c.requires.within ten just

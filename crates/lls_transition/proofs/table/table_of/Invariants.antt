@@ -4,4 +4,4 @@ use Rattle.lls_transition.proofs.table.table_of.Given as goal
 
 -- the rows so far are forbidden or not, and no later row is
 abbrev pub invariant-loop-row : goal.invariant-loop-row
-invariant-loop-row l = IsFilled (is_forbidden l.rule) l.row l.table
+invariant-loop-row l = IsFilled 1024 (is_forbidden l.rule) l.row l.table

@@ -1,0 +1,16 @@
+pub mod Ranges
+pub mod Giving
+pub mod Told
+pub mod Listed
+pub mod Few
+pub mod Framed
+pub mod Within
+pub mod Constant
+pub mod Opened
+pub mod Whole
+pub mod Rows
+pub mod Same
+pub mod Placed
+pub mod Read
+pub mod Sound
+pub mod Complete

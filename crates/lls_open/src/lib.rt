@@ -1,0 +1,18 @@
+//! A rule left partly open: the formula of a problem whose rule may be any isotropic rule between two, and what an assignment
+//! that satisfies it says of cells and rule.
+#![tactic(auto)]
+
+mod class;
+mod cubes;
+mod decoding;
+mod formula;
+mod table;
+mod target;
+mod transition;
+
+pub use class::{SideClass, open_classes};
+pub use decoding::decode_open;
+pub use formula::encode_open;
+pub use table::{OPEN_INPUTS, OPEN_WORDS};
+pub use target::Target;
+pub use transition::MOST_OPEN_CELLS;
