@@ -258,7 +258,11 @@ impl Arena {
         ensures { result ≡ live_before self.now.heads c }
     {
         // A live clause has been told, so its own number is never the answer of want of one.
-        self.edges[c as usize].first.next.clause().unwrap_or(c)
+        self.edges[c as usize]
+            .edge(false)
+            .next
+            .clause()
+            .unwrap_or(c)
     }
 
     /// Takes the dead clauses away, and all links: the live ones slide down in place, in their order.
@@ -339,7 +343,7 @@ fn tell_where_to(edges: &mut [Edges], lives: &[bool])
     let mut before = 0;
     for k in 0..lives.len() {
         if lives[k] {
-            edges[k].first.next = Link::to(before, false);
+            edges[k].set_next(false, Link::to(before, false));
             before += 1;
         }
     }

@@ -5,6 +5,7 @@ ghost use Rattle.lls_arena.specs.Arena.{place_of};
 ghost use Rattle.lls_arena.specs.Links.{link_in, with_lit, with_next};
 
 use lls_lit::Lit;
+use std::marker::Model;
 
 /// Where an edge leads: to an edge of a clause, or nowhere.
 ///
@@ -22,11 +23,26 @@ pub(crate) struct Edge {
     pub(crate) lit: Lit,
 }
 
-// A clause's two edges, 16 bytes beside each other.
+// A clause's two edges, 16 bytes beside each other. They stand in an array, so that which of them is meant takes no branch.
 #[derive(Clone, Copy, Debug)]
 pub(crate) struct Edges {
-    pub(crate) first: Edge,
-    pub(crate) second: Edge,
+    both: [Edge; 2],
+}
+
+impl Model for Edges {
+    ghost use Rattle.std.specs.Prelude.{◌≡◌, length, [], ◌∷◌};
+    ghost use Rattle.std.proofs.Common.{ap};
+    ghost use Rattle.lls_arena.specs.Links.{EdgePair, pair_in, both-pair_in};
+
+    ghost Value = { EdgePair };
+
+    ghost view = { λ e. pair_in e.both };
+
+    ghost invariant = { λ e. length e.both ≡ 2 };
+
+    ghost inverse = { λ p. record { both = p.first ∷ p.second ∷ [] } };
+
+    ghost inverse_ok = { λ a h. ap (λ both. record { both = both }) (both-pair_in a.both h) };
 }
 
 impl Link {
@@ -76,24 +92,23 @@ impl Edges {
         ensures second_link { link_in result.second.next ≡ None }
     {
         Edges {
-            first: Edge::at(lits, 0),
-            second: Edge::at(lits, 1),
+            both: [Edge::at(lits, 0), Edge::at(lits, 1)],
         }
     }
 
     #[inline]
-    pub(crate) fn edge(self, w: bool) -> Edge
-        ensures { result ≡ (if w then self.second else self.first) }
+    pub(crate) fn edge(&self, w: bool) -> Edge
+        ensures { result ≡ (if w then self.now.second else self.now.first) }
     {
-        if w { self.second } else { self.first }
+        self.both[place(w)]
     }
 
     // The literal that one edge watches. It alone is read, so that reading it right after it was written waits for nothing.
     #[inline]
-    pub(crate) fn watched(self, w: bool) -> Lit
-        ensures { result ≡ (if w then self.second.lit else self.first.lit) }
+    pub(crate) fn watched(&self, w: bool) -> Lit
+        ensures { result ≡ (if w then self.now.second.lit else self.now.first.lit) }
     {
-        if w { self.second.lit } else { self.first.lit }
+        self.both[place(w)].lit
     }
 
     // Watches another literal by one edge.
@@ -101,11 +116,7 @@ impl Edges {
     pub(crate) fn watch(&mut self, w: bool, lit: Lit)
         ensures { self.new ≡ with_lit w lit self.old }
     {
-        if w {
-            self.second.lit = lit;
-        } else {
-            self.first.lit = lit;
-        }
+        self.both[place(w)].lit = lit;
     }
 
     // Leads nowhere.
@@ -117,8 +128,7 @@ impl Edges {
         ensures second_link { link_in result.second.next ≡ None }
     {
         Edges {
-            first: self.first.unlinked(),
-            second: self.second.unlinked(),
+            both: [self.both[0].unlinked(), self.both[1].unlinked()],
         }
     }
 
@@ -127,11 +137,7 @@ impl Edges {
     pub(crate) fn set_next(&mut self, w: bool, next: Link)
         ensures { self.new ≡ with_next w next self.old }
     {
-        if w {
-            self.second.next = next;
-        } else {
-            self.first.next = next;
-        }
+        self.both[place(w)].next = next;
     }
 }
 
@@ -166,7 +172,8 @@ impl Edge {
 // Where an edge's literal stands in its clause.
 #[inline]
 pub(crate) fn place(w: bool) -> usize
-    ensures { result ≡ place_of w }
+    ensures place { result ≡ place_of w }
+    ensures inside { result < 2 }
 {
     if w { 1 } else { 0 }
 }

@@ -8,12 +8,12 @@ use lls_lit::Lit;
 use std::alloc::Global;
 use std::marker::Model;
 
-// Whether a literal is true.
+// Whether a literal is true. What is asked for first stands first, so that it is told by one test.
 #[derive(Clone, Copy, Debug, PartialEq, Eq)]
 pub(crate) enum Truth {
-    Unset,
     True,
     False,
+    Unset,
 }
 
 // Whether each literal is true, a byte for each at its place: one read tells it, and no sign is looked at.

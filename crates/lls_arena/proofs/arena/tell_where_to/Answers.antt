@@ -1,6 +1,5 @@
-use Rattle.std.proofs.Common.{◌<◌, length, ap, sym, ◌∙◌, arith}
-use Rattle.std.proofs.lemmas.List.{get_or_default}
-use Rattle.lls_arena.specs.declared.edges.Edges.{Edges}
+use Rattle.std.proofs.Common.{◌<◌, false, length, ap, sym, ◌∙◌, arith}
+use Rattle.lls_arena.specs.Links.{EdgePair, link_in, with_next}
 use Rattle.lls_arena.proofs.Told.{IsTelling-dead, IsTelling-live, IsTelling-start}
 use Rattle.lls_arena.proofs.arena.tell_where_to.Goals as goal
 use Rattle.lls_arena.proofs.arena.tell_where_to.Goals.{then-lives-k, else-lives-k}
@@ -17,9 +16,10 @@ loop-k-preserved c =
       | then-lives-k w ↦
           let e = w.index-edges-k.result in
           rw (w.edges-is, w.before-is)
-          (IsTelling-live c.args.edges.now c.loop-k.edges c.args.lives.now k c.loop-k.before e _ c.loop-k.invariant among lt w.if-lives-k.true w.index-edges-k.is w.to.ensures
-          (ap (λ (x : Edges). x.first.lit) (get_or_default c.loop-k.edges k _ e among ∙ sym w.index-edges-k.is))
-          (ap (λ (x : Edges). x.second) (get_or_default c.loop-k.edges k _ e among ∙ sym w.index-edges-k.is)))
+          (IsTelling-live c.args.edges.now c.loop-k.edges c.args.lives.now k c.loop-k.before e w.set_next.new.self c.loop-k.invariant among lt w.if-lives-k.true w.index-edges-k.is
+          (ap (λ (x : EdgePair). link_in x.first.next) w.set_next.ensures ∙ w.to.ensures)
+          (ap (λ (x : EdgePair). x.first.lit) (w.set_next.ensures ∙ ap (with_next false w.to.result) (sym w.index-edges-k.is)))
+          (ap (λ (x : EdgePair). x.second) (w.set_next.ensures ∙ ap (with_next false w.to.result) (sym w.index-edges-k.is))))
       | else-lives-k w ↦ rw (w.edges-is, w.before-is) (IsTelling-dead c.args.edges.now c.loop-k.edges c.args.lives.now k c.loop-k.before c.loop-k.invariant lt w.if-lives-k.false)
     ]
 

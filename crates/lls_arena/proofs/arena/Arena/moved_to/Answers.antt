@@ -1,6 +1,8 @@
 use Rattle.std.proofs.Common.{◌≡◌, ◌<◌, true, length, ap, ◌∙◌, arith}
 use Rattle.std.specs.Prelude.{unwrap_or, Option, ℕ}
+use Rattle.lls_arena.specs.declared.edges.Edge.{Edge}
 use Rattle.lls_arena.specs.Arena.{ArenaState}
+use Rattle.lls_arena.specs.Links.{link_in}
 use Rattle.lls_arena.specs.Parts.{spans_in}
 use Rattle.lls_arena.proofs.Heads.{live_inside, same_length}
 use Rattle.lls_arena.proofs.Told.{told_at}
@@ -22,4 +24,4 @@ returns c =
     let planned : a.planned ≡ true = ap (λ (x : ArenaState). x.planned) c.self.view_is ∙ c.requires.planned in
     rw (← c.self.view_is)
     (told_at a.lits.items a.edges.items spans a.lives.items c.args.c c.unwrap_or.result c.index.result.now c.self.invariant.0.watched (lives-spans_in a.spans.items a.lives.items a.ids.items c.self.invariant.3) lt (rw (← c.self.view_is) at c.requires.live) (c.self.invariant.2 planned) c.index.ensures
-    (c.unwrap_or.ensures ∙ ap (λ (o : Option ℕ). unwrap_or o c.args.c) c.clause.ensures))
+    (c.unwrap_or.ensures ∙ ap (λ (o : Option ℕ). unwrap_or o c.args.c) c.clause.ensures ∙ ap (λ (e : Edge). unwrap_or (link_in e.next) c.args.c) c.edge.ensures))

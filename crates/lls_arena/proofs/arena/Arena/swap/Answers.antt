@@ -3,7 +3,7 @@ use Rattle.std.specs.Prelude.{pos}
 use Rattle.std.specs.List.{SwappedAt}
 use Rattle.std.proofs.lemmas.List.{get_or_default, length-set}
 use Rattle.lls_arena.specs.Arena.{ArenaState, place_of, swapped}
-use Rattle.lls_arena.specs.declared.edges.Edges.{Edges}
+use Rattle.lls_arena.specs.Links.{EdgePair}
 use Rattle.lls_arena.specs.Parts.{AreWatched, DifferWithin, head_at, spans_in}
 use Rattle.lls_arena.proofs.Heads.{literal_inside, live_inside, same_arena, same_length, span_at, watched_at}
 use Rattle.lls_arena.proofs.Pieces.{AreAllWatched-changed, AreWatched-swapped, DifferWithin-swapped, drop-outside, head_at-swapped, heads_in-changed, slice_range-swapped, with_lit_links}
@@ -108,16 +108,16 @@ invariant_of-self c =
     let first : s.start + place_of c.args.w < s.end = literal_inside c.args.self.now a.lits.items a.edges.items spans c.args.c (place_of c.args.w) s view parts.watched lt at_span c.requires.first in
     let second : s.start + c.args.n < s.end = literal_inside c.args.self.now a.lits.items a.edges.items spans c.args.c c.args.n s view parts.watched lt at_span c.requires.second in
     let lits = c.swap.new.self.items in
-    let e : Edges = c.index_mut.result.now in
+    let e : EdgePair = c.index_mut.result.now in
     let same : length lits ≡ length a.lits.items = omega (arith, c.swap.ensures.len) in
-    let swaps : SwappedAt a.lits.items lits (s.start + place_of c.args.w) (s.start + c.args.n) = subst (λ p. SwappedAt a.lits.items lits (s.start + p) (s.start + c.args.n)) c.place.ensures c.swap.ensures.by_index in
+    let swaps : SwappedAt a.lits.items lits (s.start + place_of c.args.w) (s.start + c.args.n) = subst (λ p. SwappedAt a.lits.items lits (s.start + p) (s.start + c.args.n)) c.place.ensures.place c.swap.ensures.by_index in
     let differ : DifferWithin a.lits.items lits s.start s.end = DifferWithin-swapped a.lits.items lits s.start s.end (place_of c.args.w) c.args.n swaps same first second in
     let known : c.args.c < length a.edges.items = omega (arith, lt, same_length a.lits.items a.edges.items spans parts.watched) in
     let came : c.index-lit.result.now ≡ get_or lits (s.start + place_of c.args.w) (pos 0) =
-    sym (get_or_default lits (s.start + c.place.result) (pos 0) c.index-lit.result.now (omega (arith, first, at.ends, parts.tail_begins, c.place.ensures, same)) ∙ sym c.index-lit.ensures) ∙ ap (λ p. get_or lits (s.start + p) (pos 0)) c.place.ensures in
-    let was : AreWatched a.lits.items e s = subst (λ (x : Edges). AreWatched a.lits.items x s) (sym c.index_mut.ensures.value) (subst (AreWatched a.lits.items (get_or a.edges.items c.args.c e)) (sym at_span) (watched_at a.lits.items a.edges.items spans c.args.c e s parts.watched lt)) in
-    let watches : AreWatched lits c.watch.new.self s = subst (λ (x : Edges). AreWatched lits x s) (sym c.watch.ensures) (AreWatched-swapped a.lits.items lits e s c.args.w c.args.n c.index-lit.result.now swaps c.requires.beside came was) in
-    let links : c.watch.new.self.first.next ≡ e.first.next = ap (λ (x : Edges). x.first.next) c.watch.ensures ∙ (with_lit_links c.args.w c.index-lit.result.now e).0 in (
+    sym (get_or_default lits (s.start + c.place.result) (pos 0) c.index-lit.result.now (omega (arith, first, at.ends, parts.tail_begins, c.place.ensures.place, same)) ∙ sym c.index-lit.ensures) ∙ ap (λ p. get_or lits (s.start + p) (pos 0)) c.place.ensures.place in
+    let was : AreWatched a.lits.items e s = subst (λ (x : EdgePair). AreWatched a.lits.items x s) (sym c.index_mut.ensures.value) (subst (AreWatched a.lits.items (get_or a.edges.items c.args.c e)) (sym at_span) (watched_at a.lits.items a.edges.items spans c.args.c e s parts.watched lt)) in
+    let watches : AreWatched lits c.watch.new.self s = subst (λ (x : EdgePair). AreWatched lits x s) (sym c.watch.ensures) (AreWatched-swapped a.lits.items lits e s c.args.w c.args.n c.index-lit.result.now swaps c.requires.beside came was) in
+    let links : c.watch.new.self.first.next ≡ e.first.next = ap (λ (x : EdgePair). x.first.next) c.watch.ensures ∙ (with_lit_links c.args.w c.index-lit.result.now e).0 in (
       record {
         few = parts.few;
         in_order = parts.in_order;
@@ -150,14 +150,14 @@ returns c =
     let first : s.start + place_of c.args.w < s.end = literal_inside c.args.self.now a.lits.items a.edges.items spans c.args.c (place_of c.args.w) s view parts.watched lt at_span c.requires.first in
     let second : s.start + c.args.n < s.end = literal_inside c.args.self.now a.lits.items a.edges.items spans c.args.c c.args.n s view parts.watched lt at_span c.requires.second in
     let lits = c.swap.new.self.items in
-    let e : Edges = c.index_mut.result.now in
+    let e : EdgePair = c.index_mut.result.now in
     let same : length lits ≡ length a.lits.items = omega (arith, c.swap.ensures.len) in
-    let swaps : SwappedAt a.lits.items lits (s.start + place_of c.args.w) (s.start + c.args.n) = subst (λ p. SwappedAt a.lits.items lits (s.start + p) (s.start + c.args.n)) c.place.ensures c.swap.ensures.by_index in
+    let swaps : SwappedAt a.lits.items lits (s.start + place_of c.args.w) (s.start + c.args.n) = subst (λ p. SwappedAt a.lits.items lits (s.start + p) (s.start + c.args.n)) c.place.ensures.place c.swap.ensures.by_index in
     let differ : DifferWithin a.lits.items lits s.start s.end = DifferWithin-swapped a.lits.items lits s.start s.end (place_of c.args.w) c.args.n swaps same first second in
     let piece = slice_range-swapped a.lits.items lits s.start s.end (place_of c.args.w) c.args.n swaps first second (omega (arith, at.ends, parts.tail_begins)) in
     let links = with_lit_links c.args.w c.index-lit.result.now e in
     let says : head_at lits c.watch.new.self s ≡ swapped (place_of c.args.w) c.args.n (head_at a.lits.items e s) =
-    head_at-swapped a.lits.items lits e c.watch.new.self s (place_of c.args.w) c.args.n piece (ap (λ (x : Edges). x.first.next) c.watch.ensures ∙ links.0) (ap (λ (x : Edges). x.second.next) c.watch.ensures ∙ links.1) in
+    head_at-swapped a.lits.items lits e c.watch.new.self s (place_of c.args.w) c.args.n piece (ap (λ (x : EdgePair). x.first.next) c.watch.ensures ∙ links.0) (ap (λ (x : EdgePair). x.second.next) c.watch.ensures ∙ links.1) in
     let tails : drop a.tail lits ≡ drop a.tail a.lits.items = drop-outside a.lits.items lits s.start s.end a.tail differ at.ends in
     rw (← c.self.view_is)
     (same_arena _ _ _ _ a.spare_heads a.spare_lits a.planned (heads_in-changed a.lits.items lits (swapped (place_of c.args.w) c.args.n) e c.watch.new.self s a.tail differ parts.tail_begins a.edges.items spans 0 c.args.c says parts.in_order parts.watched lt c.index_mut.ensures.value at_span) tails)
