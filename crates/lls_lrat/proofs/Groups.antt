@@ -3,7 +3,9 @@ use Rattle.std.proofs.Common.{◌≡◌, ℕ, zero, suc, ◌+◌, ◌<◌, ◌�
 use Rattle.std.specs.Prelude.{ℤ, pos, negsuc, filter, find, is_some, slice_get, ◌==◌, Err}
 use Rattle.std.specs.List.{list_any}
 use Rattle.std.specs.Option.{option_map, option_or}
+use Rattle.std.specs.List.Sorted.{IsPermutation}
 use Rattle.std.proofs.lemmas.List.{drop_more, drop_all, append-nil}
+use Rattle.std.proofs.lemmas.List.Sorted.{list_any-IsPermutation}
 use Rattle.lls_lit.specs.Literal.{variable_of, negation}
 use Rattle.lls_lit.specs.Formula.{Clause}
 use Rattle.lls_prooflog.specs.declared.step_fault.StepFault.{StepFault}
@@ -185,3 +187,8 @@ by_lacking-some id (other ∷ ids) e = refl
 pub with_pivot : (live : Live) (lits : List ℤ) (pivot : ℤ) (groups : List Group) (assumed : List ℤ) → slice_get lits 0 ≡ Some pivot → rat_fault live lits groups assumed ≡ pivot_fault live pivot assumed groups
 with_pivot live [] pivot groups assumed e = absurd cc
 with_pivot live (l ∷ ls) pivot groups assumed e = let same : l ≡ pivot = cc in ap (λ p. pivot_fault live p assumed groups) same
+
+-- the order of the ids doesn't matter
+pub first_lacking-permuted : (live : Live) (l : ℤ) (ids other : List ℕ) → IsPermutation ids other → first_lacking live l ids ≡ first_lacking live l other
+first_lacking-permuted live l ids other p =
+    ap (option_map (λ (pair : ℕ × Clause). pair.0)) (find_agree (is_lacking l ids) (is_lacking l other) (λ pair. ap (λ b. is_among pair.1 l && not b) (list_any-IsPermutation (λ id. id == pair.0) ids other p)) live)

@@ -7,6 +7,7 @@ pub mod Entries
 pub mod Walked
 pub mod Groups
 pub mod Lacking
+pub mod Occurring
 pub mod Within
 pub mod Checks
 pub mod Verdicts

@@ -10,3 +10,4 @@ pub mod Checking
 pub mod Verdict
 pub mod UnderWay
 pub mod Feeding
+pub mod Occurring

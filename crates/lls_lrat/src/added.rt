@@ -6,10 +6,12 @@ ghost use Rattle.lls_prooflog.specs.UnitWalk.{find_clause};
 ghost use Rattle.lls_lrat.specs.Placed.{place_of};
 ghost use Rattle.lls_lrat.specs.Checking.{literals_of};
 ghost use Rattle.lls_lrat.specs.Grouped.{is_lacking};
+ghost use Rattle.lls_lrat.specs.Occurring.{HasCounted};
 ghost use Rattle.lls_lrat.specs.Stored.{kept, literals_in};
 
 use crate::buffer::{Buffer, leads_to};
 use crate::given::is_lacking;
+use crate::occurrences::Occurrences;
 use crate::places::Places;
 use lls_base::Memory;
 use lls_lit::Lit;
@@ -82,6 +84,18 @@ impl Added {
     {
         let place = self.places.get(id)?;
         Some(self.clauses.clause(place as usize))
+    }
+
+    /// Counts the literals of all clauses too.
+    pub(crate) fn count(&self, counts: &mut Occurrences) -> Result<(), Memory>
+        ensures { OnOk result (HasCounted self.now counts.old counts.new) }
+    {
+        for place in 0..self.ids.len() {
+            if leads_to(self.places.get(self.ids[place]), place) {
+                counts.add(self.clauses.clause(place))?;
+            }
+        }
+        Ok(())
     }
 
     /// The id of the first clause that holds the literal and has none of these ids.

@@ -163,7 +163,7 @@ impl<'f> Checker<'f> {
             return Err(StepFault::IdLive(id).into());
         }
         assume(self.alloc, &mut self.assumed, lits)?;
-        check_hints(self.alloc, &self.live, &mut self.assumed, lits, hints)?;
+        check_hints(self.alloc, &mut self.live, &mut self.assumed, lits, hints)?;
         self.live.push(id, lits)?;
         if lits.is_empty() {
             self.done = true;

@@ -1,10 +1,12 @@
 // The live clauses of the formula.
-ghost use Rattle.std.specs.Prelude.{◌≡◌, ℕ, ◌<◌, true, not, Some, None, IfSome, IfOk, filter, length, slice_get, replicate, find, if◌then◌else◌, ◌==◌};
+ghost use Rattle.std.specs.Prelude.{◌≡◌, ℕ, ◌<◌, true, not, Some, None, IfSome, IfOk, OnOk, filter, length, slice_get, replicate, find, if◌then◌else◌, ◌==◌};
 ghost use Rattle.std.specs.Option.{option_copied, option_map};
 ghost use Rattle.lls_prooflog.specs.UnitWalk.{numbered, find_clause, is_among};
 ghost use Rattle.lls_lrat.specs.Stored.{flagged};
 ghost use Rattle.lls_lrat.specs.Grouped.{is_lacking};
+ghost use Rattle.lls_lrat.specs.Occurring.{HasCounted};
 
+use crate::occurrences::Occurrences;
 use lls_base::Memory;
 use lls_cnf::Formula;
 use lls_lit::Lit;
@@ -46,6 +48,18 @@ impl<'f> Given<'f> {
     {
         let place = live_place(&self.live, id)?;
         Some(self.formula.clause(place))
+    }
+
+    /// Counts the literals of all clauses too.
+    pub(crate) fn count(&self, counts: &mut Occurrences) -> Result<(), Memory>
+        ensures { OnOk result (HasCounted self.now counts.old counts.new) }
+    {
+        for place in 0..self.live.len() {
+            if self.live[place] {
+                counts.add(self.formula.clause(place))?;
+            }
+        }
+        Ok(())
     }
 
     /// The id of the first clause that holds the literal and has none of these ids.

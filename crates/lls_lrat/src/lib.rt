@@ -14,9 +14,11 @@ mod hint;
 mod line_checker;
 mod live;
 mod log;
+mod occurrences;
 mod pivot;
 mod places;
 mod refusal;
+mod stored;
 mod walk;
 
 pub use bytes::check_bytes;

@@ -1,14 +1,16 @@
-// The live clauses with their ids.
-ghost use Rattle.std.specs.Prelude.{◌≡◌, ◌≤◌, ◌+◌, ◌*◌, not, [], ◌∷◌, ◌++◌, OnOk, OnErr, IfOk, None, filter, find, ◌==◌};
+// The live clauses with their ids, and how often each literal stands in them.
+ghost use Rattle.std.specs.Prelude.{◌≡◌, ◌≤◌, ◌+◌, ◌*◌, true, not, [], ◌∷◌, ◌++◌, OnOk, OnErr, IfOk, None, filter, find, ◌==◌};
 ghost use Rattle.std.specs.List.{list_any};
 ghost use Rattle.std.specs.Option.{option_copied, option_map};
+ghost use Rattle.lls_lit.specs.Literal.{IsLiteral};
 ghost use Rattle.lls_prooflog.specs.Lent.{ids_of};
 ghost use Rattle.lls_prooflog.specs.UnitWalk.{numbered, find_clause};
 ghost use Rattle.lls_lrat.specs.Checking.{literals_of};
 ghost use Rattle.lls_lrat.specs.Grouped.{is_lacking};
+ghost use Rattle.lls_lrat.specs.Occurring.{AreCounts, CountsMore, IsCounted, times_of};
 
-use crate::added::Added;
-use crate::given::Given;
+use crate::occurrences::{Occurrences, times_in};
+use crate::stored::Stored;
 use lls_base::Memory;
 use lls_cnf::Formula;
 use lls_lit::Lit;
@@ -17,47 +19,67 @@ use std::alloc::Global;
 use std::marker::Model;
 
 /// A list of clauses with ids, which begins as a formula's clauses under the ids from 1. It is seen with those that were added.
+///
+/// From the first call of `count` on it knows how often each literal stands in them.
 #[derive(Drop)]
 pub(crate) struct LiveClauses<'f> {
-    given: Given<'f>,
-    added: Added,
+    stored: Stored<'f>,
+    counts: Option<Occurrences>,
 }
 
 impl<'f> Model for LiveClauses<'f> {
-    ghost use Rattle.std.specs.Prelude.{◌++◌};
     ghost use Rattle.lls_lrat.specs.Hinted.{LiveParts};
+    ghost use Rattle.lls_lrat.specs.Occurring.{IsCounted};
 
     ghost Value = { LiveParts };
 
-    ghost view = { λ l. record { all = l.given ++ l.added; added = l.added } };
+    ghost view = { λ l. l.stored };
+
+    ghost invariant = { λ l. IsCounted l.stored.all l.counts };
 }
 
 impl<'f> LiveClauses<'f> {
     pub(crate) fn new(alloc: Global, formula: &'f Formula) -> Result<LiveClauses<'f>, Memory>
         ensures { IfOk result (λ l. l ≡ record { all = numbered formula.now.clauses; added = [] }) }
     {
-        let given = Given::new(alloc, formula)?;
-        let added = Added::new(alloc, formula.len() as u64 + 1);
-        Ok(LiveClauses { given, added })
+        let stored = Stored::new(alloc, formula)?;
+        Ok(LiveClauses {
+            stored,
+            counts: None,
+        })
     }
 
+    #[inline]
     pub(crate) fn find(&self, id: u64) -> Option<&[Lit]>
         ensures { option_copied result ≡ find_clause self.now.all id }
     {
-        match self.given.find(id) {
-            Some(clause) => Some(clause),
-            None => self.added.find(id),
-        }
+        self.stored.find(id)
     }
 
-    /// The id of the first clause that holds the literal and has none of these ids.
+    /// Counts how often each literal stands in the clauses, where that isn't known.
+    pub(crate) fn count(&mut self, alloc: Global) -> Result<(), Memory>
+        ensures { self.new ≡ self.old }
+    {
+        if self.counts.is_some() {
+            return Ok(());
+        }
+        let mut counts = Occurrences::new(alloc);
+        self.stored.count(&mut counts)?;
+        self.counts = Some(counts);
+        Ok(())
+    }
+
+    /// The id of the first clause that holds the literal and has none of these ids. It takes time by their clauses alone where
+    /// the ids ascend, what stands in the clauses is counted, and there is no such clause.
     pub(crate) fn first_lacking(&self, lit: Lit, ids: &[u64]) -> Option<u64>
         ensures { result ≡ option_map (λ pair. pair.0) (find (is_lacking lit ids.now) self.now.all) }
     {
-        match self.given.first_lacking(lit, ids) {
-            Some(id) => Some(id),
-            None => self.added.first_lacking(lit, ids),
+        if let Some(counts) = &self.counts {
+            if are_all(&self.stored, counts, lit, ids) {
+                return None;
+            }
         }
+        self.stored.first_lacking(lit, ids)
     }
 
     /// Puts a clause at the end. After `Memory` the clauses are as before.
@@ -69,7 +91,8 @@ impl<'f> LiveClauses<'f> {
         }) }
         ensures err { OnErr result (self.new ≡ self.old) }
     {
-        self.added.push(id, lits)?;
+        self.stored.push(id, lits)?;
+        count_more(&mut self.counts, lits);
         Ok(())
     }
 
@@ -80,8 +103,8 @@ impl<'f> LiveClauses<'f> {
           added = filter (λ pair. not (list_any (λ id. id == pair.0) (ids_of ids.entry))) self.old.added;
         } }
     {
-        remove_all(&mut self.given, &mut self.added, ids);
-        self.added.tidy();
+        remove_all(&mut self.stored, &mut self.counts, ids);
+        self.stored.tidy();
     }
 
     /// The length of the buffer that the literals of added clauses are in.
@@ -89,17 +112,72 @@ impl<'f> LiveClauses<'f> {
         ensures least { literals_of self.now.added ≤ result }
         ensures most { result ≤ 2 * literals_of self.now.added + 4096 }
     {
-        self.added.held()
+        self.stored.held()
     }
 }
 
-fn remove_all(given: &mut Given, added: &mut Added, ids: IdsRef)
-    ensures given { given.new ≡ filter (λ pair. not (list_any (λ id. id == pair.0) (ids_of ids.entry))) given.old }
-    ensures added { added.new ≡ filter (λ pair. not (list_any (λ id. id == pair.0) (ids_of ids.entry))) added.old }
+fn remove_all(stored: &mut Stored, counts: &mut Option<Occurrences>, ids: IdsRef)
+    requires { IsCounted stored.old.all counts.old }
+    ensures stored { stored.new ≡ record {
+      all = filter (λ pair. not (list_any (λ id. id == pair.0) (ids_of ids.entry))) stored.old.all;
+      added = filter (λ pair. not (list_any (λ id. id == pair.0) (ids_of ids.entry))) stored.old.added;
+    } }
+    ensures counts { IsCounted stored.new.all counts.new }
 {
     for k in 0..ids.len() {
         let id = ids.get(k);
-        given.remove(id);
-        added.remove(id);
+        count_less(counts, stored, id);
+        stored.remove(id);
+    }
+}
+
+// Counts the literals of one more clause. Where they can't be counted, nothing is counted any more.
+fn count_more(counts: &mut Option<Occurrences>, lits: &[Lit])
+    ensures { CountsMore lits.now counts.old counts.new }
+{
+    let Some(known) = counts else {
+        return;
+    };
+    if known.add(lits).is_err() {
+        *counts = None;
+    }
+}
+
+// Takes back what was counted of the clause of an id.
+fn count_less(counts: &mut Option<Occurrences>, stored: &Stored, id: u64)
+    requires { IsCounted stored.now.all counts.old }
+    ensures { IsCounted (filter (λ pair. not (id == pair.0)) stored.now.all) counts.new }
+{
+    let Some(known) = counts else {
+        return;
+    };
+    if let Some(clause) = stored.find(id) {
+        known.subtract(clause);
+    }
+}
+
+// Whether no clause but those of these ids holds the literal. It may say no where that is so, as where the ids don't ascend.
+fn are_all(stored: &Stored, counts: &Occurrences, lit: Lit, ids: &[u64]) -> bool
+    requires { AreCounts stored.now.all counts.now }
+    ensures { result ≡ true → find (is_lacking lit ids.now) stored.now.all ≡ None }
+{
+    let mut left = counts.get(lit);
+    let mut last = 0;
+    for id in ids {
+        if *id > last {
+            last = *id;
+            left = left.saturating_sub(times_by(stored, lit, *id));
+        }
+    }
+    left == 0
+}
+
+// How often the literal stands in the clause of an id.
+fn times_by(stored: &Stored, lit: Lit, id: u64) -> u64
+    ensures { result ≡ times_of lit (find_clause stored.now.all id) }
+{
+    match stored.find(id) {
+        Some(clause) => times_in(clause, lit),
+        None => 0,
     }
 }

@@ -1,7 +1,8 @@
 // Additions that unit propagation alone doesn't give: each live clause that holds the negation of the first literal, the pivot, needs a
 // group of hints, by which unit propagation gives the resolvent with it.
-ghost use Rattle.std.specs.Prelude.{◌≡◌, ◌≤◌, ◌+◌, ◌∷◌, ◌++◌, true, Ok, Err, IfOk, OnOk, Some, [], length, drop};
+ghost use Rattle.std.specs.Prelude.{◌≡◌, ◌≤◌, ◌+◌, ◌∷◌, ◌++◌, true, Ok, Err, IfOk, OnOk, Some, [], length, drop, vec_len};
 ghost use Rattle.std.specs.List.{list_any};
+ghost use Rattle.std.specs.List.Sorted.{IsPermutation};
 ghost use Rattle.lls_lit.specs.Literal.{variable_of, negation};
 ghost use Rattle.lls_lit.specs.Formula.{is_within};
 ghost use Rattle.lls_prooflog.specs.Lent.{hints_of};
@@ -25,16 +26,17 @@ use std::alloc::Global;
 /// Whether the hints show a clause: by unit propagation, or by its pivot. Its literals are taken as false at the start.
 pub(crate) fn check_hints(
     alloc: Global,
-    live: &LiveClauses,
+    live: &mut LiveClauses,
     assumed: &mut Assumed,
     lits: &[Lit],
     hints: HintsRef,
 ) -> Result<(), Refusal>
     requires assumed { assumed.old.lits ≡ lits.now }
     requires lits { is_within assumed.old.vars lits.now ≡ true }
-    requires within { are_within assumed.old.vars live.now.all ≡ true }
+    requires within { are_within assumed.old.vars live.old.all ≡ true }
     ensures exact { TellsFault result
-        (walk_on live.now.all (rat_fault live.now.all lits.now (groups_of (hints_of hints.entry))) lits.now (hints_of hints.entry)) }
+        (walk_on live.old.all (rat_fault live.old.all lits.now (groups_of (hints_of hints.entry))) lits.now (hints_of hints.entry)) }
+    ensures live { live.new ≡ live.old }
     ensures vars { assumed.new.vars ≡ assumed.old.vars }
 {
     match follow_hints(live, assumed, hints, 0)? {
@@ -46,7 +48,7 @@ pub(crate) fn check_hints(
 // Whether a clause is good by its pivot, where the walk along its hints ended without a conflict before the first group.
 fn check_pivot(
     alloc: Global,
-    live: &LiveClauses,
+    live: &mut LiveClauses,
     assumed: &mut Assumed,
     lits: &[Lit],
     hints: HintsRef,
@@ -55,15 +57,17 @@ fn check_pivot(
     requires place { place ≤ length (hints_of hints) }
     requires group { begins_group (drop place (hints_of hints)) ≡ true }
     requires lits { is_within assumed.old.vars lits.now ≡ true }
-    requires within { are_within assumed.old.vars live.now.all ≡ true }
+    requires within { are_within assumed.old.vars live.old.all ≡ true }
     ensures exact { TellsFault result
-        (rat_fault live.now.all lits.now (groups_of (drop place (hints_of hints.entry))) assumed.old.lits) }
+        (rat_fault live.old.all lits.now (groups_of (drop place (hints_of hints.entry))) assumed.old.lits) }
+    ensures live { live.new ≡ live.old }
     ensures vars { assumed.new.vars ≡ assumed.old.vars }
 {
     let Some(pivot) = lits.first() else {
         return Err(fault_without_pivot(hints, place).into());
     };
-    let ids = check_groups(alloc, live, assumed, *pivot, hints, place)?;
+    live.count(alloc)?;
+    let ids = sorted(check_groups(alloc, live, assumed, *pivot, hints, place)?);
     match live.first_lacking(pivot.negated(), &ids) {
         None => Ok(()),
         Some(_) if ids.is_empty() => Err(StepFault::NoConflict.into()),
@@ -111,6 +115,14 @@ fn check_groups(
         place = next_group(hints, place + 1);
     }
     Ok(ids)
+}
+
+fn sorted(mut ids: Vec<u64>) -> Vec<u64>
+    ensures permutation { IsPermutation ids.items result.items }
+    ensures len { vec_len result ≡ vec_len ids }
+{
+    ids.as_mut_slice().sort_unstable();
+    ids
 }
 
 fn note(ids: &mut Vec<u64>, id: u64) -> Result<(), Memory>

@@ -5,7 +5,7 @@ use Rattle.lls_lit.specs.Formula.{Clause}
 use Rattle.lls_lrat.specs.Hinted.{LiveParts}
 use Rattle.lls_lrat.specs.Grouped.{is_lacking}
 use Rattle.lls_lrat.proofs.Lacking.{first-append_some, first-append_none}
-use Rattle.lls_lrat.proofs.live.LiveClauses.first_lacking.Goals as goal
+use Rattle.lls_lrat.proofs.stored.Stored.first_lacking.Goals as goal
 
 pub returns-in-Some : goal.returns-in-Some
 returns-in-Some c =

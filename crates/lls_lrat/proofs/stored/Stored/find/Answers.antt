@@ -1,6 +1,6 @@
 use Rattle.std.proofs.Common.{sym, ◌∙◌}
 use Rattle.lls_lrat.proofs.Found.{find-append_some, find-append_none}
-use Rattle.lls_lrat.proofs.live.LiveClauses.find.Goals as goal
+use Rattle.lls_lrat.proofs.stored.Stored.find.Goals as goal
 
 pub returns-in-Some : goal.returns-in-Some
 returns-in-Some c =

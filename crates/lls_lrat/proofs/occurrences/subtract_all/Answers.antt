@@ -1,0 +1,8 @@
+use Rattle.lls_lrat.specs.Occurring.{count_at}
+use Rattle.lls_lrat.proofs.Occurring.{counted_less}
+use Rattle.lls_lrat.proofs.occurrences.subtract_all.Goals as goal
+
+pub loop-lit-preserved : goal.loop-lit-preserved
+loop-lit-preserved c = λ i.
+    counted_less c.args.lits.now c.loop-lit.lit-index i c.lit-item.result (count_at c.args.counts.now i) (count_at c.loop-lit.counts i) (count_at c.decrement.new.counts i)
+    c.loop-lit-test.true c.lit-item.is c.index.ensures.literal (c.loop-lit.invariant i) (rw c.index.ensures.place at c.decrement.ensures i)
