@@ -156,7 +156,7 @@ fn fewest_live_cells(rt: HostRuntime) -> Result<(), Fail> {
         low: 1,
         high: Some(3),
     };
-    let rows: [(&[u8], Asked, u32, &str); 8] = [
+    let rows: [(&[u8], Asked, u32, &str); 12] = [
         (b"*", ANYTHING, 100, "least 0\n0\n"),
         (b"a -a a", ANYTHING, 100, "least 1\n0 1 0\n"),
         (
@@ -175,6 +175,32 @@ fn fewest_live_cells(rt: HostRuntime) -> Result<(), Fail> {
         (
             b"* * *\n* * *\n* * *\n\n* * *\n* * *\n* * *",
             few,
+            1000,
+            "no pattern\n",
+        ),
+        // What comes before a generation, by trying all 512 patterns: before a ring of eight the cross of five alone comes with so few;
+        // before one cell, or a block, three cells do in several ways; before a cell in the corner nothing comes.
+        (
+            b"* * *\n* * *\n* * *\n\n1 1 1\n1 0 1\n1 1 1",
+            ANYTHING,
+            1000,
+            "least 5\n0 1 0\n1 1 1\n0 1 0\n",
+        ),
+        (
+            b"* * *\n* * *\n* * *\n\n0 0 0\n0 1 0\n0 0 0",
+            ANYTHING,
+            1000,
+            "least 3\n",
+        ),
+        (
+            b"* * *\n* * *\n* * *\n\n1 1 0\n1 1 0\n0 0 0",
+            ANYTHING,
+            1000,
+            "least 3\n",
+        ),
+        (
+            b"* * *\n* * *\n* * *\n\n1 0 0\n0 0 0\n0 0 0",
+            ANYTHING,
             1000,
             "no pattern\n",
         ),

@@ -19,11 +19,11 @@ use Rattle.lls_problem.specs.Solution.{Differs, IsSolution, IsAbsent}
 use Rattle.lls_least.specs.Fewer.{at_most, fewer, live_cells}
 use Rattle.lls_least.specs.Least.{HasFewest, IsCertificate, IsProof, IsShown}
 
-abbrev is_kept : History → Bound → Type 0
-is_kept h bound = Allows bound (population h bound.generation)
+abbrev IsKept : History → Bound → Type 0
+IsKept h bound = Allows bound (population h bound.generation)
 
-bounds_of_fewer : (p : PosedProblem) (k : ℕ) (h : History) → IsSolution (fewer p k) h → All (is_kept h) p.demands.bounds × is_kept h (at_most k)
-bounds_of_fewer p k h solution = All-pop (is_kept h) (fewer p k).demands.bounds p.demands.bounds (Some (at_most k)) refl solution.populated
+bounds_of_fewer : (p : PosedProblem) (k : ℕ) (h : History) → IsSolution (fewer p k) h → All (IsKept h) p.demands.bounds × IsKept h (at_most k)
+bounds_of_fewer p k h solution = All-pop (IsKept h) (fewer p k).demands.bounds p.demands.bounds (Some (at_most k)) refl solution.populated
 
 -- where two generations differ isn't said by the bounds
 differs_alike : (p : PosedProblem) (demands : Demands) (h : History) → p.demands.differ ≡ demands.differ → Differs p h → Differs (record p { demands = demands }) h
@@ -53,7 +53,7 @@ fewer-solution p k h solution few = record {
   symmetric = solution.symmetric;
   moved = solution.moved;
   rule = solution.rule;
-  populated = All-push (is_kept h) p.demands.bounds (at_most k) solution.populated (record { low = omega arith; high = λ high is. omega (arith, few, same high is) });
+  populated = All-push (IsKept h) p.demands.bounds (at_most k) solution.populated (record { low = omega arith; high = λ high is. omega (arith, few, same high is) });
   differ = differs_alike p (fewer p k).demands h refl solution.differ;
 } where
   same : (high : ℕ) → Some k ≡ Some high → k ≡ high
