@@ -29,9 +29,9 @@ fn clauses(alloc: Global, formula: &Formula) -> Result<String, AllocError> {
     Ok(text)
 }
 
-// The problem of a search file under a closed edge.
-fn posed(alloc: Global, file: &[u8], low: Rule) -> Result<Problem, Fail> {
-    let demands = Demands::new(alloc, Edge::Framed);
+// The problem of a search file.
+fn posed(alloc: Global, file: &[u8], low: Rule, edge: Edge) -> Result<Problem, Fail> {
+    let demands = Demands::new(alloc, edge);
     Ok(make_problem(read_posed(alloc, file)?, low, demands)?)
 }
 
@@ -47,11 +47,12 @@ fn encoded(alloc: Global, problem: &Problem, high: &Rule, form: Form) -> Result<
 fn formulas_of_open_rules(rt: HostRuntime) -> Result<(), Fail> {
     let alloc = rt.alloc();
     let low = rule("B3/S23")?;
-    let rows: [(&[u8], &str, Form, u32, &str); 3] = [
+    let rows: [(&[u8], &str, Edge, Form, u32, &str); 6] = [
         // A cell that lives on alone: the rule has to give 1 where no neighbour is live.
         (
             b"1\n\n1",
             "B3/S023",
+            Edge::Framed,
             Form::Rows,
             3,
             "1 0\n2 0\n1 -2 0\n-1 2 -3 0\n-1 -2 3 0\n",
@@ -60,15 +61,49 @@ fn formulas_of_open_rules(rt: HostRuntime) -> Result<(), Fail> {
         (
             b"1\n\n1",
             "B3/S23",
+            Edge::Framed,
             Form::Rows,
             2,
             "1 0\n2 0\n1 -2 0\n-1 -2 0\n",
         ),
         // A mark frees the cell.
-        (b"1\n\n1'", "B3/S023", Form::Rows, 3, "1 0\n2 0\n"),
+        (
+            b"1\n\n1'",
+            "B3/S023",
+            Edge::Framed,
+            Form::Rows,
+            3,
+            "1 0\n2 0\n",
+        ),
+        // A class of birth and one of survival, by the script.
+        (
+            b"* *\n\n* 1",
+            "B1e3/S1e23",
+            Edge::Framed,
+            Form::Rows,
+            6,
+            "4 0\n-1 2 -5 0\n1 -2 -5 0\n-1 -5 0\n1 2 -3 0\n-1 2 -3 0\n1 -2 3 -5 0\n1 -2 -3 5 0\n-1 -2 3 -6 0\n-1 -2 -3 6 0\n1 2 -4 0\n1 -2 -4 0\n-1 2 4 -5 0\n-1 2 -4 5 0\n-1 -2 4 -6 0\n-1 -2 -4 6 0\n-2 -5 0\n-1 2 -5 0\n1 -2 -5 0\n",
+        ),
+        (
+            b"* *\n\n* 1",
+            "B1e3/S1e23",
+            Edge::Framed,
+            Form::Cover,
+            6,
+            "4 0\n-1 2 -5 0\n1 -2 -5 0\n-1 -5 0\n1 2 -3 0\n2 -3 0\n1 -2 3 -5 0\n1 -2 -3 5 0\n-1 -2 3 -6 0\n-1 -2 -3 6 0\n1 2 -4 0\n1 -4 0\n-1 2 4 -5 0\n-1 2 -4 5 0\n-1 -2 4 -6 0\n-1 -2 -4 6 0\n-2 -5 0\n-1 2 -5 0\n1 -2 -5 0\n",
+        ),
+        // Under an open edge the one transition that no mark frees.
+        (
+            b"* *\n* *\n\n*' *'\n*' *",
+            "B2a3/S12a3",
+            Edge::Bare,
+            Form::Cover,
+            11,
+            "2 3 4 -8 0\n1 2 3 4 -8 0\n1 2 3 -8 0\n1 4 -8 0\n1 2 4 -8 0\n1 3 4 -8 0\n-2 -3 -4 8 0\n-1 -3 -4 8 0\n-1 -2 3 -4 8 0\n-1 -2 -3 8 0\n-1 2 -3 4 8 -9 0\n-1 2 -3 4 -8 9 0\n-1 -2 3 4 8 -9 0\n-1 -2 3 4 -8 9 0\n-1 2 3 -4 8 -10 0\n-1 2 3 -4 -8 10 0\n1 2 -3 -4 8 -11 0\n1 2 -3 -4 -8 11 0\n1 -2 3 -4 8 -11 0\n1 -2 3 -4 -8 11 0\n",
+        ),
     ];
-    for (file, high, form, vars, text) in rows {
-        let problem = posed(alloc, file, low)?;
+    for (file, high, edge, form, vars, text) in rows {
+        let problem = posed(alloc, file, low, edge)?;
         let formula = encoded(alloc, &problem, &rule(high)?, form)?;
         let found = clauses(alloc, &formula)?;
         assert_eq!(rt; (formula.vars(), found.as_str()), (vars, text));
@@ -160,7 +195,7 @@ fn assignments_are_histories_and_rules(rt: HostRuntime) -> Result<(), Fail> {
         ),
     ];
     for (high, values, text) in rows {
-        let problem = posed(alloc, b"*\n\n*", rule("B3/S23")?)?;
+        let problem = posed(alloc, b"*\n\n*", rule("B3/S23")?, Edge::Framed)?;
         let found = decoded(alloc, &problem, &rule(high)?, values)?;
         assert_eq!(rt; found.as_str(), text);
     }
