@@ -59,9 +59,9 @@ GENERATORS = {
 INPUTS = 10
 
 
-def bits_of(row):
+def bits_of(row, inputs=INPUTS):
     """The bits of a row of inputs: the first input has the greatest weight."""
-    return tuple(bool(row >> (INPUTS - 1 - i) & 1) for i in range(INPUTS))
+    return tuple(bool(row >> (inputs - 1 - i) & 1) for i in range(inputs))
 
 
 def full_cubes(forbidden):
@@ -77,13 +77,13 @@ def cover(forbidden):
         if row in covered:
             continue
         inside, free = {row}, set()
-        for i in range(INPUTS):
+        for i in range(len(row)):
             wider = inside | {member[:i] + (not member[i],) + member[i + 1 :] for member in inside}
             if wider <= rows:
                 inside = wider
                 free.add(i)
         covered |= inside
-        chosen.append({i: row[i] for i in range(INPUTS) if i not in free})
+        chosen.append({i: row[i] for i in range(len(row)) if i not in free})
     return chosen
 
 
@@ -227,8 +227,12 @@ class Formula:
         steps = (-1, 0, 1)
         inputs = [self.place(t - 1, y + dy, x + dx) for dy in steps for dx in steps]
         inputs.append(self.place(t, y, x))
+        self.push_cubes(inputs, self.cubes)
+
+    def push_cubes(self, inputs, cubes):
+        """Of a cover, a clause that equals an earlier one of the same cubes is left out."""
         here = len(self.clauses)
-        for cube in self.cubes:
+        for cube in cubes:
             pairs = [(inputs[i], bit) for i, bit in cube.items()]
             if all(value == bit for value, bit in pairs if isinstance(value, bool)):
                 clause = [-v if bit else v for v, bit in pairs if not isinstance(v, bool)]

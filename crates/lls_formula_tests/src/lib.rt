@@ -31,6 +31,8 @@ mod lrat_walks;
 #[cfg(test)]
 mod marks;
 #[cfg(test)]
+mod open;
+#[cfg(test)]
 mod prooflog;
 #[cfg(test)]
 mod prooflog_lines;

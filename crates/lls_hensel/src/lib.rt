@@ -8,5 +8,5 @@ mod print;
 mod read;
 
 pub use class::{Class, all_classes, class_at, class_of};
-pub use print::{PrintRuleError, print_rule};
+pub use print::{PrintRuleError, is_isotropic, print_rule};
 pub use read::{RuleError, read_rule};

@@ -1,5 +1,5 @@
 // The canonical text of a rule.
-ghost use Rattle.std.specs.Prelude.{◌≡◌, ◌<◌, ◌≤◌, ◌++◌, ℕ, Ok, IsErrOf, Some, None, IfOk, OnOk, length, flat_map, ◌↔◌};
+ghost use Rattle.std.specs.Prelude.{◌≡◌, ◌<◌, ◌≤◌, ◌++◌, ℕ, Ok, IsErrOf, Some, None, true, IfOk, OnOk, length, flat_map, ◌↔◌};
 ghost use Rattle.lls_rule.specs.Rule.{table_of};
 ghost use Rattle.lls_hensel.specs.Entries.{next_of};
 ghost use Rattle.lls_hensel.specs.Numbers.{live_number, classes_by_number, representatives_of, letter_text, holds_by_number};
@@ -65,6 +65,13 @@ pub fn print_rule(alloc: Global, rule: &Rule) -> Result<Vec<u8>, PrintRuleError>
         return Err(PrintRuleError::NotIsotropic(u64::from(nine)));
     }
     Ok(text_of(alloc, rule)?)
+}
+
+/// Whether neighbourhoods with equal centres and one class have equal answers.
+pub fn is_isotropic(rule: &Rule) -> bool
+    ensures { (result ≡ true) ↔ IsIsotropic rule.now }
+{
+    first_uneven(rule).is_none()
 }
 
 // The canonical text of a rule by its classes' representatives.

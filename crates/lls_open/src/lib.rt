@@ -2,6 +2,7 @@
 //! that satisfies it says of cells and rule.
 #![tactic(auto)]
 
+mod between;
 mod class;
 mod cubes;
 mod decoding;
@@ -10,9 +11,8 @@ mod table;
 mod target;
 mod transition;
 
+pub use between::are_ends;
 pub use class::{SideClass, open_classes};
 pub use decoding::decode_open;
 pub use formula::encode_open;
-pub use table::{OPEN_INPUTS, OPEN_WORDS};
-pub use target::Target;
 pub use transition::MOST_OPEN_CELLS;

@@ -9,9 +9,10 @@ ghost use Rattle.lls_open.specs.Cubes.{AreCubes};
 ghost use Rattle.lls_open.specs.Formula.{class_variable, class_inputs, class_clauses, open_clauses, target_clauses, open_part};
 ghost use Rattle.lls_open.specs.Targets.{IsTarget};
 
+use crate::SideClass;
 use crate::cubes::{OpenCubes, open_cubes};
+use crate::table::OPEN_INPUTS;
 use crate::target::{Target, targets_of};
-use crate::{OPEN_INPUTS, SideClass};
 use lls_base::Memory;
 use lls_cnf::Formula;
 use lls_encode::{inputs_at, push_cubes_of};
