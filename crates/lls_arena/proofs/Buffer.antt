@@ -3,7 +3,7 @@ use Rattle.std.proofs.Common.{◌≡◌, ℕ, ◌+◌, ◌-◌, ◌<◌, ◌≤�
 use Rattle.std.specs.Prelude.{ℤ, pos}
 use Rattle.std.specs.List.{slice_range}
 use Rattle.std.proofs.lemmas.List.{drop-take, get_or-take, take-take}
-use Rattle.lls_arena.specs.Links.{EdgePair}
+use Rattle.lls_arena.specs.declared.edges.Edges.{Edges}
 use Rattle.lls_arena.specs.Arena.{HeadState}
 use Rattle.lls_arena.specs.Parts.{AreAllWatched, AreInOrder, AreWatched, SpanState, head_at, heads_in}
 
@@ -28,7 +28,7 @@ pub AreInOrder-le : (from : ℕ) (spans : List SpanState) (tail : ℕ) → AreIn
 AreInOrder-le from [] tail order = order
 AreInOrder-le from (s ∷ spans) tail order = omega (arith, order.0, order.1, AreInOrder-le s.end spans tail order.2)
 
-pub heads_in-same : (xs ys : List ℤ) (es : List EdgePair) (spans : List SpanState) (from tail : ℕ) → take tail xs ≡ take tail ys → AreInOrder from spans tail → heads_in xs es spans ≡ heads_in ys es spans
+pub heads_in-same : (xs ys : List ℤ) (es : List Edges) (spans : List SpanState) (from tail : ℕ) → take tail xs ≡ take tail ys → AreInOrder from spans tail → heads_in xs es spans ≡ heads_in ys es spans
 heads_in-same xs ys [] spans from tail same order = refl
 heads_in-same xs ys (e ∷ es) [] from tail same order = refl
 heads_in-same xs ys (e ∷ es) (s ∷ spans) from tail same order =
@@ -36,13 +36,13 @@ heads_in-same xs ys (e ∷ es) (s ∷ spans) from tail same order =
     ap (λ (lits : List ℤ). record (head_at xs e s) { lits = lits } ∷ heads_in xs es spans) piece
     ∙ ap (λ (heads : List HeadState). head_at ys e s ∷ heads) (heads_in-same xs ys es spans s.end tail same order.2)
 
-AreWatched-same : (xs ys : List ℤ) (e : EdgePair) (s : SpanState) (tail : ℕ) → take tail xs ≡ take tail ys → s.end ≤ tail → AreWatched xs e s → AreWatched ys e s
+AreWatched-same : (xs ys : List ℤ) (e : Edges) (s : SpanState) (tail : ℕ) → take tail xs ≡ take tail ys → s.end ≤ tail → AreWatched xs e s → AreWatched ys e s
 AreWatched-same xs ys e s tail same ends watched = record {
   first = λ lt. watched.first lt ∙ get_or-same xs ys s.start tail (pos 0) same (omega arith);
   second = λ lt. watched.second lt ∙ get_or-same xs ys (s.start + 1) tail (pos 0) same (omega arith);
 }
 
-pub AreAllWatched-same : (xs ys : List ℤ) (es : List EdgePair) (spans : List SpanState) (from tail : ℕ) → take tail xs ≡ take tail ys → AreInOrder from spans tail → AreAllWatched xs es spans → AreAllWatched ys es spans
+pub AreAllWatched-same : (xs ys : List ℤ) (es : List Edges) (spans : List SpanState) (from tail : ℕ) → take tail xs ≡ take tail ys → AreInOrder from spans tail → AreAllWatched xs es spans → AreAllWatched ys es spans
 AreAllWatched-same xs ys [] [] from tail same order watched = tt
 AreAllWatched-same xs ys [] (s ∷ spans) from tail same order watched = watched
 AreAllWatched-same xs ys (e ∷ es) [] from tail same order watched = watched

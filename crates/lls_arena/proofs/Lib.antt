@@ -1,5 +1,6 @@
 pub mod Buffer
 pub mod Heads
+pub mod Paired
 pub mod Changed
 pub mod Pieces
 pub mod Rows

@@ -4,7 +4,7 @@ use Rattle.std.specs.Prelude.{ℤ, pos, Bool, true, false, not, swap}
 use Rattle.std.specs.List.{SwappedAt, slice_range}
 use Rattle.std.proofs.lemmas.List.{drop-set-add, get_or-drop, get_or-take, length-drop, length-take, same_lists}
 use Rattle.std.proofs.lemmas.List.Edits.{swap_is}
-use Rattle.lls_arena.specs.Links.{EdgePair}
+use Rattle.lls_arena.specs.declared.edges.Edges.{Edges}
 use Rattle.lls_arena.specs.Arena.{HeadState, changed_at, place_of, swapped}
 use Rattle.lls_arena.specs.Links.{with_lit}
 use Rattle.lls_arena.specs.Parts.{AreAllWatched, AreInOrder, AreWatched, DifferWithin, SpanState, head_at, heads_in}
@@ -26,7 +26,7 @@ slice_range-outside xs ys low high s e differ within beside =
     let place : (s + k < low) ⊎ (high ≤ s + k) = elim beside [ inl before ↦ inl (omega arith) | inr after ↦ inr (omega arith) ] in
     get_or-slice_range ys s e k d short ∙ differ.outside (s + k) d place ∙ sym (get_or-slice_range xs s e k d short))
 
-AreWatched-outside : (xs ys : List ℤ) (low high : ℕ) (e : EdgePair) (s : SpanState) → DifferWithin xs ys low high → (s.end ≤ low) ⊎ (high ≤ s.start) → AreWatched xs e s → AreWatched ys e s
+AreWatched-outside : (xs ys : List ℤ) (low high : ℕ) (e : Edges) (s : SpanState) → DifferWithin xs ys low high → (s.end ≤ low) ⊎ (high ≤ s.start) → AreWatched xs e s → AreWatched ys e s
 AreWatched-outside xs ys low high e s differ beside watched =
     let place : (k : ℕ) → s.start ≤ k → k < s.end → (k < low) ⊎ (high ≤ k) = λ k from to. elim beside [ inl before ↦ inl (omega arith) | inr after ↦ inr (omega arith) ] in
     record {
@@ -35,7 +35,7 @@ AreWatched-outside xs ys low high e s differ beside watched =
     }
 
 -- the clauses behind the span
-pub heads_in-behind : (xs ys : List ℤ) (es : List EdgePair) (spans : List SpanState) (from tail low high : ℕ) → DifferWithin xs ys low high → high ≤ from → tail ≤ length xs → AreInOrder from spans tail → heads_in ys es spans ≡ heads_in xs es spans
+pub heads_in-behind : (xs ys : List ℤ) (es : List Edges) (spans : List SpanState) (from tail low high : ℕ) → DifferWithin xs ys low high → high ≤ from → tail ≤ length xs → AreInOrder from spans tail → heads_in ys es spans ≡ heads_in xs es spans
 heads_in-behind xs ys [] spans from tail low high differ behind within order = refl
 heads_in-behind xs ys (e ∷ es) [] from tail low high differ behind within order = refl
 heads_in-behind xs ys (e ∷ es) (s ∷ spans) from tail low high differ behind within order =
@@ -43,7 +43,7 @@ heads_in-behind xs ys (e ∷ es) (s ∷ spans) from tail low high differ behind 
     ap (λ (lits : List ℤ). record (head_at ys e s) { lits = lits } ∷ heads_in ys es spans) (slice_range-outside xs ys low high s.start s.end differ (omega arith) (inr (omega (arith, order.0))))
     ∙ ap (λ (heads : List HeadState). head_at xs e s ∷ heads) (heads_in-behind xs ys es spans s.end tail low high differ (omega (arith, order.0, order.1)) within order.2)
 
-pub AreAllWatched-behind : (xs ys : List ℤ) (es : List EdgePair) (spans : List SpanState) (from tail low high : ℕ) → DifferWithin xs ys low high → high ≤ from → AreInOrder from spans tail → AreAllWatched xs es spans → AreAllWatched ys es spans
+pub AreAllWatched-behind : (xs ys : List ℤ) (es : List Edges) (spans : List SpanState) (from tail low high : ℕ) → DifferWithin xs ys low high → high ≤ from → AreInOrder from spans tail → AreAllWatched xs es spans → AreAllWatched ys es spans
 AreAllWatched-behind xs ys [] [] from tail low high differ behind order watched = tt
 AreAllWatched-behind xs ys [] (s ∷ spans) from tail low high differ behind order watched = watched
 AreAllWatched-behind xs ys (e ∷ es) [] from tail low high differ behind order watched = watched
@@ -57,8 +57,8 @@ begins_behind : (from : ℕ) (spans : List SpanState) (tail c : ℕ) (s : SpanSt
 begins_behind from spans tail c s order lt is = omega (arith, (between from spans tail c s order lt).begins, ap (λ (x : SpanState). x.start) is)
 
 -- one clause changes within its span
-module _ (xs ys : List ℤ) (change : HeadState → HeadState) (e new : EdgePair) (s : SpanState) (tail : ℕ) (differ : DifferWithin xs ys s.start s.end) (within : tail ≤ length xs) where
-  pub heads_in-changed : (es : List EdgePair) (spans : List SpanState) (from c : ℕ) → head_at ys new s ≡ change (head_at xs e s) → AreInOrder from spans tail → AreAllWatched xs es spans → c < length spans → e ≡ get_or es c e → s ≡ get_or spans c s → heads_in ys (set es c new) spans ≡ changed_at change c (heads_in xs es spans)
+module _ (xs ys : List ℤ) (change : HeadState → HeadState) (e new : Edges) (s : SpanState) (tail : ℕ) (differ : DifferWithin xs ys s.start s.end) (within : tail ≤ length xs) where
+  pub heads_in-changed : (es : List Edges) (spans : List SpanState) (from c : ℕ) → head_at ys new s ≡ change (head_at xs e s) → AreInOrder from spans tail → AreAllWatched xs es spans → c < length spans → e ≡ get_or es c e → s ≡ get_or spans c s → heads_in ys (set es c new) spans ≡ changed_at change c (heads_in xs es spans)
   heads_in-changed [] [] from c says order watched lt at_edges at_span = absurd (omega arith)
   heads_in-changed [] (y ∷ spans) from c says order watched lt at_edges at_span = absurd watched
   heads_in-changed (x ∷ es) [] from c says order watched lt at_edges at_span = absurd watched
@@ -73,7 +73,7 @@ module _ (xs ys : List ℤ) (change : HeadState → HeadState) (e new : EdgePair
       ap (λ (lits : List ℤ). record (head_at ys x y) { lits = lits } ∷ heads_in ys (set es c new) spans) (slice_range-outside xs ys s.start s.end y.start y.end differ (omega arith) (inl behind))
       ∙ ap (λ (heads : List HeadState). head_at xs x y ∷ heads) (heads_in-changed es spans y.end c says order.2 watched.1 (omega arith) at_edges at_span)
 
-  pub AreAllWatched-changed : (es : List EdgePair) (spans : List SpanState) (from c : ℕ) → AreWatched ys new s → AreInOrder from spans tail → AreAllWatched xs es spans → c < length spans → s ≡ get_or spans c s → AreAllWatched ys (set es c new) spans
+  pub AreAllWatched-changed : (es : List Edges) (spans : List SpanState) (from c : ℕ) → AreWatched ys new s → AreInOrder from spans tail → AreAllWatched xs es spans → c < length spans → s ≡ get_or spans c s → AreAllWatched ys (set es c new) spans
   AreAllWatched-changed [] [] from c watches order watched lt at_span = absurd (omega arith)
   AreAllWatched-changed [] (y ∷ spans) from c watches order watched lt at_span = absurd watched
   AreAllWatched-changed (x ∷ es) [] from c watches order watched lt at_span = absurd watched
@@ -118,7 +118,7 @@ DifferWithin-swapped xs ys s e i j swaps same first second = record {
   clash k (inr after) n at from to = omega arith
 
 -- an edge that watches the literal which came to its place
-pub AreWatched-swapped : (xs ys : List ℤ) (e : EdgePair) (s : SpanState) (w : Bool) (n : ℕ) (lit : ℤ) → SwappedAt xs ys (s.start + place_of w) (s.start + n) → n ≢ place_of (not w)
+pub AreWatched-swapped : (xs ys : List ℤ) (e : Edges) (s : SpanState) (w : Bool) (n : ℕ) (lit : ℤ) → SwappedAt xs ys (s.start + place_of w) (s.start + n) → n ≢ place_of (not w)
     → lit ≡ get_or ys (s.start + place_of w) (pos 0) → AreWatched xs e s → AreWatched ys (with_lit w lit e) s
 AreWatched-swapped xs ys e s false n lit swaps beside is watched = record {
   first = λ lt. is ∙ ap (λ k. get_or ys k (pos 0)) (omega arith);
@@ -130,12 +130,12 @@ AreWatched-swapped xs ys e s true n lit swaps beside is watched = record {
 }
 
 -- it leads where it led
-pub with_lit_links : (w : Bool) (lit : ℤ) (e : EdgePair) → ((with_lit w lit e).first.next ≡ e.first.next) × ((with_lit w lit e).second.next ≡ e.second.next)
+pub with_lit_links : (w : Bool) (lit : ℤ) (e : Edges) → ((with_lit w lit e).first.next ≡ e.first.next) × ((with_lit w lit e).second.next ≡ e.second.next)
 with_lit_links false lit e = (refl, refl)
 with_lit_links true lit e = (refl, refl)
 
 -- a clause whose literals changed places
-pub head_at-swapped : (xs ys : List ℤ) (e new : EdgePair) (s : SpanState) (i j : ℕ) → slice_range ys s.start s.end ≡ swap (slice_range xs s.start s.end) i j → new.first.next ≡ e.first.next → new.second.next ≡ e.second.next → head_at ys new s ≡ swapped i j (head_at xs e s)
+pub head_at-swapped : (xs ys : List ℤ) (e new : Edges) (s : SpanState) (i j : ℕ) → slice_range ys s.start s.end ≡ swap (slice_range xs s.start s.end) i j → new.first.next ≡ e.first.next → new.second.next ≡ e.second.next → head_at ys new s ≡ swapped i j (head_at xs e s)
 head_at-swapped xs ys e new s i j is first second = rw (is, first, second) refl
 
 -- what stands behind the span

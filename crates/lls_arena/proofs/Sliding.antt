@@ -4,7 +4,7 @@ use Rattle.std.specs.Prelude.{ℤ, pos, filter, map}
 use Rattle.std.specs.List.{slice_range}
 use Rattle.std.proofs.lemmas.List.{append-nil, drop_more, drop-set-lt, get_or_default, length-drop, length-set, map-append, same_lists, take_all, take_more, take_more_set}
 use Rattle.std.proofs.lemmas.List.Elements.{filter-append}
-use Rattle.lls_arena.specs.Links.{EdgePair}
+use Rattle.lls_arena.specs.declared.edges.Edges.{Edges}
 use Rattle.lls_arena.specs.declared.arena.Span.{Span}
 use Rattle.lls_arena.specs.Arena.{HeadState, unlinked}
 use Rattle.lls_arena.specs.Links.{link_in}
@@ -30,7 +30,7 @@ abbrev left_of : List HeadState → List HeadState
 left_of heads = map unlinked (filter live_of heads)
 
 -- the live clauses among the first k stand at the front, and the others where they were
-pub record AreSliding (heads : List HeadState) (edges : List EdgePair) (spans : List SpanState) (lits : List ℤ) (k kept end : ℕ) : Type 0 where
+pub record AreSliding (heads : List HeadState) (edges : List Edges) (spans : List SpanState) (lits : List ℤ) (k kept end : ℕ) : Type 0 where
   pub behind : kept ≤ k
   pub done : heads_in lits (take kept edges) (take kept spans) ≡ left_of (take k heads)
   pub done_order : AreInOrder 0 (take kept spans) end
@@ -39,7 +39,7 @@ pub record AreSliding (heads : List HeadState) (edges : List EdgePair) (spans : 
   pub rest_order : AreInOrder end (drop k spans) (length lits)
   pub rest_watched : AreAllWatched lits (drop k edges) (drop k spans)
 
-pub AreSliding-start : (edges : List EdgePair) (spans : List SpanState) (lits : List ℤ) → AreInOrder 0 spans (length lits) → AreAllWatched lits edges spans → AreSliding (heads_in lits edges spans) edges spans lits 0 0 0
+pub AreSliding-start : (edges : List Edges) (spans : List SpanState) (lits : List ℤ) → AreInOrder 0 spans (length lits) → AreAllWatched lits edges spans → AreSliding (heads_in lits edges spans) edges spans lits 0 0 0
 AreSliding-start edges spans lits order watched = record {
   behind = omega arith;
   done = refl;
@@ -60,7 +60,7 @@ left_of-push : (heads : List HeadState) (h : HeadState) → left_of (heads ++ h 
 left_of-push heads h = ap (map unlinked) (filter-append live_of heads (h ∷ [])) ∙ map-append unlinked (filter live_of heads) (filter live_of (h ∷ []))
 
 -- the next clause, and those behind it
-record IsAt (heads : List HeadState) (edges : List EdgePair) (spans : List SpanState) (lits : List ℤ) (k end : ℕ) (e : EdgePair) (s : SpanState) : Type 0 where
+record IsAt (heads : List HeadState) (edges : List Edges) (spans : List SpanState) (lits : List ℤ) (k end : ℕ) (e : Edges) (s : SpanState) : Type 0 where
   among : k < length edges
   known : k < length heads
   next : get_or heads k (head_at lits e s) ≡ head_at lits e s
@@ -72,16 +72,16 @@ record IsAt (heads : List HeadState) (edges : List EdgePair) (spans : List SpanS
   watched : AreWatched lits e s
   rest_watched : AreAllWatched lits (drop (k + 1) edges) (drop (k + 1) spans)
 
-is_at : (heads : List HeadState) (edges : List EdgePair) (spans : List SpanState) (lits : List ℤ) (k kept end : ℕ) (e : EdgePair) (s : SpanState) → AreSliding heads edges spans lits k kept end → length edges ≡ length spans → k < length spans → e ≡ get_or edges k e → s ≡ get_or spans k s → IsAt heads edges spans lits k end e s
+is_at : (heads : List HeadState) (edges : List Edges) (spans : List SpanState) (lits : List ℤ) (k kept end : ℕ) (e : Edges) (s : SpanState) → AreSliding heads edges spans lits k kept end → length edges ≡ length spans → k < length spans → e ≡ get_or edges k e → s ≡ get_or spans k s → IsAt heads edges spans lits k end e s
 is_at heads edges spans lits k kept end e s sliding each lt at_edges at_span =
     let among : k < length edges = omega (arith, each) in
     let es : drop k edges ≡ e ∷ drop (k + 1) edges = drop_more edges k e among ∙ ap (λ x. x ∷ drop (k + 1) edges) (sym at_edges) in
     let ss : drop k spans ≡ s ∷ drop (k + 1) spans = drop_more spans k s lt ∙ ap (λ x. x ∷ drop (k + 1) spans) (sym at_span) in
-    let parts : heads_in lits (e ∷ drop (k + 1) edges) (s ∷ drop (k + 1) spans) ≡ drop k heads = sym (ap (λ (xs : List EdgePair). heads_in lits xs (s ∷ drop (k + 1) spans)) es) ∙ sym (ap (heads_in lits (drop k edges)) ss) ∙ sliding.rest in
+    let parts : heads_in lits (e ∷ drop (k + 1) edges) (s ∷ drop (k + 1) spans) ≡ drop k heads = sym (ap (λ (xs : List Edges). heads_in lits xs (s ∷ drop (k + 1) spans)) es) ∙ sym (ap (heads_in lits (drop k edges)) ss) ∙ sliding.rest in
     let known : k < length heads = omega (arith, ap length parts, length-drop k heads) in
     let both = same_heads (head_at lits e s) (get_or heads k (head_at lits e s)) (heads_in lits (drop (k + 1) edges) (drop (k + 1) spans)) (drop (k + 1) heads) (parts ∙ drop_more heads k (head_at lits e s) known) in
     let order : AreInOrder end (s ∷ drop (k + 1) spans) (length lits) = subst (λ (xs : List SpanState). AreInOrder end xs (length lits)) ss sliding.rest_order in
-    let watched : AreAllWatched lits (e ∷ drop (k + 1) edges) (s ∷ drop (k + 1) spans) = subst (λ (xs : List EdgePair). AreAllWatched lits xs (s ∷ drop (k + 1) spans)) es (subst (AreAllWatched lits (drop k edges)) ss sliding.rest_watched) in
+    let watched : AreAllWatched lits (e ∷ drop (k + 1) edges) (s ∷ drop (k + 1) spans) = subst (λ (xs : List Edges). AreAllWatched lits xs (s ∷ drop (k + 1) spans)) es (subst (AreAllWatched lits (drop k edges)) ss sliding.rest_watched) in
     record {
       among = among;
       known = known;
@@ -107,7 +107,7 @@ left_of-one h true is = ap (λ b. map unlinked (cond b (h ∷ []) [])) is
 left_of-one h false is = ap (λ b. map unlinked (cond b (h ∷ []) [])) is
 
 -- a dead clause goes
-pub AreSliding-dead : (heads : List HeadState) (edges : List EdgePair) (spans : List SpanState) (lits : List ℤ) (k kept end : ℕ) (s : SpanState) → AreSliding heads edges spans lits k kept end → length edges ≡ length spans → k < length spans → s ≡ get_or spans k s → s.live ≡ false → AreSliding heads edges spans lits (k + 1) kept end
+pub AreSliding-dead : (heads : List HeadState) (edges : List Edges) (spans : List SpanState) (lits : List ℤ) (k kept end : ℕ) (s : SpanState) → AreSliding heads edges spans lits k kept end → length edges ≡ length spans → k < length spans → s ≡ get_or spans k s → s.live ≡ false → AreSliding heads edges spans lits (k + 1) kept end
 AreSliding-dead heads edges spans lits k kept end s sliding each lt at_span dead =
     let e = get_or edges k no_edges in
     let at = is_at heads edges spans lits k kept end e s sliding each lt (get_or_default edges k no_edges e (omega (arith, each))) at_span in
@@ -122,7 +122,7 @@ AreSliding-dead heads edges spans lits k kept end s sliding each lt at_span dead
     }
 
 -- a live one slides down
-pub record HasSlid (lits new : List ℤ) (e moved : EdgePair) (s put : SpanState) (end to : ℕ) : Type 0 where
+pub record HasSlid (lits new : List ℤ) (e moved : Edges) (s put : SpanState) (end to : ℕ) : Type 0 where
   pub starts : put.start ≡ end
   pub ends : put.end ≡ to
   pub same_id : put.id ≡ s.id
@@ -135,11 +135,11 @@ pub record HasSlid (lits new : List ℤ) (e moved : EdgePair) (s put : SpanState
   pub first_link : link_in moved.first.next ≡ None
   pub second_link : link_in moved.second.next ≡ None
 
-head_at-slid : (lits new : List ℤ) (e moved : EdgePair) (s put : SpanState) (end to : ℕ) → HasSlid lits new e moved s put end to → s.live ≡ true → head_at new moved put ≡ unlinked (head_at lits e s)
+head_at-slid : (lits new : List ℤ) (e moved : Edges) (s put : SpanState) (end to : ℕ) → HasSlid lits new e moved s put end to → s.live ≡ true → head_at new moved put ≡ unlinked (head_at lits e s)
 head_at-slid lits new e moved s put end to slid live =
     rw (slid.starts, slid.ends, slid.piece, slid.same_id, slid.is_live, live, slid.first_link, slid.second_link) refl
 
-AreWatched-slid : (lits new : List ℤ) (e moved : EdgePair) (s put : SpanState) (end to : ℕ) → HasSlid lits new e moved s put end to → s.start ≤ s.end → AreWatched lits e s → AreWatched new moved put
+AreWatched-slid : (lits new : List ℤ) (e moved : Edges) (s put : SpanState) (end to : ℕ) → HasSlid lits new e moved s put end to → s.start ≤ s.end → AreWatched lits e s → AreWatched new moved put
 AreWatched-slid lits new e moved s put end to slid straight watched =
     let at : (k : ℕ) → k < s.end - s.start → get_or lits (s.start + k) (pos 0) ≡ get_or new (put.start + k) (pos 0) = λ k lt.
     sym (get_or-slice_range lits s.start s.end k (pos 0) lt)
@@ -160,7 +160,7 @@ AreWatched-slid lits new e moved s put end to slid straight watched =
           slid.second_lit ∙ watched.second (omega arith) ∙ at 1 short;
     }
 
-pub AreSliding-live : (heads : List HeadState) (edges : List EdgePair) (spans : List SpanState) (lits new : List ℤ) (k kept end to : ℕ) (e moved : EdgePair) (s put : SpanState) → AreSliding heads edges spans lits k kept end → length edges ≡ length spans → k < length spans → e ≡ get_or edges k e → s ≡ get_or spans k s → s.live ≡ true → HasSlid lits new e moved s put end to → AreSliding heads (set edges kept moved) (set spans kept put) new (k + 1) (kept + 1) to
+pub AreSliding-live : (heads : List HeadState) (edges : List Edges) (spans : List SpanState) (lits new : List ℤ) (k kept end to : ℕ) (e moved : Edges) (s put : SpanState) → AreSliding heads edges spans lits k kept end → length edges ≡ length spans → k < length spans → e ≡ get_or edges k e → s ≡ get_or spans k s → s.live ≡ true → HasSlid lits new e moved s put end to → AreSliding heads (set edges kept moved) (set spans kept put) new (k + 1) (kept + 1) to
 AreSliding-live heads edges spans lits new k kept end to e moved s put sliding each lt at_edges at_span live slid =
     let at = is_at heads edges spans lits k kept end e s sliding each lt at_edges at_span in
     let early : kept < length spans = omega (arith, sliding.behind) in
@@ -177,7 +177,7 @@ AreSliding-live heads edges spans lits new k kept end to e moved s put sliding e
     record {
       behind = omega (arith, sliding.behind);
       done =
-          ap (λ (xs : List EdgePair). heads_in new xs (take (kept + 1) (set spans kept put))) done_edges
+          ap (λ (xs : List Edges). heads_in new xs (take (kept + 1) (set spans kept put))) done_edges
           ∙ ap (heads_in new (take kept edges ++ moved ∷ [])) done_spans
           ∙ heads_in-push new (take kept edges) (take kept spans) moved put front_watched
           ∙ ap (λ (xs : List HeadState). xs ++ head_at new moved put ∷ []) front_heads
@@ -191,7 +191,7 @@ AreSliding-live heads edges spans lits new k kept end to e moved s put sliding e
       rest_watched = rw (rest_edges, rest_spans) (AreAllWatched-behind lits new (drop (k + 1) edges) (drop (k + 1) spans) s.end (length lits) end to slid.outside fits at.rest_order at.rest_watched);
     }
 
-pub AreSlid-end : (heads : List HeadState) (edges : List EdgePair) (spans : List SpanState) (lits : List ℤ) (k kept end : ℕ) → AreSliding heads edges spans lits k kept end → length heads ≤ k → k ≤ length spans → AreSlid heads edges spans lits kept end
+pub AreSlid-end : (heads : List HeadState) (edges : List Edges) (spans : List SpanState) (lits : List ℤ) (k kept end : ℕ) → AreSliding heads edges spans lits k kept end → length heads ≤ k → k ≤ length spans → AreSlid heads edges spans lits kept end
 AreSlid-end heads edges spans lits k kept end sliding all within = record {
   fewer = omega (arith, sliding.behind);
   shorter = AreInOrder-le end (drop k spans) (length lits) sliding.rest_order;
@@ -201,7 +201,7 @@ AreSlid-end heads edges spans lits k kept end sliding all within = record {
 }
 
 -- the same, as three tables tell of the clauses
-pub record AreRowsSliding (heads : List HeadState) (edges : List EdgePair) (spans : List Span) (lives : List Bool) (ids : List ℕ) (lits : List ℤ) (k kept end : ℕ) : Type 0 where
+pub record AreRowsSliding (heads : List HeadState) (edges : List Edges) (spans : List Span) (lives : List Bool) (ids : List ℕ) (lits : List ℤ) (k kept end : ℕ) : Type 0 where
   pub rows : HaveRows spans lives ids
   pub each : length edges ≡ length spans
   pub sliding : AreSliding heads edges (spans_in spans lives ids) lits k kept end
@@ -212,7 +212,7 @@ pub record IsNext (lits : List ℤ) (end : ℕ) (s : Span) : Type 0 where
   pub straight : s.start ≤ s.end
   pub ends : s.end ≤ length lits
 
-module _ (heads : List HeadState) (edges : List EdgePair) (spans : List Span) (lives : List Bool) (ids : List ℕ) (lits : List ℤ) (k kept end : ℕ) (sliding : AreRowsSliding heads edges spans lives ids lits k kept end) where
+module _ (heads : List HeadState) (edges : List Edges) (spans : List Span) (lives : List Bool) (ids : List ℕ) (lits : List ℤ) (k kept end : ℕ) (sliding : AreRowsSliding heads edges spans lives ids lits k kept end) where
   each_row : length (spans_in spans lives ids) ≡ length spans
   each_row = length-spans_in spans lives ids sliding.rows
 
@@ -235,7 +235,7 @@ module _ (heads : List HeadState) (edges : List EdgePair) (spans : List Span) (l
     sliding = AreSliding-dead heads edges (spans_in spans lives ids) lits k kept end (row spans lives ids k) sliding.sliding each_edge (omega (arith, lt, each_row)) (next_is lt) dead;
   }
 
-  pub AreRowsSliding-live : (new : List ℤ) (to : ℕ) (e moved : EdgePair) (put : Span) → k < length spans → e ≡ get_or edges k e → get_or lives k false ≡ true → HasSlid lits new e moved (row spans lives ids k) (span_of put true (get_or ids k 0)) end to → AreRowsSliding heads (set edges kept moved) (set spans kept put) (set lives kept true) (set ids kept (get_or ids k 0)) new (k + 1) (kept + 1) to
+  pub AreRowsSliding-live : (new : List ℤ) (to : ℕ) (e moved : Edges) (put : Span) → k < length spans → e ≡ get_or edges k e → get_or lives k false ≡ true → HasSlid lits new e moved (row spans lives ids k) (span_of put true (get_or ids k 0)) end to → AreRowsSliding heads (set edges kept moved) (set spans kept put) (set lives kept true) (set ids kept (get_or ids k 0)) new (k + 1) (kept + 1) to
   AreRowsSliding-live new to e moved put lt at_edges live slid = record {
     rows = record {
       lives_each = omega (arith, length-set lives kept true, length-set spans kept put, sliding.rows.lives_each);

@@ -2,7 +2,7 @@
 use Rattle.std.specs.Prelude.{◌≡◌, ◌≤◌, ◌<◌, ℕ, ◌+◌, ℤ, pos, Bool, true, false, List, [], ◌∷◌, ◌⊎◌, count_by, drop, filter, length, map, slice_index_or, take, Some}
 use Rattle.std.specs.List.{slice_range}
 use Rattle.lls_arena.specs.declared.TheConstants.{MOST_HEADS, MOST_LITS}
-use Rattle.lls_arena.specs.Links.{EdgePair}
+use Rattle.lls_arena.specs.declared.edges.Edges.{Edges}
 use Rattle.lls_arena.specs.declared.arena.Span.{Span}
 use Rattle.lls_arena.specs.Arena.{ArenaState, HeadState, unlinked}
 use Rattle.lls_arena.specs.Links.{link_in}
@@ -30,7 +30,7 @@ pub record HaveRows (spans : List Span) (lives : List Bool) (ids : List ℕ) : T
   pub ids_each : length ids ≡ length spans
 
 -- the clause of a span, with its edges
-abbrev pub head_at : List ℤ → EdgePair → SpanState → HeadState
+abbrev pub head_at : List ℤ → Edges → SpanState → HeadState
 head_at lits edges span = record {
   id = span.id;
   live = span.live;
@@ -39,12 +39,12 @@ head_at lits edges span = record {
   second = link_in edges.second.next;
 }
 
-abbrev pub heads_in : List ℤ → List EdgePair → List SpanState → List HeadState
+abbrev pub heads_in : List ℤ → List Edges → List SpanState → List HeadState
 heads_in lits [] spans = []
 heads_in lits edges [] = []
 heads_in lits (e ∷ es) (s ∷ spans) = head_at lits e s ∷ heads_in lits es spans
 
-abbrev pub arena_in : List EdgePair → List SpanState → List ℤ → ℕ → ℕ → ℕ → Bool → ArenaState
+abbrev pub arena_in : List Edges → List SpanState → List ℤ → ℕ → ℕ → ℕ → Bool → ArenaState
 arena_in edges spans lits tail spare_heads spare_lits planned = record {
   heads = heads_in lits edges spans;
   tail = drop tail lits;
@@ -59,11 +59,11 @@ AreInOrder from [] tail = from ≤ tail
 AreInOrder from (s ∷ spans) tail = (from ≤ s.start) × (s.start ≤ s.end) × AreInOrder s.end spans tail
 
 -- the edges have the first two literals of the clause
-pub record AreWatched (lits : List ℤ) (edges : EdgePair) (span : SpanState) : Type 0 where
+pub record AreWatched (lits : List ℤ) (edges : Edges) (span : SpanState) : Type 0 where
   pub first : span.start < span.end → edges.first.lit ≡ slice_index_or lits span.start (pos 0)
   pub second : span.start + 1 < span.end → edges.second.lit ≡ slice_index_or lits (span.start + 1) (pos 0)
 
-abbrev pub AreAllWatched : List ℤ → List EdgePair → List SpanState → Type 0
+abbrev pub AreAllWatched : List ℤ → List Edges → List SpanState → Type 0
 AreAllWatched lits [] [] = Unit {0}
 AreAllWatched lits [] (s ∷ spans) = ⊥
 AreAllWatched lits (e ∷ es) [] = ⊥
@@ -80,7 +80,7 @@ pub record HaveRoom (edges spans lits spare_heads spare_lits edges_room spans_ro
   pub few_lits : lits + spare_lits ≤ MOST_LITS
 
 -- what holds of the parts of an arena
-pub record AreParts (edges : List EdgePair) (spans : List SpanState) (lits : List ℤ) (tail : ℕ) : Type 0 where
+pub record AreParts (edges : List Edges) (spans : List SpanState) (lits : List ℤ) (tail : ℕ) : Type 0 where
   pub few : length spans ≤ MOST_HEADS
   pub in_order : AreInOrder 0 spans tail
   pub tail_begins : tail ≤ length lits
@@ -94,15 +94,15 @@ abbrev pub is_live_at : List Bool → ℕ → Bool
 is_live_at lives k = slice_index_or lives k false
 
 -- the first edge of each live clause leads to where it is to go
-abbrev pub SayWhereTo : List EdgePair → List Bool → Type 0
-SayWhereTo edges lives = (k : ℕ) (d : EdgePair) → k < length lives → is_live_at lives k ≡ true → link_in (slice_index_or edges k d).first.next ≡ Some (live_among lives k)
+abbrev pub SayWhereTo : List Edges → List Bool → Type 0
+SayWhereTo edges lives = (k : ℕ) (d : Edges) → k < length lives → is_live_at lives k ≡ true → link_in (slice_index_or edges k d).first.next ≡ Some (live_among lives k)
 
 -- the edges after the live ones were told where to go, and nothing else changed
-pub record AreTold (old new : List EdgePair) (lives : List Bool) : Type 0 where
+pub record AreTold (old new : List Edges) (lives : List Bool) : Type 0 where
   pub length_same : length new ≡ length old
   pub told : SayWhereTo new lives
-  pub first : (k : ℕ) (d : EdgePair) → (slice_index_or new k d).first.lit ≡ (slice_index_or old k d).first.lit
-  pub second : (k : ℕ) (d : EdgePair) → (slice_index_or new k d).second ≡ (slice_index_or old k d).second
+  pub first : (k : ℕ) (d : Edges) → (slice_index_or new k d).first.lit ≡ (slice_index_or old k d).first.lit
+  pub second : (k : ℕ) (d : Edges) → (slice_index_or new k d).second ≡ (slice_index_or old k d).second
 
 -- the two differ between those places alone
 pub record DifferWithin (xs ys : List ℤ) (low high : ℕ) : Type 0 where
@@ -110,7 +110,7 @@ pub record DifferWithin (xs ys : List ℤ) (low high : ℕ) : Type 0 where
   pub outside : (k : ℕ) (d : ℤ) → (k < low) ⊎ (high ≤ k) → slice_index_or ys k d ≡ slice_index_or xs k d
 
 -- the first clauses and the front of the buffer are what is left of these clauses without the dead ones and the links
-pub record AreSlid (heads : List HeadState) (edges : List EdgePair) (spans : List SpanState) (lits : List ℤ) (kept end : ℕ) : Type 0 where
+pub record AreSlid (heads : List HeadState) (edges : List Edges) (spans : List SpanState) (lits : List ℤ) (kept end : ℕ) : Type 0 where
   pub fewer : kept ≤ length spans
   pub shorter : end ≤ length lits
   pub live : heads_in lits (take kept edges) (take kept spans) ≡ map unlinked (filter (λ head. head.live) heads)

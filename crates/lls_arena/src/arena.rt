@@ -1,12 +1,13 @@
 // An arena of clauses.
-ghost use Rattle.std.specs.Prelude.{◌≡◌, ◌≢◌, ◌<◌, ◌≤◌, ◌+◌, ◌-◌, [], ◌∷◌, ◌++◌, false, true, not, length, map, slice_get, take, Some, IfSome, OnOk};
+ghost use Rattle.std.specs.Prelude.{◌≡◌, ◌≢◌, ◌<◌, ◌≤◌, ◌+◌, ◌-◌, [], ◌∷◌, ◌++◌, false, true, not, length, map, slice_get, take, None, Some, IfSome, OnOk};
 ghost use Rattle.std.specs.List.{slice_range};
 ghost use Rattle.std.specs.Option.{ForSome};
 ghost use Rattle.lls_arena.specs.declared.TheConstants.{MOST_HEADS, MOST_LITS};
 ghost use Rattle.lls_arena.specs.Arena.{IsLive, changed_at, compacted, empty_arena, killed, link_of, live_before, place_of, sealed, swapped, unlinked, with_link};
-ghost use Rattle.lls_arena.specs.Links.{link_in};
+ghost use Rattle.lls_arena.specs.Links.{link_in, side_in};
 ghost use Rattle.lls_arena.specs.Parts.{AreAllWatched, AreInOrder, AreSlid, AreTold, DifferWithin, HaveRows, heads_in, spans_in};
 
+use crate::edge_table::EdgeTable;
 use crate::edges::{Edges, Link, place};
 use crate::{MOST_HEADS, MOST_LITS};
 use lls_base::Memory;
@@ -30,7 +31,7 @@ struct Span {
 #[derive(Debug, Drop)]
 pub struct Arena {
     // These four have a row for each clause. A visit reads no id, so the cache holds more of what it reads.
-    edges: Vec<Edges>,
+    edges: EdgeTable,
     spans: Vec<Span>,
     lives: Vec<bool>,
     ids: Vec<u64>,
@@ -51,11 +52,11 @@ impl Model for Arena {
 
     ghost Value = { ArenaState };
 
-    ghost view = { λ a. arena_in a.edges.items (spans_in a.spans.items a.lives.items a.ids.items) a.lits.items a.tail a.spare_heads a.spare_lits a.planned };
+    ghost view = { λ a. arena_in a.edges.pairs (spans_in a.spans.items a.lives.items a.ids.items) a.lits.items a.tail a.spare_heads a.spare_lits a.planned };
 
-    ghost invariant = { λ a. AreParts a.edges.items (spans_in a.spans.items a.lives.items a.ids.items) a.lits.items a.tail
-        × HaveRoom (length a.edges.items) (length a.spans.items) (length a.lits.items) a.spare_heads a.spare_lits (vec_capacity a.edges) (vec_capacity a.spans) (vec_capacity a.lives) (vec_capacity a.ids) (vec_capacity a.lits)
-        × (a.planned ≡ true → SayWhereTo a.edges.items a.lives.items)
+    ghost invariant = { λ a. AreParts a.edges.pairs (spans_in a.spans.items a.lives.items a.ids.items) a.lits.items a.tail
+        × HaveRoom (length a.edges.pairs) (length a.spans.items) (length a.lits.items) a.spare_heads a.spare_lits (a.edges.room) (vec_capacity a.spans) (vec_capacity a.lives) (vec_capacity a.ids) (vec_capacity a.lits)
+        × (a.planned ≡ true → SayWhereTo a.edges.pairs a.lives.items)
         × HaveRows a.spans.items a.lives.items a.ids.items };
 }
 
@@ -65,7 +66,7 @@ impl Arena {
         ensures { result ≡ empty_arena }
     {
         Arena {
-            edges: Vec::new(alloc),
+            edges: EdgeTable::new(alloc),
             spans: Vec::new(alloc),
             lives: Vec::new(alloc),
             ids: Vec::new(alloc),
@@ -146,7 +147,7 @@ impl Arena {
         requires { c < length self.now.heads }
         ensures { slice_get (map (link_of w) self.now.heads) c ≡ Some (link_in result) }
     {
-        self.edges[c as usize].edge(w).next
+        self.edges.edge(c, w).next
     }
 
     /// The literal of a clause's first edge, or of its second where `w`: the first or second of its literals, read without
@@ -157,7 +158,28 @@ impl Arena {
         requires long { ForSome (slice_get self.now.heads c) (λ head. place_of w < length head.lits) }
         ensures { IfSome (slice_get self.now.heads c) (λ head. slice_get head.lits (place_of w) ≡ Some result) }
     {
-        self.edges[c as usize].watched(w)
+        self.edges.edge(c, w).lit
+    }
+
+    /// The link of the edge that a link names. It is read without a step between, so that a list is walked at the speed of its memory.
+    #[inline]
+    pub fn next(&self, link: Link) -> Link
+        requires leads { link_in link ≢ None }
+        requires within { ForSome (link_in link) (λ c. c < length self.now.heads) }
+        ensures { ForSome (link_in link) (λ c. slice_get (map (link_of (side_in link)) self.now.heads) c ≡ Some (link_in result)) }
+    {
+        self.edges.named(link).next
+    }
+
+    /// The literal of the edge that a link names: the first or second literal of its clause.
+    #[inline]
+    pub fn watched_by(&self, link: Link) -> Lit
+        requires leads { link_in link ≢ None }
+        requires within { ForSome (link_in link) (λ c. c < length self.now.heads) }
+        requires long { ForSome (link_in link) (λ c. ForSome (slice_get self.now.heads c) (λ head. place_of (side_in link) < length head.lits)) }
+        ensures { ForSome (link_in link) (λ c. IfSome (slice_get self.now.heads c) (λ head. slice_get head.lits (place_of (side_in link)) ≡ Some result)) }
+    {
+        self.edges.named(link).lit
     }
 
     /// Gives one edge of a clause another link. A dead clause's too, since a list leads through it until it is dropped there.
@@ -166,7 +188,7 @@ impl Arena {
         requires { c < length self.old.heads }
         ensures { self.new ≡ record self.old { heads = changed_at (with_link w (link_in next)) c self.old.heads; planned = false } }
     {
-        self.edges[c as usize].set_next(w, next);
+        self.edges.set_next(c, w, next);
         self.planned = false;
     }
 
@@ -184,7 +206,7 @@ impl Arena {
         let here = start + place(w);
         self.lits.swap(here, start + n);
         let lit = self.lits[here];
-        self.edges[c as usize].watch(w, lit);
+        self.edges.watch(c, w, lit);
     }
 
     /// Makes a live clause dead.
@@ -227,7 +249,7 @@ impl Arena {
         let number = self.spans.len() as u32;
         let end = self.lits.len();
         self.edges
-            .push_reserved(Edges::of(piece(&self.lits, self.tail, end)));
+            .push(Edges::of(piece(&self.lits, self.tail, end)));
         self.spans.push_reserved(Span {
             start: self.tail as u32,
             end: end as u32,
@@ -258,11 +280,7 @@ impl Arena {
         ensures { result ≡ live_before self.now.heads c }
     {
         // A live clause has been told, so its own number is never the answer of want of one.
-        self.edges[c as usize]
-            .edge(false)
-            .next
-            .clause()
-            .unwrap_or(c)
+        self.edges.edge(c, false).next.clause().unwrap_or(c)
     }
 
     /// Takes the dead clauses away, and all links: the live ones slide down in place, in their order.
@@ -290,7 +308,7 @@ impl Arena {
 
 // Slides the live clauses down over the dead ones: how many there are, and where their literals end.
 fn slide_live(
-    edges: &mut [Edges],
+    edges: &mut EdgeTable,
     spans: &mut [Span],
     lives: &mut [bool],
     ids: &mut [u64],
@@ -299,8 +317,10 @@ fn slide_live(
     requires rows { HaveRows spans.old lives.old ids.old }
     requires few { length lits.old ≤ MOST_LITS }
     requires in_order { AreInOrder 0 (spans_in spans.old lives.old ids.old) (length lits.old) }
-    requires watched { AreAllWatched lits.old edges.old (spans_in spans.old lives.old ids.old) }
-    ensures { AreSlid (heads_in lits.old edges.old (spans_in spans.old lives.old ids.old)) edges.new (spans_in spans.new lives.new ids.new) lits.new result.0 result.1 }
+    requires watched { AreAllWatched lits.old edges.old.pairs (spans_in spans.old lives.old ids.old) }
+    ensures edges { length edges.new.pairs ≡ length edges.old.pairs }
+    ensures room { edges.new.room ≡ edges.old.room }
+    ensures slid { AreSlid (heads_in lits.old edges.old.pairs (spans_in spans.old lives.old ids.old)) edges.new.pairs (spans_in spans.new lives.new ids.new) lits.new result.0 result.1 }
 {
     let mut kept = 0;
     let mut end = 0;
@@ -310,7 +330,7 @@ fn slide_live(
             let start = end;
             end = start + (span.end - span.start);
             slide(lits, span.start as usize, span.end as usize, start as usize);
-            edges[kept] = edges[k].unlinked();
+            edges.put(kept, edges.both(k).unlinked());
             spans[kept] = Span { start, end };
             lives[kept] = true;
             ids[kept] = ids[k];
@@ -335,15 +355,16 @@ fn slide(lits: &mut [Lit], start: usize, end: usize, to: usize)
 }
 
 // Puts at the first edge of each live clause how many live ones are before it.
-fn tell_where_to(edges: &mut [Edges], lives: &[bool])
-    requires each { length edges.old ≡ length lives.now }
+fn tell_where_to(edges: &mut EdgeTable, lives: &[bool])
+    requires each { length edges.old.pairs ≡ length lives.now }
     requires few { length lives.now ≤ MOST_HEADS }
-    ensures { AreTold edges.old edges.new lives.now }
+    ensures room { edges.new.room ≡ edges.old.room }
+    ensures told { AreTold edges.old.pairs edges.new.pairs lives.now }
 {
     let mut before = 0;
     for k in 0..lives.len() {
         if lives[k] {
-            edges[k].set_next(false, Link::to(before, false));
+            edges.set_next(k as u32, false, Link::to(before, false));
             before += 1;
         }
     }

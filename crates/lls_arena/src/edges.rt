@@ -1,16 +1,17 @@
 // The hot part of a clause.
-ghost use Rattle.std.specs.Prelude.{◌≡◌, ◌<◌, pos, if◌then◌else◌, length, slice_index_or, None, Some};
+ghost use Rattle.std.specs.Option.{ForSome};
+ghost use Rattle.std.specs.Prelude.{◌≡◌, ◌≢◌, ◌<◌, ◌+◌, ◌*◌, pos, length, slice_index_or, None, Some};
 ghost use Rattle.lls_arena.specs.declared.TheConstants.{MOST_HEADS};
 ghost use Rattle.lls_arena.specs.Arena.{place_of};
-ghost use Rattle.lls_arena.specs.Links.{link_in, with_lit, with_next};
+ghost use Rattle.lls_arena.specs.Links.{link_in, side_in};
 
 use lls_lit::Lit;
-use std::marker::Model;
 
 /// Where an edge leads: to an edge of a clause, or nowhere.
 ///
-/// It is kept in four bytes, as one more than the place of that edge in a table of two edges a clause, or 0. What a link is seen
-/// as is the clause alone: which of its edges was named is a hint, of which no clause speaks, so whoever follows it looks.
+/// It is kept in four bytes, as one more than the place of that edge in a table of two edges a clause, or 0. It is
+/// seen as that clause (`link_in`) and which of its edges was named (`side_in`). That a list names the right ones is said nowhere, so
+/// whoever follows a link looks.
 #[derive(Clone, Copy, Debug)]
 pub struct Link {
     after: u32,
@@ -23,26 +24,11 @@ pub(crate) struct Edge {
     pub(crate) lit: Lit,
 }
 
-// A clause's two edges, 16 bytes beside each other. They stand in an array, so that which of them is meant takes no branch.
+// A clause's two edges.
 #[derive(Clone, Copy, Debug)]
 pub(crate) struct Edges {
-    both: [Edge; 2],
-}
-
-impl Model for Edges {
-    ghost use Rattle.std.specs.Prelude.{◌≡◌, length, [], ◌∷◌};
-    ghost use Rattle.std.proofs.Common.{ap};
-    ghost use Rattle.lls_arena.specs.Links.{EdgePair, pair_in, both-pair_in};
-
-    ghost Value = { EdgePair };
-
-    ghost view = { λ e. pair_in e.both };
-
-    ghost invariant = { λ e. length e.both ≡ 2 };
-
-    ghost inverse = { λ p. record { both = p.first ∷ p.second ∷ [] } };
-
-    ghost inverse_ok = { λ a h. ap (λ both. record { both = both }) (both-pair_in a.both h) };
+    pub(crate) first: Edge,
+    pub(crate) second: Edge,
 }
 
 impl Link {
@@ -57,7 +43,8 @@ impl Link {
     #[inline]
     pub fn to(clause: u32, second: bool) -> Link
         requires { clause < MOST_HEADS }
-        ensures { link_in result ≡ Some clause }
+        ensures clause { link_in result ≡ Some clause }
+        ensures side { side_in result ≡ second }
     {
         Link {
             after: 2 * clause + u32::from(second) + 1,
@@ -78,8 +65,19 @@ impl Link {
 
     /// Whether the second edge of the clause was named.
     #[inline]
-    pub fn is_second(self) -> bool {
+    pub fn is_second(self) -> bool
+        ensures { result ≡ side_in self }
+    {
         self.after.wrapping_sub(1) % 2 == 1
+    }
+
+    // Where the edge stands in a table of two edges a clause.
+    #[inline]
+    pub(crate) fn place(self) -> usize
+        requires { link_in self ≢ None }
+        ensures { ForSome (link_in self) (λ c. result ≡ 2 * c + place_of (side_in self)) }
+    {
+        (self.after - 1) as usize
     }
 }
 
@@ -92,31 +90,9 @@ impl Edges {
         ensures second_link { link_in result.second.next ≡ None }
     {
         Edges {
-            both: [Edge::at(lits, 0), Edge::at(lits, 1)],
+            first: Edge::at(lits, 0),
+            second: Edge::at(lits, 1),
         }
-    }
-
-    #[inline]
-    pub(crate) fn edge(&self, w: bool) -> Edge
-        ensures { result ≡ (if w then self.now.second else self.now.first) }
-    {
-        self.both[place(w)]
-    }
-
-    // The literal that one edge watches. It alone is read, so that reading it right after it was written waits for nothing.
-    #[inline]
-    pub(crate) fn watched(&self, w: bool) -> Lit
-        ensures { result ≡ (if w then self.now.second.lit else self.now.first.lit) }
-    {
-        self.both[place(w)].lit
-    }
-
-    // Watches another literal by one edge.
-    #[inline]
-    pub(crate) fn watch(&mut self, w: bool, lit: Lit)
-        ensures { self.new ≡ with_lit w lit self.old }
-    {
-        self.both[place(w)].lit = lit;
     }
 
     // Leads nowhere.
@@ -128,16 +104,9 @@ impl Edges {
         ensures second_link { link_in result.second.next ≡ None }
     {
         Edges {
-            both: [self.both[0].unlinked(), self.both[1].unlinked()],
+            first: self.first.unlinked(),
+            second: self.second.unlinked(),
         }
-    }
-
-    // Gives one edge another link.
-    #[inline]
-    pub(crate) fn set_next(&mut self, w: bool, next: Link)
-        ensures { self.new ≡ with_next w next self.old }
-    {
-        self.both[place(w)].next = next;
     }
 }
 
@@ -169,11 +138,19 @@ impl Edge {
     }
 }
 
+// Where an edge stands in a table of two edges a clause.
+#[inline]
+pub(crate) fn place_in(c: u32, w: bool) -> usize
+    requires { c < MOST_HEADS }
+    ensures { result ≡ 2 * c + place_of w }
+{
+    (2 * c + u32::from(w)) as usize
+}
+
 // Where an edge's literal stands in its clause.
 #[inline]
 pub(crate) fn place(w: bool) -> usize
-    ensures place { result ≡ place_of w }
-    ensures inside { result < 2 }
+    ensures { result ≡ place_of w }
 {
     if w { 1 } else { 0 }
 }

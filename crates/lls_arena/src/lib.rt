@@ -5,6 +5,7 @@
 #![tactic(auto)]
 
 mod arena;
+mod edge_table;
 mod edges;
 
 pub use arena::Arena;

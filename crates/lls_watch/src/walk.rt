@@ -1,9 +1,9 @@
 // A walk along the list of a literal.
-ghost use Rattle.std.specs.Prelude.{◌≡◌, ◌≤◌, ◌<◌, ◌+◌, ◌∷◌, ◌++◌, ℕ, List, length, slice_get, IfNone, IfSome, Some};
+ghost use Rattle.std.specs.Prelude.{◌≡◌, ◌≤◌, ◌<◌, ◌+◌, ◌∷◌, ◌++◌, ℕ, List, length, map, slice_get, IfNone, IfSome, Some};
 ghost use Rattle.lls_lit.specs.Literal.{index_of, negation};
 ghost use Rattle.lls_store.specs.Trail.{literals_of};
 ghost use Rattle.lls_store.specs.Store.{GoesOn, IsConflict};
-ghost use Rattle.lls_arena.specs.Arena.{HeadState};
+ghost use Rattle.lls_arena.specs.Arena.{HeadState, link_of};
 ghost use Rattle.lls_arena.specs.Links.{link_in};
 ghost use Rattle.lls_watch.specs.Watches.{HasEdgeOf, IsThreaded, LeadsOn, Lists, side_of, with_list};
 ghost use Rattle.lls_watch.specs.Passed.{live_from};
@@ -17,6 +17,49 @@ use lls_arena::{Arena, Link};
 use lls_lit::Lit;
 use lls_store::Trail;
 
+// What a walk meets at a clause.
+#[derive(Clone, Copy, Debug)]
+pub(crate) struct Meeting {
+    // Whether the clause's second edge watches the literal, or the first.
+    pub(crate) w: bool,
+    // Where that edge leads.
+    pub(crate) next: Link,
+}
+
+// Meets the clause to which a link leads. The link names the edge that watches the literal, but no clause says so: what is read there
+// stands where it does, and a processor that foresees that goes on without knowing the clause.
+#[inline]
+fn meet(arena: &Arena, here: Link, c: u32, lit: Lit) -> Meeting
+    requires leads { link_in here ≡ Some c }
+    requires edge { HasEdgeOf arena.now.heads lit c }
+    ensures side { (head : HeadState) → slice_get arena.now.heads c ≡ Some head → result.w ≡ side_of head lit }
+    ensures next { slice_get (map (link_of result.w) arena.now.heads) c ≡ Some (link_in result.next) }
+{
+    if arena.watched_by(here) == lit {
+        Meeting {
+            w: here.is_second(),
+            next: arena.next(here),
+        }
+    } else {
+        look(arena, c, lit)
+    }
+}
+
+// It stands apart, since it never comes to it.
+#[cold]
+#[inline(never)]
+fn look(arena: &Arena, c: u32, lit: Lit) -> Meeting
+    requires { HasEdgeOf arena.now.heads lit c }
+    ensures side { (head : HeadState) → slice_get arena.now.heads c ≡ Some head → result.w ≡ side_of head lit }
+    ensures next { slice_get (map (link_of result.w) arena.now.heads) c ≡ Some (link_in result.next) }
+{
+    let w = arena.watched(c, true) == lit;
+    Meeting {
+        w,
+        next: arena.link(c, w),
+    }
+}
+
 // Which edge of a clause watches the literal, where a link named one of them. The link names the right one, but no clause says so.
 #[inline]
 fn side_at(arena: &Arena, c: u32, is_second: bool, lit: Lit) -> bool
@@ -26,18 +69,8 @@ fn side_at(arena: &Arena, c: u32, is_second: bool, lit: Lit) -> bool
     if arena.watched(c, is_second) == lit {
         is_second
     } else {
-        looked_at_side(arena, c, lit)
+        look(arena, c, lit).w
     }
-}
-
-// It stands apart, so that a processor foresees the way on without knowing the clause.
-#[cold]
-#[inline(never)]
-fn looked_at_side(arena: &Arena, c: u32, lit: Lit) -> bool
-    requires { HasEdgeOf arena.now.heads lit c }
-    ensures { (head : HeadState) → slice_get arena.now.heads c ≡ Some head → result ≡ side_of head lit }
-{
-    arena.watched(c, true) == lit
 }
 
 // Has the last clause that was kept lead on, or the list begin, behind the clause that is taken out.
@@ -84,8 +117,9 @@ pub(crate) fn visit_list(
         // So it is of the trail as it has grown.
         let _len = trail.len();
         let here = next;
-        let w = side_at(watches.arena(), c, next.is_second(), lit);
-        next = watches.arena().link(c, w);
+        let met = meet(watches.arena(), here, c, lit);
+        let w = met.w;
+        next = met.next;
         match visit_clause(watches.arena(), trail, c, w) {
             Visit::Kept => {
                 if late {

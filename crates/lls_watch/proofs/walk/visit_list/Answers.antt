@@ -65,90 +65,84 @@ loop-c-init c =
     same_number : (a b : ℕ) → Some a ≡ Some b → a ≡ b
     same_number a b e = cc
 
-pub side_at-w-requires : goal.side_at-w-requires
-side_at-w-requires c =
+pub meet-met-requires-clause-edge : goal.meet-met-requires-clause-edge
+meet-met-requires-clause-edge c =
     let way = subst (λ o. IsOnItsWay c.args.watches.now c.loop-c.watches c.args.trail.now c.loop-c.trail c.loop-c.progress c.args.lit (link_in c.loop-c.last) o) (sym c.clause.ensures ∙ c.in-Some.is) c.loop-c.invariant.0 in
     let met = meets c.args.watches.now c.loop-c.watches c.args.trail.now c.loop-c.trail c.loop-c.progress c.args.lit (link_in c.loop-c.last) c.in-Some.c way in
     subst (λ (a : ArenaState). HasEdgeOf a.heads c.args.lit c.in-Some.c) (sym c.arena.ensures) (met_edge c.loop-c.watches c.loop-c.trail.vars c.args.lit c.in-Some.c met)
-
-pub link-next-requires : goal.link-next-requires
-link-next-requires c =
-    let way = subst (λ o. IsOnItsWay c.args.watches.now c.loop-c.watches c.args.trail.now c.loop-c.trail c.loop-c.progress c.args.lit (link_in c.loop-c.last) o) (sym c.clause.ensures ∙ c.in-Some.is) c.loop-c.invariant.0 in
-    let met = meets c.args.watches.now c.loop-c.watches c.args.trail.now c.loop-c.trail c.loop-c.progress c.args.lit (link_in c.loop-c.last) c.in-Some.c way in
-    subst (λ (a : ArenaState). c.in-Some.c < length a.heads) (sym c.arena-in-Some.ensures) (met_within c.loop-c.watches c.loop-c.trail.vars c.args.lit c.in-Some.c met)
 
 pub visit_clause-requires : goal.visit_clause-requires
 visit_clause-requires c =
     let way = subst (λ o. IsOnItsWay c.args.watches.now c.loop-c.watches c.args.trail.now c.loop-c.trail c.loop-c.progress c.args.lit (link_in c.loop-c.last) o) (sym c.clause.ensures ∙ c.in-Some.is) c.loop-c.invariant.0 in
     let met = meets c.args.watches.now c.loop-c.watches c.args.trail.now c.loop-c.trail c.loop-c.progress c.args.lit (link_in c.loop-c.last) c.in-Some.c way in
-    subst (λ (a : ArenaState). CanBeVisited a.heads c.loop-c.trail.vars c.in-Some.c) (sym c.arena-in-Some-2.ensures) (met_visitable c.loop-c.watches c.loop-c.trail.vars c.args.lit c.in-Some.c met)
+    subst (λ (a : ArenaState). CanBeVisited a.heads c.loop-c.trail.vars c.in-Some.c) (sym c.arena-in-Some.ensures) (met_visitable c.loop-c.watches c.loop-c.trail.vars c.args.lit c.in-Some.c met)
 
 pub loop-c-smaller-then-late : goal.loop-c-smaller-then-late
 loop-c-smaller-then-late c =
     let way = subst (λ o. IsOnItsWay c.args.watches.now c.loop-c.watches c.args.trail.now c.loop-c.trail c.loop-c.progress c.args.lit (link_in c.loop-c.last) o) (sym c.clause.ensures ∙ c.in-Some.is) c.loop-c.invariant.0 in
     let met = meets c.args.watches.now c.loop-c.watches c.args.trail.now c.loop-c.trail c.loop-c.progress c.args.lit (link_in c.loop-c.last) c.in-Some.c way in
-    let side = subst (λ (a : ArenaState). (h : HeadState) → slice_get a.heads c.in-Some.c ≡ Some h → c.side_at-w.result ≡ side_of h c.args.lit) c.arena.ensures c.side_at-w.ensures in
-    let link = subst (λ (a : ArenaState). slice_get (map (link_of c.side_at-w.result) a.heads) c.in-Some.c ≡ Some (link_in c.link-next.result)) c.arena-in-Some.ensures c.link-next.ensures in
-    let come = comes c.loop-c.watches c.loop-c.trail.vars c.args.lit c.in-Some.c c.side_at-w.result (link_in c.link-next.result) met side link in
-    let found = subst (λ (a : ArenaState). slice_get a.heads c.in-Some.c ≡ Some come.leads.head) (sym c.arena-in-Some-2.ensures) come.leads.is_head in
+    let side = subst (λ (a : ArenaState). (h : HeadState) → slice_get a.heads c.in-Some.c ≡ Some h → c.meet-met.result.w ≡ side_of h c.args.lit) c.arena.ensures c.meet-met.ensures.side in
+    let link = subst (λ (a : ArenaState). slice_get (map (link_of c.meet-met.result.w) a.heads) c.in-Some.c ≡ Some (link_in c.meet-met.result.next)) c.arena.ensures c.meet-met.ensures.next in
+    let come = comes c.loop-c.watches c.loop-c.trail.vars c.args.lit c.in-Some.c c.meet-met.result.w (link_in c.meet-met.result.next) met side link in
+    let found = subst (λ (a : ArenaState). slice_get a.heads c.in-Some.c ≡ Some come.leads.head) (sym c.arena-in-Some.ensures) come.leads.is_head in
     let false_at = stands_false c.args.trail.now c.args.progress.now.passed c.args.lit c.current-current.ensures.kept c.requires.lit in
     let literal : IsLiteral c.args.lit = subst IsVariable c.var.ensures.var c.var.ensures.variable in
     let within : index_of c.args.lit < length c.loop-c.watches.first = has_list c.args.watches.now c.loop-c.watches c.args.trail.now c.loop-c.trail c.loop-c.progress c.args.lit (link_in c.loop-c.last) (link_in c.loop-c.next) c.args.lit c.loop-c.invariant.0 literal false_at.within in
-    subst (λ o. length (followed (length c.loop-c.watches.arena.heads) c.loop-c.watches.arena.heads c.args.lit (link_in c.link-next.result)) < length (followed (length c.loop-c.watches.arena.heads) c.loop-c.watches.arena.heads c.args.lit o)) (sym (sym c.clause.ensures ∙ c.in-Some.is))
-    (kept_shorter c.args.watches.now c.loop-c.watches c.args.trail.now c.loop-c.trail c.loop-c.progress c.args.lit (link_in c.loop-c.last) c.in-Some.c (link_in c.link-next.result) within way come.leads)
+    subst (λ o. length (followed (length c.loop-c.watches.arena.heads) c.loop-c.watches.arena.heads c.args.lit (link_in c.meet-met.result.next)) < length (followed (length c.loop-c.watches.arena.heads) c.loop-c.watches.arena.heads c.args.lit o)) (sym (sym c.clause.ensures ∙ c.in-Some.is))
+    (kept_shorter c.args.watches.now c.loop-c.watches c.args.trail.now c.loop-c.trail c.loop-c.progress c.args.lit (link_in c.loop-c.last) c.in-Some.c (link_in c.meet-met.result.next) within way come.leads)
 
 pub loop-c-smaller-else-late : goal.loop-c-smaller-else-late
 loop-c-smaller-else-late c =
     let way = subst (λ o. IsOnItsWay c.args.watches.now c.loop-c.watches c.args.trail.now c.loop-c.trail c.loop-c.progress c.args.lit (link_in c.loop-c.last) o) (sym c.clause.ensures ∙ c.in-Some.is) c.loop-c.invariant.0 in
     let met = meets c.args.watches.now c.loop-c.watches c.args.trail.now c.loop-c.trail c.loop-c.progress c.args.lit (link_in c.loop-c.last) c.in-Some.c way in
-    let side = subst (λ (a : ArenaState). (h : HeadState) → slice_get a.heads c.in-Some.c ≡ Some h → c.side_at-w.result ≡ side_of h c.args.lit) c.arena.ensures c.side_at-w.ensures in
-    let link = subst (λ (a : ArenaState). slice_get (map (link_of c.side_at-w.result) a.heads) c.in-Some.c ≡ Some (link_in c.link-next.result)) c.arena-in-Some.ensures c.link-next.ensures in
-    let come = comes c.loop-c.watches c.loop-c.trail.vars c.args.lit c.in-Some.c c.side_at-w.result (link_in c.link-next.result) met side link in
-    let found = subst (λ (a : ArenaState). slice_get a.heads c.in-Some.c ≡ Some come.leads.head) (sym c.arena-in-Some-2.ensures) come.leads.is_head in
+    let side = subst (λ (a : ArenaState). (h : HeadState) → slice_get a.heads c.in-Some.c ≡ Some h → c.meet-met.result.w ≡ side_of h c.args.lit) c.arena.ensures c.meet-met.ensures.side in
+    let link = subst (λ (a : ArenaState). slice_get (map (link_of c.meet-met.result.w) a.heads) c.in-Some.c ≡ Some (link_in c.meet-met.result.next)) c.arena.ensures c.meet-met.ensures.next in
+    let come = comes c.loop-c.watches c.loop-c.trail.vars c.args.lit c.in-Some.c c.meet-met.result.w (link_in c.meet-met.result.next) met side link in
+    let found = subst (λ (a : ArenaState). slice_get a.heads c.in-Some.c ≡ Some come.leads.head) (sym c.arena-in-Some.ensures) come.leads.is_head in
     let false_at = stands_false c.args.trail.now c.args.progress.now.passed c.args.lit c.current-current.ensures.kept c.requires.lit in
     let literal : IsLiteral c.args.lit = subst IsVariable c.var.ensures.var c.var.ensures.variable in
     let within : index_of c.args.lit < length c.loop-c.watches.first = has_list c.args.watches.now c.loop-c.watches c.args.trail.now c.loop-c.trail c.loop-c.progress c.args.lit (link_in c.loop-c.last) (link_in c.loop-c.next) c.args.lit c.loop-c.invariant.0 literal false_at.within in
-    subst (λ o. length (followed (length c.loop-c.watches.arena.heads) c.loop-c.watches.arena.heads c.args.lit (link_in c.link-next.result)) < length (followed (length c.loop-c.watches.arena.heads) c.loop-c.watches.arena.heads c.args.lit o)) (sym (sym c.clause.ensures ∙ c.in-Some.is))
-    (kept_shorter c.args.watches.now c.loop-c.watches c.args.trail.now c.loop-c.trail c.loop-c.progress c.args.lit (link_in c.loop-c.last) c.in-Some.c (link_in c.link-next.result) within way come.leads)
+    subst (λ o. length (followed (length c.loop-c.watches.arena.heads) c.loop-c.watches.arena.heads c.args.lit (link_in c.meet-met.result.next)) < length (followed (length c.loop-c.watches.arena.heads) c.loop-c.watches.arena.heads c.args.lit o)) (sym (sym c.clause.ensures ∙ c.in-Some.is))
+    (kept_shorter c.args.watches.now c.loop-c.watches c.args.trail.now c.loop-c.trail c.loop-c.progress c.args.lit (link_in c.loop-c.last) c.in-Some.c (link_in c.meet-met.result.next) within way come.leads)
 
 pub loop-c-smaller-then-late-2 : goal.loop-c-smaller-then-late-2
 loop-c-smaller-then-late-2 c =
     let way = subst (λ o. IsOnItsWay c.args.watches.now c.loop-c.watches c.args.trail.now c.loop-c.trail c.loop-c.progress c.args.lit (link_in c.loop-c.last) o) (sym c.clause.ensures ∙ c.in-Some.is) c.loop-c.invariant.0 in
     let met = meets c.args.watches.now c.loop-c.watches c.args.trail.now c.loop-c.trail c.loop-c.progress c.args.lit (link_in c.loop-c.last) c.in-Some.c way in
-    let side = subst (λ (a : ArenaState). (h : HeadState) → slice_get a.heads c.in-Some.c ≡ Some h → c.side_at-w.result ≡ side_of h c.args.lit) c.arena.ensures c.side_at-w.ensures in
-    let link = subst (λ (a : ArenaState). slice_get (map (link_of c.side_at-w.result) a.heads) c.in-Some.c ≡ Some (link_in c.link-next.result)) c.arena-in-Some.ensures c.link-next.ensures in
-    let come = comes c.loop-c.watches c.loop-c.trail.vars c.args.lit c.in-Some.c c.side_at-w.result (link_in c.link-next.result) met side link in
-    let found = subst (λ (a : ArenaState). slice_get a.heads c.in-Some.c ≡ Some come.leads.head) (sym c.arena-in-Some-2.ensures) come.leads.is_head in
+    let side = subst (λ (a : ArenaState). (h : HeadState) → slice_get a.heads c.in-Some.c ≡ Some h → c.meet-met.result.w ≡ side_of h c.args.lit) c.arena.ensures c.meet-met.ensures.side in
+    let link = subst (λ (a : ArenaState). slice_get (map (link_of c.meet-met.result.w) a.heads) c.in-Some.c ≡ Some (link_in c.meet-met.result.next)) c.arena.ensures c.meet-met.ensures.next in
+    let come = comes c.loop-c.watches c.loop-c.trail.vars c.args.lit c.in-Some.c c.meet-met.result.w (link_in c.meet-met.result.next) met side link in
+    let found = subst (λ (a : ArenaState). slice_get a.heads c.in-Some.c ≡ Some come.leads.head) (sym c.arena-in-Some.ensures) come.leads.is_head in
     let false_at = stands_false c.args.trail.now c.args.progress.now.passed c.args.lit c.current-current.ensures.kept c.requires.lit in
     let literal : IsLiteral c.args.lit = subst IsVariable c.var.ensures.var c.var.ensures.variable in
     let within : index_of c.args.lit < length c.loop-c.watches.first = has_list c.args.watches.now c.loop-c.watches c.args.trail.now c.loop-c.trail c.loop-c.progress c.args.lit (link_in c.loop-c.last) (link_in c.loop-c.next) c.args.lit c.loop-c.invariant.0 literal false_at.within in
-    subst (λ o. length (followed (length c.loop-c.watches.arena.heads) c.loop-c.watches.arena.heads c.args.lit (link_in c.link-next.result)) < length (followed (length c.loop-c.watches.arena.heads) c.loop-c.watches.arena.heads c.args.lit o)) (sym (sym c.clause.ensures ∙ c.in-Some.is))
-    (kept_shorter c.args.watches.now c.loop-c.watches c.args.trail.now c.loop-c.trail c.loop-c.progress c.args.lit (link_in c.loop-c.last) c.in-Some.c (link_in c.link-next.result) within way come.leads)
+    subst (λ o. length (followed (length c.loop-c.watches.arena.heads) c.loop-c.watches.arena.heads c.args.lit (link_in c.meet-met.result.next)) < length (followed (length c.loop-c.watches.arena.heads) c.loop-c.watches.arena.heads c.args.lit o)) (sym (sym c.clause.ensures ∙ c.in-Some.is))
+    (kept_shorter c.args.watches.now c.loop-c.watches c.args.trail.now c.loop-c.trail c.loop-c.progress c.args.lit (link_in c.loop-c.last) c.in-Some.c (link_in c.meet-met.result.next) within way come.leads)
 
 pub loop-c-smaller : goal.loop-c-smaller
 loop-c-smaller c =
     let way = subst (λ o. IsOnItsWay c.args.watches.now c.loop-c.watches c.args.trail.now c.loop-c.trail c.loop-c.progress c.args.lit (link_in c.loop-c.last) o) (sym c.clause.ensures ∙ c.in-Some.is) c.loop-c.invariant.0 in
     let met = meets c.args.watches.now c.loop-c.watches c.args.trail.now c.loop-c.trail c.loop-c.progress c.args.lit (link_in c.loop-c.last) c.in-Some.c way in
-    let side = subst (λ (a : ArenaState). (h : HeadState) → slice_get a.heads c.in-Some.c ≡ Some h → c.side_at-w.result ≡ side_of h c.args.lit) c.arena.ensures c.side_at-w.ensures in
-    let link = subst (λ (a : ArenaState). slice_get (map (link_of c.side_at-w.result) a.heads) c.in-Some.c ≡ Some (link_in c.link-next.result)) c.arena-in-Some.ensures c.link-next.ensures in
-    let come = comes c.loop-c.watches c.loop-c.trail.vars c.args.lit c.in-Some.c c.side_at-w.result (link_in c.link-next.result) met side link in
-    let found = subst (λ (a : ArenaState). slice_get a.heads c.in-Some.c ≡ Some come.leads.head) (sym c.arena-in-Some-2.ensures) come.leads.is_head in
+    let side = subst (λ (a : ArenaState). (h : HeadState) → slice_get a.heads c.in-Some.c ≡ Some h → c.meet-met.result.w ≡ side_of h c.args.lit) c.arena.ensures c.meet-met.ensures.side in
+    let link = subst (λ (a : ArenaState). slice_get (map (link_of c.meet-met.result.w) a.heads) c.in-Some.c ≡ Some (link_in c.meet-met.result.next)) c.arena.ensures c.meet-met.ensures.next in
+    let come = comes c.loop-c.watches c.loop-c.trail.vars c.args.lit c.in-Some.c c.meet-met.result.w (link_in c.meet-met.result.next) met side link in
+    let found = subst (λ (a : ArenaState). slice_get a.heads c.in-Some.c ≡ Some come.leads.head) (sym c.arena-in-Some.ensures) come.leads.is_head in
     let false_at = stands_false c.args.trail.now c.args.progress.now.passed c.args.lit c.current-current.ensures.kept c.requires.lit in
     let literal : IsLiteral c.args.lit = subst IsVariable c.var.ensures.var c.var.ensures.variable in
     let within : index_of c.args.lit < length c.loop-c.watches.first = has_list c.args.watches.now c.loop-c.watches c.args.trail.now c.loop-c.trail c.loop-c.progress c.args.lit (link_in c.loop-c.last) (link_in c.loop-c.next) c.args.lit c.loop-c.invariant.0 literal false_at.within in
-    subst (λ o. length (followed (length c.loop-c.watches.arena.heads) c.loop-c.watches.arena.heads c.args.lit (link_in c.link-next.result)) < length (followed (length c.loop-c.watches.arena.heads) c.loop-c.watches.arena.heads c.args.lit o)) (sym (sym c.clause.ensures ∙ c.in-Some.is))
-    (kept_shorter c.args.watches.now c.loop-c.watches c.args.trail.now c.loop-c.trail c.loop-c.progress c.args.lit (link_in c.loop-c.last) c.in-Some.c (link_in c.link-next.result) within way come.leads)
+    subst (λ o. length (followed (length c.loop-c.watches.arena.heads) c.loop-c.watches.arena.heads c.args.lit (link_in c.meet-met.result.next)) < length (followed (length c.loop-c.watches.arena.heads) c.loop-c.watches.arena.heads c.args.lit o)) (sym (sym c.clause.ensures ∙ c.in-Some.is))
+    (kept_shorter c.args.watches.now c.loop-c.watches c.args.trail.now c.loop-c.trail c.loop-c.progress c.args.lit (link_in c.loop-c.last) c.in-Some.c (link_in c.meet-met.result.next) within way come.leads)
 
 pub loop-c-preserved-then-late : goal.loop-c-preserved-then-late
 loop-c-preserved-then-late c =
     let way = subst (λ o. IsOnItsWay c.args.watches.now c.loop-c.watches c.args.trail.now c.loop-c.trail c.loop-c.progress c.args.lit (link_in c.loop-c.last) o) (sym c.clause.ensures ∙ c.in-Some.is) c.loop-c.invariant.0 in
     let met = meets c.args.watches.now c.loop-c.watches c.args.trail.now c.loop-c.trail c.loop-c.progress c.args.lit (link_in c.loop-c.last) c.in-Some.c way in
-    let side = subst (λ (a : ArenaState). (h : HeadState) → slice_get a.heads c.in-Some.c ≡ Some h → c.side_at-w.result ≡ side_of h c.args.lit) c.arena.ensures c.side_at-w.ensures in
-    let link = subst (λ (a : ArenaState). slice_get (map (link_of c.side_at-w.result) a.heads) c.in-Some.c ≡ Some (link_in c.link-next.result)) c.arena-in-Some.ensures c.link-next.ensures in
-    let come = comes c.loop-c.watches c.loop-c.trail.vars c.args.lit c.in-Some.c c.side_at-w.result (link_in c.link-next.result) met side link in
-    let found = subst (λ (a : ArenaState). slice_get a.heads c.in-Some.c ≡ Some come.leads.head) (sym c.arena-in-Some-2.ensures) come.leads.is_head in (
-      subst (λ o. IsOnItsWay c.args.watches.now c.loop-c.watches c.args.trail.now c.loop-c.trail c.lower.new.self c.args.lit o (link_in c.link-next.result)) (sym (sym c.clause.ensures ∙ c.in-Some.is))
-          (turn_marks c.args.watches.now c.loop-c.watches c.args.trail.now c.loop-c.trail c.loop-c.progress c.lower.new.self c.args.lit (link_in c.loop-c.last) c.in-Some.c c.side_at-w.result (link_in c.link-next.result) way come
+    let side = subst (λ (a : ArenaState). (h : HeadState) → slice_get a.heads c.in-Some.c ≡ Some h → c.meet-met.result.w ≡ side_of h c.args.lit) c.arena.ensures c.meet-met.ensures.side in
+    let link = subst (λ (a : ArenaState). slice_get (map (link_of c.meet-met.result.w) a.heads) c.in-Some.c ≡ Some (link_in c.meet-met.result.next)) c.arena.ensures c.meet-met.ensures.next in
+    let come = comes c.loop-c.watches c.loop-c.trail.vars c.args.lit c.in-Some.c c.meet-met.result.w (link_in c.meet-met.result.next) met side link in
+    let found = subst (λ (a : ArenaState). slice_get a.heads c.in-Some.c ≡ Some come.leads.head) (sym c.arena-in-Some.ensures) come.leads.is_head in (
+      subst (λ o. IsOnItsWay c.args.watches.now c.loop-c.watches c.args.trail.now c.loop-c.trail c.lower.new.self c.args.lit o (link_in c.meet-met.result.next)) (sym (sym c.clause.ensures ∙ c.in-Some.is))
+          (turn_marks c.args.watches.now c.loop-c.watches c.args.trail.now c.loop-c.trail c.loop-c.progress c.lower.new.self c.args.lit (link_in c.loop-c.last) c.in-Some.c c.meet-met.result.w (link_in c.meet-met.result.next) way come
           (c.in-Kept.ensures come.leads.head found) c.lower.ensures.passed c.lower.ensures.marked c.lower.ensures.kept),
       c.lower.ensures.passed ∙ c.loop-c.invariant.1,
       λ e early found. c.loop-c.invariant.2 e early (subst (λ k. slice_get c.loop-c.trail.entries k ≡ Some e) c.lower.ensures.passed found),
@@ -158,13 +152,13 @@ pub loop-c-preserved-else-late : goal.loop-c-preserved-else-late
 loop-c-preserved-else-late c =
     let way = subst (λ o. IsOnItsWay c.args.watches.now c.loop-c.watches c.args.trail.now c.loop-c.trail c.loop-c.progress c.args.lit (link_in c.loop-c.last) o) (sym c.clause.ensures ∙ c.in-Some.is) c.loop-c.invariant.0 in
     let met = meets c.args.watches.now c.loop-c.watches c.args.trail.now c.loop-c.trail c.loop-c.progress c.args.lit (link_in c.loop-c.last) c.in-Some.c way in
-    let side = subst (λ (a : ArenaState). (h : HeadState) → slice_get a.heads c.in-Some.c ≡ Some h → c.side_at-w.result ≡ side_of h c.args.lit) c.arena.ensures c.side_at-w.ensures in
-    let link = subst (λ (a : ArenaState). slice_get (map (link_of c.side_at-w.result) a.heads) c.in-Some.c ≡ Some (link_in c.link-next.result)) c.arena-in-Some.ensures c.link-next.ensures in
-    let come = comes c.loop-c.watches c.loop-c.trail.vars c.args.lit c.in-Some.c c.side_at-w.result (link_in c.link-next.result) met side link in
-    let found = subst (λ (a : ArenaState). slice_get a.heads c.in-Some.c ≡ Some come.leads.head) (sym c.arena-in-Some-2.ensures) come.leads.is_head in (
-      subst (λ o. IsOnItsWay c.args.watches.now c.loop-c.watches c.args.trail.now c.loop-c.trail c.loop-c.progress c.args.lit o (link_in c.link-next.result)) (sym (sym c.clause.ensures ∙ c.in-Some.is))
-          (turn_keeps c.args.watches.now c.loop-c.watches c.args.trail.now c.loop-c.trail c.loop-c.progress c.args.lit (link_in c.loop-c.last) c.in-Some.c c.side_at-w.result (link_in c.link-next.result) way come
-          (offset_in_time c.loop-c.trail c.loop-c.progress.mark c.loop-c.progress.passed way.entry.level (watched (not c.side_at-w.result) come.leads.head) c.len-len.ensures.kept
+    let side = subst (λ (a : ArenaState). (h : HeadState) → slice_get a.heads c.in-Some.c ≡ Some h → c.meet-met.result.w ≡ side_of h c.args.lit) c.arena.ensures c.meet-met.ensures.side in
+    let link = subst (λ (a : ArenaState). slice_get (map (link_of c.meet-met.result.w) a.heads) c.in-Some.c ≡ Some (link_in c.meet-met.result.next)) c.arena.ensures c.meet-met.ensures.next in
+    let come = comes c.loop-c.watches c.loop-c.trail.vars c.args.lit c.in-Some.c c.meet-met.result.w (link_in c.meet-met.result.next) met side link in
+    let found = subst (λ (a : ArenaState). slice_get a.heads c.in-Some.c ≡ Some come.leads.head) (sym c.arena-in-Some.ensures) come.leads.is_head in (
+      subst (λ o. IsOnItsWay c.args.watches.now c.loop-c.watches c.args.trail.now c.loop-c.trail c.loop-c.progress c.args.lit o (link_in c.meet-met.result.next)) (sym (sym c.clause.ensures ∙ c.in-Some.is))
+          (turn_keeps c.args.watches.now c.loop-c.watches c.args.trail.now c.loop-c.trail c.loop-c.progress c.args.lit (link_in c.loop-c.last) c.in-Some.c c.meet-met.result.w (link_in c.meet-met.result.next) way come
+          (offset_in_time c.loop-c.trail c.loop-c.progress.mark c.loop-c.progress.passed way.entry.level (watched (not c.meet-met.result.w) come.leads.head) c.len-len.ensures.kept
           (c.loop-c.invariant.2 way.entry (grind (arith, nat_tests, c.if-late.false)) way.found) (c.in-Kept.ensures come.leads.head found))),
       c.loop-c.invariant.1,
       c.loop-c.invariant.2,
@@ -202,24 +196,24 @@ pub loop-c-smaller-in-Dead : goal.loop-c-smaller-in-Dead
 loop-c-smaller-in-Dead c =
     let way = subst (λ o. IsOnItsWay c.args.watches.now c.loop-c.watches c.args.trail.now c.loop-c.trail c.loop-c.progress c.args.lit (link_in c.loop-c.last) o) (sym c.clause.ensures ∙ c.in-Some.is) c.loop-c.invariant.0 in
     let met = meets c.args.watches.now c.loop-c.watches c.args.trail.now c.loop-c.trail c.loop-c.progress c.args.lit (link_in c.loop-c.last) c.in-Some.c way in
-    let side = subst (λ (a : ArenaState). (h : HeadState) → slice_get a.heads c.in-Some.c ≡ Some h → c.side_at-w.result ≡ side_of h c.args.lit) c.arena.ensures c.side_at-w.ensures in
-    let link = subst (λ (a : ArenaState). slice_get (map (link_of c.side_at-w.result) a.heads) c.in-Some.c ≡ Some (link_in c.link-next.result)) c.arena-in-Some.ensures c.link-next.ensures in
-    let come = comes c.loop-c.watches c.loop-c.trail.vars c.args.lit c.in-Some.c c.side_at-w.result (link_in c.link-next.result) met side link in
-    let found = subst (λ (a : ArenaState). slice_get a.heads c.in-Some.c ≡ Some come.leads.head) (sym c.arena-in-Some-2.ensures) come.leads.is_head in
+    let side = subst (λ (a : ArenaState). (h : HeadState) → slice_get a.heads c.in-Some.c ≡ Some h → c.meet-met.result.w ≡ side_of h c.args.lit) c.arena.ensures c.meet-met.ensures.side in
+    let link = subst (λ (a : ArenaState). slice_get (map (link_of c.meet-met.result.w) a.heads) c.in-Some.c ≡ Some (link_in c.meet-met.result.next)) c.arena.ensures c.meet-met.ensures.next in
+    let come = comes c.loop-c.watches c.loop-c.trail.vars c.args.lit c.in-Some.c c.meet-met.result.w (link_in c.meet-met.result.next) met side link in
+    let found = subst (λ (a : ArenaState). slice_get a.heads c.in-Some.c ≡ Some come.leads.head) (sym c.arena-in-Some.ensures) come.leads.is_head in
     let false_at = stands_false c.args.trail.now c.args.progress.now.passed c.args.lit c.current-current.ensures.kept c.requires.lit in
     let literal : IsLiteral c.args.lit = subst IsVariable c.var.ensures.var c.var.ensures.variable in
     let within : index_of c.args.lit < length c.loop-c.watches.first = has_list c.args.watches.now c.loop-c.watches c.args.trail.now c.loop-c.trail c.loop-c.progress c.args.lit (link_in c.loop-c.last) (link_in c.loop-c.next) c.args.lit c.loop-c.invariant.0 literal false_at.within in
-    let dead : (h : HeadState) → slice_get c.loop-c.watches.arena.heads c.in-Some.c ≡ Some h → h.live ≢ true = λ h at. not_live h.live (c.in-Dead.ensures h (subst (λ (a : ArenaState). slice_get a.heads c.in-Some.c ≡ Some h) (sym c.arena-in-Some-2.ensures) at)) in
+    let dead : (h : HeadState) → slice_get c.loop-c.watches.arena.heads c.in-Some.c ≡ Some h → h.live ≢ true = λ h at. not_live h.live (c.in-Dead.ensures h (subst (λ (a : ArenaState). slice_get a.heads c.in-Some.c ≡ Some h) (sym c.arena-in-Some.ensures) at)) in
     let state = c.lead_on.ensures.state in
     let on =
-    way_drops c.args.watches.now c.loop-c.watches c.args.trail.now c.loop-c.trail c.loop-c.progress c.args.lit (link_in c.loop-c.last) c.in-Some.c (link_in c.link-next.result) literal within way come.leads dead
+    way_drops c.args.watches.now c.loop-c.watches c.args.trail.now c.loop-c.trail c.loop-c.progress c.args.lit (link_in c.loop-c.last) c.in-Some.c (link_in c.meet-met.result.next) literal within way come.leads dead
     (λ lists kept rest threaded is at. subst (λ s. IsThreaded s (with_list (index_of c.args.lit) (kept ++ rest) lists)) state (c.lead_on.ensures.threaded lists c.in-Some.c kept rest threaded is at come.leads)) in
-    let within_new : index_of c.args.lit < length (leading_on (link_in c.loop-c.last) c.args.lit (link_in c.link-next.result) c.loop-c.watches).first =
-    subst (λ n. index_of c.args.lit < n) (sym (length_first_led (link_in c.loop-c.last) c.args.lit (link_in c.link-next.result) c.loop-c.watches)) within in
+    let within_new : index_of c.args.lit < length (leading_on (link_in c.loop-c.last) c.args.lit (link_in c.meet-met.result.next) c.loop-c.watches).first =
+    subst (λ n. index_of c.args.lit < n) (sym (length_first_led (link_in c.loop-c.last) c.args.lit (link_in c.meet-met.result.next) c.loop-c.watches)) within in
     let shorter =
-    dropped_shorter c.args.watches.now c.loop-c.watches (leading_on (link_in c.loop-c.last) c.args.lit (link_in c.link-next.result) c.loop-c.watches) c.args.trail.now c.loop-c.trail c.loop-c.progress c.args.lit (link_in c.loop-c.last) c.in-Some.c (link_in c.link-next.result) within within_new way on in
-    subst (λ (s : WatchState). length (followed (length s.arena.heads) s.arena.heads c.args.lit (link_in c.link-next.result)) < length (followed (length c.loop-c.watches.arena.heads) c.loop-c.watches.arena.heads c.args.lit (link_in c.loop-c.next))) (sym state)
-    (subst (λ o. length (followed (length (leading_on (link_in c.loop-c.last) c.args.lit (link_in c.link-next.result) c.loop-c.watches).arena.heads) (leading_on (link_in c.loop-c.last) c.args.lit (link_in c.link-next.result) c.loop-c.watches).arena.heads c.args.lit (link_in c.link-next.result))
+    dropped_shorter c.args.watches.now c.loop-c.watches (leading_on (link_in c.loop-c.last) c.args.lit (link_in c.meet-met.result.next) c.loop-c.watches) c.args.trail.now c.loop-c.trail c.loop-c.progress c.args.lit (link_in c.loop-c.last) c.in-Some.c (link_in c.meet-met.result.next) within within_new way on in
+    subst (λ (s : WatchState). length (followed (length s.arena.heads) s.arena.heads c.args.lit (link_in c.meet-met.result.next)) < length (followed (length c.loop-c.watches.arena.heads) c.loop-c.watches.arena.heads c.args.lit (link_in c.loop-c.next))) (sym state)
+    (subst (λ o. length (followed (length (leading_on (link_in c.loop-c.last) c.args.lit (link_in c.meet-met.result.next) c.loop-c.watches).arena.heads) (leading_on (link_in c.loop-c.last) c.args.lit (link_in c.meet-met.result.next) c.loop-c.watches).arena.heads c.args.lit (link_in c.meet-met.result.next))
     < length (followed (length c.loop-c.watches.arena.heads) c.loop-c.watches.arena.heads c.args.lit o)) (sym (sym c.clause.ensures ∙ c.in-Some.is)) shorter)
   where
     not_live : (b : Bool) → b ≡ false → b ≢ true
@@ -229,19 +223,19 @@ pub loop-c-preserved-in-Dead : goal.loop-c-preserved-in-Dead
 loop-c-preserved-in-Dead c =
     let way = subst (λ o. IsOnItsWay c.args.watches.now c.loop-c.watches c.args.trail.now c.loop-c.trail c.loop-c.progress c.args.lit (link_in c.loop-c.last) o) (sym c.clause.ensures ∙ c.in-Some.is) c.loop-c.invariant.0 in
     let met = meets c.args.watches.now c.loop-c.watches c.args.trail.now c.loop-c.trail c.loop-c.progress c.args.lit (link_in c.loop-c.last) c.in-Some.c way in
-    let side = subst (λ (a : ArenaState). (h : HeadState) → slice_get a.heads c.in-Some.c ≡ Some h → c.side_at-w.result ≡ side_of h c.args.lit) c.arena.ensures c.side_at-w.ensures in
-    let link = subst (λ (a : ArenaState). slice_get (map (link_of c.side_at-w.result) a.heads) c.in-Some.c ≡ Some (link_in c.link-next.result)) c.arena-in-Some.ensures c.link-next.ensures in
-    let come = comes c.loop-c.watches c.loop-c.trail.vars c.args.lit c.in-Some.c c.side_at-w.result (link_in c.link-next.result) met side link in
-    let found = subst (λ (a : ArenaState). slice_get a.heads c.in-Some.c ≡ Some come.leads.head) (sym c.arena-in-Some-2.ensures) come.leads.is_head in
+    let side = subst (λ (a : ArenaState). (h : HeadState) → slice_get a.heads c.in-Some.c ≡ Some h → c.meet-met.result.w ≡ side_of h c.args.lit) c.arena.ensures c.meet-met.ensures.side in
+    let link = subst (λ (a : ArenaState). slice_get (map (link_of c.meet-met.result.w) a.heads) c.in-Some.c ≡ Some (link_in c.meet-met.result.next)) c.arena.ensures c.meet-met.ensures.next in
+    let come = comes c.loop-c.watches c.loop-c.trail.vars c.args.lit c.in-Some.c c.meet-met.result.w (link_in c.meet-met.result.next) met side link in
+    let found = subst (λ (a : ArenaState). slice_get a.heads c.in-Some.c ≡ Some come.leads.head) (sym c.arena-in-Some.ensures) come.leads.is_head in
     let false_at = stands_false c.args.trail.now c.args.progress.now.passed c.args.lit c.current-current.ensures.kept c.requires.lit in
     let literal : IsLiteral c.args.lit = subst IsVariable c.var.ensures.var c.var.ensures.variable in
     let within : index_of c.args.lit < length c.loop-c.watches.first = has_list c.args.watches.now c.loop-c.watches c.args.trail.now c.loop-c.trail c.loop-c.progress c.args.lit (link_in c.loop-c.last) (link_in c.loop-c.next) c.args.lit c.loop-c.invariant.0 literal false_at.within in
-    let dead : (h : HeadState) → slice_get c.loop-c.watches.arena.heads c.in-Some.c ≡ Some h → h.live ≢ true = λ h at. not_live h.live (c.in-Dead.ensures h (subst (λ (a : ArenaState). slice_get a.heads c.in-Some.c ≡ Some h) (sym c.arena-in-Some-2.ensures) at)) in
+    let dead : (h : HeadState) → slice_get c.loop-c.watches.arena.heads c.in-Some.c ≡ Some h → h.live ≢ true = λ h at. not_live h.live (c.in-Dead.ensures h (subst (λ (a : ArenaState). slice_get a.heads c.in-Some.c ≡ Some h) (sym c.arena-in-Some.ensures) at)) in
     let state = c.lead_on.ensures.state in
     let on =
-    way_drops c.args.watches.now c.loop-c.watches c.args.trail.now c.loop-c.trail c.loop-c.progress c.args.lit (link_in c.loop-c.last) c.in-Some.c (link_in c.link-next.result) literal within way come.leads dead
+    way_drops c.args.watches.now c.loop-c.watches c.args.trail.now c.loop-c.trail c.loop-c.progress c.args.lit (link_in c.loop-c.last) c.in-Some.c (link_in c.meet-met.result.next) literal within way come.leads dead
     (λ lists kept rest threaded is at. subst (λ s. IsThreaded s (with_list (index_of c.args.lit) (kept ++ rest) lists)) state (c.lead_on.ensures.threaded lists c.in-Some.c kept rest threaded is at come.leads)) in (
-      subst (λ s. IsOnItsWay c.args.watches.now s c.args.trail.now c.loop-c.trail c.loop-c.progress c.args.lit (link_in c.loop-c.last) (link_in c.link-next.result)) (sym state) on.0,
+      subst (λ s. IsOnItsWay c.args.watches.now s c.args.trail.now c.loop-c.trail c.loop-c.progress c.args.lit (link_in c.loop-c.last) (link_in c.meet-met.result.next)) (sym state) on.0,
       c.loop-c.invariant.1,
       c.loop-c.invariant.2,
     )
@@ -253,91 +247,91 @@ pub rewatch-requires-clause-live : goal.rewatch-requires-clause-live
 rewatch-requires-clause-live c =
     let way = subst (λ o. IsOnItsWay c.args.watches.now c.loop-c.watches c.args.trail.now c.loop-c.trail c.loop-c.progress c.args.lit (link_in c.loop-c.last) o) (sym c.clause.ensures ∙ c.in-Some.is) c.loop-c.invariant.0 in
     let met = meets c.args.watches.now c.loop-c.watches c.args.trail.now c.loop-c.trail c.loop-c.progress c.args.lit (link_in c.loop-c.last) c.in-Some.c way in
-    let side = subst (λ (a : ArenaState). (h : HeadState) → slice_get a.heads c.in-Some.c ≡ Some h → c.side_at-w.result ≡ side_of h c.args.lit) c.arena.ensures c.side_at-w.ensures in
-    let link = subst (λ (a : ArenaState). slice_get (map (link_of c.side_at-w.result) a.heads) c.in-Some.c ≡ Some (link_in c.link-next.result)) c.arena-in-Some.ensures c.link-next.ensures in
-    let come = comes c.loop-c.watches c.loop-c.trail.vars c.args.lit c.in-Some.c c.side_at-w.result (link_in c.link-next.result) met side link in
-    let found = subst (λ (a : ArenaState). slice_get a.heads c.in-Some.c ≡ Some come.leads.head) (sym c.arena-in-Some-2.ensures) come.leads.is_head in
+    let side = subst (λ (a : ArenaState). (h : HeadState) → slice_get a.heads c.in-Some.c ≡ Some h → c.meet-met.result.w ≡ side_of h c.args.lit) c.arena.ensures c.meet-met.ensures.side in
+    let link = subst (λ (a : ArenaState). slice_get (map (link_of c.meet-met.result.w) a.heads) c.in-Some.c ≡ Some (link_in c.meet-met.result.next)) c.arena.ensures c.meet-met.ensures.next in
+    let come = comes c.loop-c.watches c.loop-c.trail.vars c.args.lit c.in-Some.c c.meet-met.result.w (link_in c.meet-met.result.next) met side link in
+    let found = subst (λ (a : ArenaState). slice_get a.heads c.in-Some.c ≡ Some come.leads.head) (sym c.arena-in-Some.ensures) come.leads.is_head in
     let literal : IsLiteral c.args.lit = subst IsVariable c.var.ensures.var c.var.ensures.variable in
     let seen = c.in-Moves.ensures come.leads.head found in
     let moving =
-    turn_moves c.args.watches.now c.loop-c.watches c.args.trail.now c.loop-c.trail c.loop-c.progress c.args.lit (link_in c.loop-c.last) c.in-Some.c c.side_at-w.result (link_in c.link-next.result) c.in-Moves.n c.len-len.ensures.kept literal way come seen.0 seen.1 in
+    turn_moves c.args.watches.now c.loop-c.watches c.args.trail.now c.loop-c.trail c.loop-c.progress c.args.lit (link_in c.loop-c.last) c.in-Some.c c.meet-met.result.w (link_in c.meet-met.result.next) c.in-Moves.n c.len-len.ensures.kept literal way come seen.0 seen.1 in
     let state = c.lead_on-in-Moves.ensures.state in
-    subst (λ (s : WatchState). IsLive s.arena.heads c.in-Some.c) (sym state) (moving_live c.loop-c.watches c.loop-c.trail.entries c.args.lit (link_in c.loop-c.last) c.in-Some.c (link_in c.link-next.result) c.side_at-w.result c.in-Moves.n moving)
+    subst (λ (s : WatchState). IsLive s.arena.heads c.in-Some.c) (sym state) (moving_live c.loop-c.watches c.loop-c.trail.entries c.args.lit (link_in c.loop-c.last) c.in-Some.c (link_in c.meet-met.result.next) c.meet-met.result.w c.in-Moves.n moving)
 
 pub rewatch-requires-clause-clause : goal.rewatch-requires-clause-clause
 rewatch-requires-clause-clause c =
     let way = subst (λ o. IsOnItsWay c.args.watches.now c.loop-c.watches c.args.trail.now c.loop-c.trail c.loop-c.progress c.args.lit (link_in c.loop-c.last) o) (sym c.clause.ensures ∙ c.in-Some.is) c.loop-c.invariant.0 in
     let met = meets c.args.watches.now c.loop-c.watches c.args.trail.now c.loop-c.trail c.loop-c.progress c.args.lit (link_in c.loop-c.last) c.in-Some.c way in
-    let side = subst (λ (a : ArenaState). (h : HeadState) → slice_get a.heads c.in-Some.c ≡ Some h → c.side_at-w.result ≡ side_of h c.args.lit) c.arena.ensures c.side_at-w.ensures in
-    let link = subst (λ (a : ArenaState). slice_get (map (link_of c.side_at-w.result) a.heads) c.in-Some.c ≡ Some (link_in c.link-next.result)) c.arena-in-Some.ensures c.link-next.ensures in
-    let come = comes c.loop-c.watches c.loop-c.trail.vars c.args.lit c.in-Some.c c.side_at-w.result (link_in c.link-next.result) met side link in
-    let found = subst (λ (a : ArenaState). slice_get a.heads c.in-Some.c ≡ Some come.leads.head) (sym c.arena-in-Some-2.ensures) come.leads.is_head in
+    let side = subst (λ (a : ArenaState). (h : HeadState) → slice_get a.heads c.in-Some.c ≡ Some h → c.meet-met.result.w ≡ side_of h c.args.lit) c.arena.ensures c.meet-met.ensures.side in
+    let link = subst (λ (a : ArenaState). slice_get (map (link_of c.meet-met.result.w) a.heads) c.in-Some.c ≡ Some (link_in c.meet-met.result.next)) c.arena.ensures c.meet-met.ensures.next in
+    let come = comes c.loop-c.watches c.loop-c.trail.vars c.args.lit c.in-Some.c c.meet-met.result.w (link_in c.meet-met.result.next) met side link in
+    let found = subst (λ (a : ArenaState). slice_get a.heads c.in-Some.c ≡ Some come.leads.head) (sym c.arena-in-Some.ensures) come.leads.is_head in
     let literal : IsLiteral c.args.lit = subst IsVariable c.var.ensures.var c.var.ensures.variable in
     let seen = c.in-Moves.ensures come.leads.head found in
     let moving =
-    turn_moves c.args.watches.now c.loop-c.watches c.args.trail.now c.loop-c.trail c.loop-c.progress c.args.lit (link_in c.loop-c.last) c.in-Some.c c.side_at-w.result (link_in c.link-next.result) c.in-Moves.n c.len-len.ensures.kept literal way come seen.0 seen.1 in
+    turn_moves c.args.watches.now c.loop-c.watches c.args.trail.now c.loop-c.trail c.loop-c.progress c.args.lit (link_in c.loop-c.last) c.in-Some.c c.meet-met.result.w (link_in c.meet-met.result.next) c.in-Moves.n c.len-len.ensures.kept literal way come seen.0 seen.1 in
     let state = c.lead_on-in-Moves.ensures.state in
-    subst (λ s. CanRewatch s c.in-Some.c c.side_at-w.result c.in-Moves.n) (sym state) (can_rewatch c.loop-c.watches c.loop-c.trail.entries c.args.lit (link_in c.loop-c.last) c.in-Some.c (link_in c.link-next.result) c.side_at-w.result c.in-Moves.n moving)
+    subst (λ s. CanRewatch s c.in-Some.c c.meet-met.result.w c.in-Moves.n) (sym state) (can_rewatch c.loop-c.watches c.loop-c.trail.entries c.args.lit (link_in c.loop-c.last) c.in-Some.c (link_in c.meet-met.result.next) c.meet-met.result.w c.in-Moves.n moving)
 
 pub loop-c-smaller-in-Moves : goal.loop-c-smaller-in-Moves
 loop-c-smaller-in-Moves c =
     let way = subst (λ o. IsOnItsWay c.args.watches.now c.loop-c.watches c.args.trail.now c.loop-c.trail c.loop-c.progress c.args.lit (link_in c.loop-c.last) o) (sym c.clause.ensures ∙ c.in-Some.is) c.loop-c.invariant.0 in
     let met = meets c.args.watches.now c.loop-c.watches c.args.trail.now c.loop-c.trail c.loop-c.progress c.args.lit (link_in c.loop-c.last) c.in-Some.c way in
-    let side = subst (λ (a : ArenaState). (h : HeadState) → slice_get a.heads c.in-Some.c ≡ Some h → c.side_at-w.result ≡ side_of h c.args.lit) c.arena.ensures c.side_at-w.ensures in
-    let link = subst (λ (a : ArenaState). slice_get (map (link_of c.side_at-w.result) a.heads) c.in-Some.c ≡ Some (link_in c.link-next.result)) c.arena-in-Some.ensures c.link-next.ensures in
-    let come = comes c.loop-c.watches c.loop-c.trail.vars c.args.lit c.in-Some.c c.side_at-w.result (link_in c.link-next.result) met side link in
-    let found = subst (λ (a : ArenaState). slice_get a.heads c.in-Some.c ≡ Some come.leads.head) (sym c.arena-in-Some-2.ensures) come.leads.is_head in
+    let side = subst (λ (a : ArenaState). (h : HeadState) → slice_get a.heads c.in-Some.c ≡ Some h → c.meet-met.result.w ≡ side_of h c.args.lit) c.arena.ensures c.meet-met.ensures.side in
+    let link = subst (λ (a : ArenaState). slice_get (map (link_of c.meet-met.result.w) a.heads) c.in-Some.c ≡ Some (link_in c.meet-met.result.next)) c.arena.ensures c.meet-met.ensures.next in
+    let come = comes c.loop-c.watches c.loop-c.trail.vars c.args.lit c.in-Some.c c.meet-met.result.w (link_in c.meet-met.result.next) met side link in
+    let found = subst (λ (a : ArenaState). slice_get a.heads c.in-Some.c ≡ Some come.leads.head) (sym c.arena-in-Some.ensures) come.leads.is_head in
     let false_at = stands_false c.args.trail.now c.args.progress.now.passed c.args.lit c.current-current.ensures.kept c.requires.lit in
     let literal : IsLiteral c.args.lit = subst IsVariable c.var.ensures.var c.var.ensures.variable in
     let within : index_of c.args.lit < length c.loop-c.watches.first = has_list c.args.watches.now c.loop-c.watches c.args.trail.now c.loop-c.trail c.loop-c.progress c.args.lit (link_in c.loop-c.last) (link_in c.loop-c.next) c.args.lit c.loop-c.invariant.0 literal false_at.within in
     let seen = c.in-Moves.ensures come.leads.head found in
     let moving =
-    turn_moves c.args.watches.now c.loop-c.watches c.args.trail.now c.loop-c.trail c.loop-c.progress c.args.lit (link_in c.loop-c.last) c.in-Some.c c.side_at-w.result (link_in c.link-next.result) c.in-Moves.n c.len-len.ensures.kept literal way come seen.0 seen.1 in
+    turn_moves c.args.watches.now c.loop-c.watches c.args.trail.now c.loop-c.trail c.loop-c.progress c.args.lit (link_in c.loop-c.last) c.in-Some.c c.meet-met.result.w (link_in c.meet-met.result.next) c.in-Moves.n c.len-len.ensures.kept literal way come seen.0 seen.1 in
     let state = c.lead_on-in-Moves.ensures.state in
-    let attached : AttachedAt c.in-Some.c c.side_at-w.result (swapped_at (leading_on (link_in c.loop-c.last) c.args.lit (link_in c.link-next.result) c.loop-c.watches) c.in-Some.c c.side_at-w.result c.in-Moves.n) c.rewatch.new.self =
-    subst (λ s. AttachedAt c.in-Some.c c.side_at-w.result (swapped_at s c.in-Some.c c.side_at-w.result c.in-Moves.n) c.rewatch.new.self) state c.rewatch.ensures.state in
+    let attached : AttachedAt c.in-Some.c c.meet-met.result.w (swapped_at (leading_on (link_in c.loop-c.last) c.args.lit (link_in c.meet-met.result.next) c.loop-c.watches) c.in-Some.c c.meet-met.result.w c.in-Moves.n) c.rewatch.new.self =
+    subst (λ s. AttachedAt c.in-Some.c c.meet-met.result.w (swapped_at s c.in-Some.c c.meet-met.result.w c.in-Moves.n) c.rewatch.new.self) state c.rewatch.ensures.state in
     let on =
-    way_moves c.args.watches.now c.loop-c.watches c.rewatch.new.self c.args.trail.now c.loop-c.trail c.loop-c.progress c.args.lit (link_in c.loop-c.last) c.in-Some.c (link_in c.link-next.result) c.side_at-w.result c.in-Moves.n within c.len-len.ensures.consistent way moving
+    way_moves c.args.watches.now c.loop-c.watches c.rewatch.new.self c.args.trail.now c.loop-c.trail c.loop-c.progress c.args.lit (link_in c.loop-c.last) c.in-Some.c (link_in c.meet-met.result.next) c.meet-met.result.w c.in-Moves.n within c.len-len.ensures.consistent way moving
     (λ lists kept rest threaded is at. subst (λ s. IsThreaded s (with_list (index_of c.args.lit) (kept ++ rest) lists)) state (c.lead_on-in-Moves.ensures.threaded lists c.in-Some.c kept rest threaded is at come.leads)) attached
-    (subst (λ s. (lists : Lists) → IsThreaded s lists → IsNotIn lists s c.in-Some.c c.side_at-w.result → IsThreaded c.rewatch.new.self (with_attached lists (swapped_at s c.in-Some.c c.side_at-w.result c.in-Moves.n) c.in-Some.c c.side_at-w.result)) state c.rewatch.ensures.threaded) in
+    (subst (λ s. (lists : Lists) → IsThreaded s lists → IsNotIn lists s c.in-Some.c c.meet-met.result.w → IsThreaded c.rewatch.new.self (with_attached lists (swapped_at s c.in-Some.c c.meet-met.result.w c.in-Moves.n) c.in-Some.c c.meet-met.result.w)) state c.rewatch.ensures.threaded) in
     let within_new : index_of c.args.lit < length c.rewatch.new.self.first =
-    has_list c.args.watches.now c.rewatch.new.self c.args.trail.now c.loop-c.trail c.loop-c.progress c.args.lit (link_in c.loop-c.last) (link_in c.link-next.result) c.args.lit on.0 literal false_at.within in
-    subst (λ o. length (followed (length c.rewatch.new.self.arena.heads) c.rewatch.new.self.arena.heads c.args.lit (link_in c.link-next.result)) < length (followed (length c.loop-c.watches.arena.heads) c.loop-c.watches.arena.heads c.args.lit o)) (sym (sym c.clause.ensures ∙ c.in-Some.is))
-    (dropped_shorter c.args.watches.now c.loop-c.watches c.rewatch.new.self c.args.trail.now c.loop-c.trail c.loop-c.progress c.args.lit (link_in c.loop-c.last) c.in-Some.c (link_in c.link-next.result) within within_new way on)
+    has_list c.args.watches.now c.rewatch.new.self c.args.trail.now c.loop-c.trail c.loop-c.progress c.args.lit (link_in c.loop-c.last) (link_in c.meet-met.result.next) c.args.lit on.0 literal false_at.within in
+    subst (λ o. length (followed (length c.rewatch.new.self.arena.heads) c.rewatch.new.self.arena.heads c.args.lit (link_in c.meet-met.result.next)) < length (followed (length c.loop-c.watches.arena.heads) c.loop-c.watches.arena.heads c.args.lit o)) (sym (sym c.clause.ensures ∙ c.in-Some.is))
+    (dropped_shorter c.args.watches.now c.loop-c.watches c.rewatch.new.self c.args.trail.now c.loop-c.trail c.loop-c.progress c.args.lit (link_in c.loop-c.last) c.in-Some.c (link_in c.meet-met.result.next) within within_new way on)
 
 pub loop-c-preserved-in-Moves : goal.loop-c-preserved-in-Moves
 loop-c-preserved-in-Moves c =
     let way = subst (λ o. IsOnItsWay c.args.watches.now c.loop-c.watches c.args.trail.now c.loop-c.trail c.loop-c.progress c.args.lit (link_in c.loop-c.last) o) (sym c.clause.ensures ∙ c.in-Some.is) c.loop-c.invariant.0 in
     let met = meets c.args.watches.now c.loop-c.watches c.args.trail.now c.loop-c.trail c.loop-c.progress c.args.lit (link_in c.loop-c.last) c.in-Some.c way in
-    let side = subst (λ (a : ArenaState). (h : HeadState) → slice_get a.heads c.in-Some.c ≡ Some h → c.side_at-w.result ≡ side_of h c.args.lit) c.arena.ensures c.side_at-w.ensures in
-    let link = subst (λ (a : ArenaState). slice_get (map (link_of c.side_at-w.result) a.heads) c.in-Some.c ≡ Some (link_in c.link-next.result)) c.arena-in-Some.ensures c.link-next.ensures in
-    let come = comes c.loop-c.watches c.loop-c.trail.vars c.args.lit c.in-Some.c c.side_at-w.result (link_in c.link-next.result) met side link in
-    let found = subst (λ (a : ArenaState). slice_get a.heads c.in-Some.c ≡ Some come.leads.head) (sym c.arena-in-Some-2.ensures) come.leads.is_head in
+    let side = subst (λ (a : ArenaState). (h : HeadState) → slice_get a.heads c.in-Some.c ≡ Some h → c.meet-met.result.w ≡ side_of h c.args.lit) c.arena.ensures c.meet-met.ensures.side in
+    let link = subst (λ (a : ArenaState). slice_get (map (link_of c.meet-met.result.w) a.heads) c.in-Some.c ≡ Some (link_in c.meet-met.result.next)) c.arena.ensures c.meet-met.ensures.next in
+    let come = comes c.loop-c.watches c.loop-c.trail.vars c.args.lit c.in-Some.c c.meet-met.result.w (link_in c.meet-met.result.next) met side link in
+    let found = subst (λ (a : ArenaState). slice_get a.heads c.in-Some.c ≡ Some come.leads.head) (sym c.arena-in-Some.ensures) come.leads.is_head in
     let false_at = stands_false c.args.trail.now c.args.progress.now.passed c.args.lit c.current-current.ensures.kept c.requires.lit in
     let literal : IsLiteral c.args.lit = subst IsVariable c.var.ensures.var c.var.ensures.variable in
     let within : index_of c.args.lit < length c.loop-c.watches.first = has_list c.args.watches.now c.loop-c.watches c.args.trail.now c.loop-c.trail c.loop-c.progress c.args.lit (link_in c.loop-c.last) (link_in c.loop-c.next) c.args.lit c.loop-c.invariant.0 literal false_at.within in
     let seen = c.in-Moves.ensures come.leads.head found in
     let moving =
-    turn_moves c.args.watches.now c.loop-c.watches c.args.trail.now c.loop-c.trail c.loop-c.progress c.args.lit (link_in c.loop-c.last) c.in-Some.c c.side_at-w.result (link_in c.link-next.result) c.in-Moves.n c.len-len.ensures.kept literal way come seen.0 seen.1 in
+    turn_moves c.args.watches.now c.loop-c.watches c.args.trail.now c.loop-c.trail c.loop-c.progress c.args.lit (link_in c.loop-c.last) c.in-Some.c c.meet-met.result.w (link_in c.meet-met.result.next) c.in-Moves.n c.len-len.ensures.kept literal way come seen.0 seen.1 in
     let state = c.lead_on-in-Moves.ensures.state in
-    let attached : AttachedAt c.in-Some.c c.side_at-w.result (swapped_at (leading_on (link_in c.loop-c.last) c.args.lit (link_in c.link-next.result) c.loop-c.watches) c.in-Some.c c.side_at-w.result c.in-Moves.n) c.rewatch.new.self =
-    subst (λ s. AttachedAt c.in-Some.c c.side_at-w.result (swapped_at s c.in-Some.c c.side_at-w.result c.in-Moves.n) c.rewatch.new.self) state c.rewatch.ensures.state in
+    let attached : AttachedAt c.in-Some.c c.meet-met.result.w (swapped_at (leading_on (link_in c.loop-c.last) c.args.lit (link_in c.meet-met.result.next) c.loop-c.watches) c.in-Some.c c.meet-met.result.w c.in-Moves.n) c.rewatch.new.self =
+    subst (λ s. AttachedAt c.in-Some.c c.meet-met.result.w (swapped_at s c.in-Some.c c.meet-met.result.w c.in-Moves.n) c.rewatch.new.self) state c.rewatch.ensures.state in
     let on =
-    way_moves c.args.watches.now c.loop-c.watches c.rewatch.new.self c.args.trail.now c.loop-c.trail c.loop-c.progress c.args.lit (link_in c.loop-c.last) c.in-Some.c (link_in c.link-next.result) c.side_at-w.result c.in-Moves.n within c.len-len.ensures.consistent way moving
+    way_moves c.args.watches.now c.loop-c.watches c.rewatch.new.self c.args.trail.now c.loop-c.trail c.loop-c.progress c.args.lit (link_in c.loop-c.last) c.in-Some.c (link_in c.meet-met.result.next) c.meet-met.result.w c.in-Moves.n within c.len-len.ensures.consistent way moving
     (λ lists kept rest threaded is at. subst (λ s. IsThreaded s (with_list (index_of c.args.lit) (kept ++ rest) lists)) state (c.lead_on-in-Moves.ensures.threaded lists c.in-Some.c kept rest threaded is at come.leads)) attached
-    (subst (λ s. (lists : Lists) → IsThreaded s lists → IsNotIn lists s c.in-Some.c c.side_at-w.result → IsThreaded c.rewatch.new.self (with_attached lists (swapped_at s c.in-Some.c c.side_at-w.result c.in-Moves.n) c.in-Some.c c.side_at-w.result)) state c.rewatch.ensures.threaded) in
+    (subst (λ s. (lists : Lists) → IsThreaded s lists → IsNotIn lists s c.in-Some.c c.meet-met.result.w → IsThreaded c.rewatch.new.self (with_attached lists (swapped_at s c.in-Some.c c.meet-met.result.w c.in-Moves.n) c.in-Some.c c.meet-met.result.w)) state c.rewatch.ensures.threaded) in
     (on.0, c.loop-c.invariant.1, c.loop-c.invariant.2)
 
 pub force-requires-clause-within : goal.force-requires-clause-within
 force-requires-clause-within c =
     let way = subst (λ o. IsOnItsWay c.args.watches.now c.loop-c.watches c.args.trail.now c.loop-c.trail c.loop-c.progress c.args.lit (link_in c.loop-c.last) o) (sym c.clause.ensures ∙ c.in-Some.is) c.loop-c.invariant.0 in
     let met = meets c.args.watches.now c.loop-c.watches c.args.trail.now c.loop-c.trail c.loop-c.progress c.args.lit (link_in c.loop-c.last) c.in-Some.c way in
-    let side = subst (λ (a : ArenaState). (h : HeadState) → slice_get a.heads c.in-Some.c ≡ Some h → c.side_at-w.result ≡ side_of h c.args.lit) c.arena.ensures c.side_at-w.ensures in
-    let link = subst (λ (a : ArenaState). slice_get (map (link_of c.side_at-w.result) a.heads) c.in-Some.c ≡ Some (link_in c.link-next.result)) c.arena-in-Some.ensures c.link-next.ensures in
-    let come = comes c.loop-c.watches c.loop-c.trail.vars c.args.lit c.in-Some.c c.side_at-w.result (link_in c.link-next.result) met side link in
-    let found = subst (λ (a : ArenaState). slice_get a.heads c.in-Some.c ≡ Some come.leads.head) (sym c.arena-in-Some-2.ensures) come.leads.is_head in
+    let side = subst (λ (a : ArenaState). (h : HeadState) → slice_get a.heads c.in-Some.c ≡ Some h → c.meet-met.result.w ≡ side_of h c.args.lit) c.arena.ensures c.meet-met.ensures.side in
+    let link = subst (λ (a : ArenaState). slice_get (map (link_of c.meet-met.result.w) a.heads) c.in-Some.c ≡ Some (link_in c.meet-met.result.next)) c.arena.ensures c.meet-met.ensures.next in
+    let come = comes c.loop-c.watches c.loop-c.trail.vars c.args.lit c.in-Some.c c.meet-met.result.w (link_in c.meet-met.result.next) met side link in
+    let found = subst (λ (a : ArenaState). slice_get a.heads c.in-Some.c ≡ Some come.leads.head) (sym c.arena-in-Some.ensures) come.leads.is_head in
     let seen = c.in-Forces.ensures come.leads.head found in
-    let bounds = variable_bounds c.loop-c.trail.vars (variable_of (watched (not c.side_at-w.result) come.leads.head)) (within_at c.loop-c.trail.vars come.leads.head.lits (place_of (not c.side_at-w.result)) come.within (place_inside (not c.side_at-w.result) come.leads.head come.leads.watching)) in
+    let bounds = variable_bounds c.loop-c.trail.vars (variable_of (watched (not c.meet-met.result.w) come.leads.head)) (within_at c.loop-c.trail.vars come.leads.head.lits (place_of (not c.meet-met.result.w)) come.within (place_inside (not c.meet-met.result.w) come.leads.head come.leads.watching)) in
     subst (λ l. variable_of l ≤ c.loop-c.trail.vars) (sym seen.1) bounds.1
   where
     place_inside : (b : Bool) (h : HeadState) → IsWatching h → place_of b < length h.lits
@@ -348,10 +342,10 @@ pub force-requires-clause-unset : goal.force-requires-clause-unset
 force-requires-clause-unset c =
     let way = subst (λ o. IsOnItsWay c.args.watches.now c.loop-c.watches c.args.trail.now c.loop-c.trail c.loop-c.progress c.args.lit (link_in c.loop-c.last) o) (sym c.clause.ensures ∙ c.in-Some.is) c.loop-c.invariant.0 in
     let met = meets c.args.watches.now c.loop-c.watches c.args.trail.now c.loop-c.trail c.loop-c.progress c.args.lit (link_in c.loop-c.last) c.in-Some.c way in
-    let side = subst (λ (a : ArenaState). (h : HeadState) → slice_get a.heads c.in-Some.c ≡ Some h → c.side_at-w.result ≡ side_of h c.args.lit) c.arena.ensures c.side_at-w.ensures in
-    let link = subst (λ (a : ArenaState). slice_get (map (link_of c.side_at-w.result) a.heads) c.in-Some.c ≡ Some (link_in c.link-next.result)) c.arena-in-Some.ensures c.link-next.ensures in
-    let come = comes c.loop-c.watches c.loop-c.trail.vars c.args.lit c.in-Some.c c.side_at-w.result (link_in c.link-next.result) met side link in
-    let found = subst (λ (a : ArenaState). slice_get a.heads c.in-Some.c ≡ Some come.leads.head) (sym c.arena-in-Some-2.ensures) come.leads.is_head in
+    let side = subst (λ (a : ArenaState). (h : HeadState) → slice_get a.heads c.in-Some.c ≡ Some h → c.meet-met.result.w ≡ side_of h c.args.lit) c.arena.ensures c.meet-met.ensures.side in
+    let link = subst (λ (a : ArenaState). slice_get (map (link_of c.meet-met.result.w) a.heads) c.in-Some.c ≡ Some (link_in c.meet-met.result.next)) c.arena.ensures c.meet-met.ensures.next in
+    let come = comes c.loop-c.watches c.loop-c.trail.vars c.args.lit c.in-Some.c c.meet-met.result.w (link_in c.meet-met.result.next) met side link in
+    let found = subst (λ (a : ArenaState). slice_get a.heads c.in-Some.c ≡ Some come.leads.head) (sym c.arena-in-Some.ensures) come.leads.is_head in
     let seen = c.in-Forces.ensures come.leads.head found in
     seen.2
 
@@ -359,27 +353,27 @@ pub loop-c-preserved-then-late-2 : goal.loop-c-preserved-then-late-2
 loop-c-preserved-then-late-2 c =
     let way = subst (λ o. IsOnItsWay c.args.watches.now c.loop-c.watches c.args.trail.now c.loop-c.trail c.loop-c.progress c.args.lit (link_in c.loop-c.last) o) (sym c.clause.ensures ∙ c.in-Some.is) c.loop-c.invariant.0 in
     let met = meets c.args.watches.now c.loop-c.watches c.args.trail.now c.loop-c.trail c.loop-c.progress c.args.lit (link_in c.loop-c.last) c.in-Some.c way in
-    let side = subst (λ (a : ArenaState). (h : HeadState) → slice_get a.heads c.in-Some.c ≡ Some h → c.side_at-w.result ≡ side_of h c.args.lit) c.arena.ensures c.side_at-w.ensures in
-    let link = subst (λ (a : ArenaState). slice_get (map (link_of c.side_at-w.result) a.heads) c.in-Some.c ≡ Some (link_in c.link-next.result)) c.arena-in-Some.ensures c.link-next.ensures in
-    let come = comes c.loop-c.watches c.loop-c.trail.vars c.args.lit c.in-Some.c c.side_at-w.result (link_in c.link-next.result) met side link in
-    let found = subst (λ (a : ArenaState). slice_get a.heads c.in-Some.c ≡ Some come.leads.head) (sym c.arena-in-Some-2.ensures) come.leads.is_head in
+    let side = subst (λ (a : ArenaState). (h : HeadState) → slice_get a.heads c.in-Some.c ≡ Some h → c.meet-met.result.w ≡ side_of h c.args.lit) c.arena.ensures c.meet-met.ensures.side in
+    let link = subst (λ (a : ArenaState). slice_get (map (link_of c.meet-met.result.w) a.heads) c.in-Some.c ≡ Some (link_in c.meet-met.result.next)) c.arena.ensures c.meet-met.ensures.next in
+    let come = comes c.loop-c.watches c.loop-c.trail.vars c.args.lit c.in-Some.c c.meet-met.result.w (link_in c.meet-met.result.next) met side link in
+    let found = subst (λ (a : ArenaState). slice_get a.heads c.in-Some.c ≡ Some come.leads.head) (sym c.arena-in-Some.ensures) come.leads.is_head in
     let seen = c.in-Forces.ensures come.leads.head found in
     let forces =
-    turn_forces c.args.watches.now c.loop-c.watches c.args.trail.now c.loop-c.trail c.loop-c.progress c.args.lit (link_in c.loop-c.last) c.in-Some.c c.side_at-w.result (link_in c.link-next.result) c.in-Forces.other way come
+    turn_forces c.args.watches.now c.loop-c.watches c.args.trail.now c.loop-c.trail c.loop-c.progress c.args.lit (link_in c.loop-c.last) c.in-Some.c c.meet-met.result.w (link_in c.meet-met.result.next) c.in-Forces.other way come
     (way_false c.args.watches.now c.loop-c.watches c.args.trail.now c.loop-c.trail c.loop-c.progress c.args.lit (link_in c.loop-c.last) (Some c.in-Some.c) way) seen.0 seen.1 seen.3 in
     let more : TrailState = forced c.loop-c.trail c.in-Forces.other c.in-Some.c in
-    let here : HasCome c.loop-c.watches more.vars c.args.lit c.in-Some.c c.side_at-w.result (link_in c.link-next.result) = record { leads = come.leads; side = come.side; watches = come.watches; within = come.within } in
+    let here : HasCome c.loop-c.watches more.vars c.args.lit c.in-Some.c c.meet-met.result.w (link_in c.meet-met.result.next) = record { leads = come.leads; side = come.side; watches = come.watches; within = come.within } in
     let later : (e : Entry) → nat_lt c.known_level.result c.current-current.result ≡ false → slice_get more.entries c.loop-c.progress.passed ≡ Some e → more.current ≤ e.level =
     λ e early found.
     let same : way.entry ≡ e = same_entry way.entry e (sym (get_in_front c.loop-c.trail.entries (record { lit = c.in-Forces.other; level = c.loop-c.trail.current; reason = Some c.in-Some.c } ∷ []) c.loop-c.progress.passed way.entry way.found) ∙ found) in
     subst (λ (x : Entry). c.loop-c.trail.current ≤ x.level) same (c.loop-c.invariant.2 way.entry early way.found) in
-    let is_true : Has more.entries (watched (not c.side_at-w.result) come.leads.head) =
+    let is_true : Has more.entries (watched (not c.meet-met.result.w) come.leads.head) =
     subst (Has more.entries) seen.1 (forced_true c.loop-c.trail.entries (record { lit = c.in-Forces.other; level = c.loop-c.trail.current; reason = Some c.in-Some.c })) in
     let on =
-    turn_marks c.args.watches.now c.loop-c.watches c.args.trail.now more c.loop-c.progress c.lower-then-late-2.new.self c.args.lit (link_in c.loop-c.last) c.in-Some.c c.side_at-w.result (link_in c.link-next.result) forces here is_true
+    turn_marks c.args.watches.now c.loop-c.watches c.args.trail.now more c.loop-c.progress c.lower-then-late-2.new.self c.args.lit (link_in c.loop-c.last) c.in-Some.c c.meet-met.result.w (link_in c.meet-met.result.next) forces here is_true
     c.lower-then-late-2.ensures.passed c.lower-then-late-2.ensures.marked c.lower-then-late-2.ensures.kept in (
-      subst (λ t. IsOnItsWay c.args.watches.now c.loop-c.watches c.args.trail.now t c.lower-then-late-2.new.self c.args.lit (link_in c.loop-c.next) (link_in c.link-next.result)) (sym c.force.ensures)
-          (subst (λ o. IsOnItsWay c.args.watches.now c.loop-c.watches c.args.trail.now more c.lower-then-late-2.new.self c.args.lit o (link_in c.link-next.result)) (sym (sym c.clause.ensures ∙ c.in-Some.is)) on),
+      subst (λ t. IsOnItsWay c.args.watches.now c.loop-c.watches c.args.trail.now t c.lower-then-late-2.new.self c.args.lit (link_in c.loop-c.next) (link_in c.meet-met.result.next)) (sym c.force.ensures)
+          (subst (λ o. IsOnItsWay c.args.watches.now c.loop-c.watches c.args.trail.now more c.lower-then-late-2.new.self c.args.lit o (link_in c.meet-met.result.next)) (sym (sym c.clause.ensures ∙ c.in-Some.is)) on),
       c.lower-then-late-2.ensures.passed ∙ c.loop-c.invariant.1,
       λ e early found.
           subst (λ (t : TrailState). t.current ≤ e.level) (sym c.force.ensures)
@@ -393,27 +387,27 @@ pub loop-c-preserved : goal.loop-c-preserved
 loop-c-preserved c =
     let way = subst (λ o. IsOnItsWay c.args.watches.now c.loop-c.watches c.args.trail.now c.loop-c.trail c.loop-c.progress c.args.lit (link_in c.loop-c.last) o) (sym c.clause.ensures ∙ c.in-Some.is) c.loop-c.invariant.0 in
     let met = meets c.args.watches.now c.loop-c.watches c.args.trail.now c.loop-c.trail c.loop-c.progress c.args.lit (link_in c.loop-c.last) c.in-Some.c way in
-    let side = subst (λ (a : ArenaState). (h : HeadState) → slice_get a.heads c.in-Some.c ≡ Some h → c.side_at-w.result ≡ side_of h c.args.lit) c.arena.ensures c.side_at-w.ensures in
-    let link = subst (λ (a : ArenaState). slice_get (map (link_of c.side_at-w.result) a.heads) c.in-Some.c ≡ Some (link_in c.link-next.result)) c.arena-in-Some.ensures c.link-next.ensures in
-    let come = comes c.loop-c.watches c.loop-c.trail.vars c.args.lit c.in-Some.c c.side_at-w.result (link_in c.link-next.result) met side link in
-    let found = subst (λ (a : ArenaState). slice_get a.heads c.in-Some.c ≡ Some come.leads.head) (sym c.arena-in-Some-2.ensures) come.leads.is_head in
+    let side = subst (λ (a : ArenaState). (h : HeadState) → slice_get a.heads c.in-Some.c ≡ Some h → c.meet-met.result.w ≡ side_of h c.args.lit) c.arena.ensures c.meet-met.ensures.side in
+    let link = subst (λ (a : ArenaState). slice_get (map (link_of c.meet-met.result.w) a.heads) c.in-Some.c ≡ Some (link_in c.meet-met.result.next)) c.arena.ensures c.meet-met.ensures.next in
+    let come = comes c.loop-c.watches c.loop-c.trail.vars c.args.lit c.in-Some.c c.meet-met.result.w (link_in c.meet-met.result.next) met side link in
+    let found = subst (λ (a : ArenaState). slice_get a.heads c.in-Some.c ≡ Some come.leads.head) (sym c.arena-in-Some.ensures) come.leads.is_head in
     let seen = c.in-Forces.ensures come.leads.head found in
     let forces =
-    turn_forces c.args.watches.now c.loop-c.watches c.args.trail.now c.loop-c.trail c.loop-c.progress c.args.lit (link_in c.loop-c.last) c.in-Some.c c.side_at-w.result (link_in c.link-next.result) c.in-Forces.other way come
+    turn_forces c.args.watches.now c.loop-c.watches c.args.trail.now c.loop-c.trail c.loop-c.progress c.args.lit (link_in c.loop-c.last) c.in-Some.c c.meet-met.result.w (link_in c.meet-met.result.next) c.in-Forces.other way come
     (way_false c.args.watches.now c.loop-c.watches c.args.trail.now c.loop-c.trail c.loop-c.progress c.args.lit (link_in c.loop-c.last) (Some c.in-Some.c) way) seen.0 seen.1 seen.3 in
     let more : TrailState = forced c.loop-c.trail c.in-Forces.other c.in-Some.c in
-    let here : HasCome c.loop-c.watches more.vars c.args.lit c.in-Some.c c.side_at-w.result (link_in c.link-next.result) = record { leads = come.leads; side = come.side; watches = come.watches; within = come.within } in
+    let here : HasCome c.loop-c.watches more.vars c.args.lit c.in-Some.c c.meet-met.result.w (link_in c.meet-met.result.next) = record { leads = come.leads; side = come.side; watches = come.watches; within = come.within } in
     let later : (e : Entry) → nat_lt c.known_level.result c.current-current.result ≡ false → slice_get more.entries c.loop-c.progress.passed ≡ Some e → more.current ≤ e.level =
     λ e early found.
     let same : way.entry ≡ e = same_entry way.entry e (sym (get_in_front c.loop-c.trail.entries (record { lit = c.in-Forces.other; level = c.loop-c.trail.current; reason = Some c.in-Some.c } ∷ []) c.loop-c.progress.passed way.entry way.found) ∙ found) in
     subst (λ (x : Entry). c.loop-c.trail.current ≤ x.level) same (c.loop-c.invariant.2 way.entry early way.found) in
-    let offset : IsOffset more.entries c.loop-c.progress.mark c.loop-c.progress.passed forces.entry.level (watched (not c.side_at-w.result) come.leads.head) =
+    let offset : IsOffset more.entries c.loop-c.progress.mark c.loop-c.progress.passed forces.entry.level (watched (not c.meet-met.result.w) come.leads.head) =
     subst (IsOffset more.entries c.loop-c.progress.mark c.loop-c.progress.passed forces.entry.level) seen.1
     (offset_forced c.loop-c.trail.entries (record { lit = c.in-Forces.other; level = c.loop-c.trail.current; reason = Some c.in-Some.c }) c.loop-c.progress.mark c.loop-c.progress.passed forces.entry.level (later forces.entry (grind (arith, nat_tests, c.if-late-2.false)) forces.found)) in
     let on =
-    turn_keeps c.args.watches.now c.loop-c.watches c.args.trail.now more c.loop-c.progress c.args.lit (link_in c.loop-c.last) c.in-Some.c c.side_at-w.result (link_in c.link-next.result) forces here offset in (
-      subst (λ t. IsOnItsWay c.args.watches.now c.loop-c.watches c.args.trail.now t c.loop-c.progress c.args.lit (link_in c.loop-c.next) (link_in c.link-next.result)) (sym c.force.ensures)
-          (subst (λ o. IsOnItsWay c.args.watches.now c.loop-c.watches c.args.trail.now more c.loop-c.progress c.args.lit o (link_in c.link-next.result)) (sym (sym c.clause.ensures ∙ c.in-Some.is)) on),
+    turn_keeps c.args.watches.now c.loop-c.watches c.args.trail.now more c.loop-c.progress c.args.lit (link_in c.loop-c.last) c.in-Some.c c.meet-met.result.w (link_in c.meet-met.result.next) forces here offset in (
+      subst (λ t. IsOnItsWay c.args.watches.now c.loop-c.watches c.args.trail.now t c.loop-c.progress c.args.lit (link_in c.loop-c.next) (link_in c.meet-met.result.next)) (sym c.force.ensures)
+          (subst (λ o. IsOnItsWay c.args.watches.now c.loop-c.watches c.args.trail.now more c.loop-c.progress c.args.lit o (link_in c.meet-met.result.next)) (sym (sym c.clause.ensures ∙ c.in-Some.is)) on),
       c.loop-c.invariant.1,
       λ e early found. subst (λ (t : TrailState). t.current ≤ e.level) (sym c.force.ensures) (later e early (subst (λ (t : TrailState). slice_get t.entries c.loop-c.progress.passed ≡ Some e) c.force.ensures found)),
     )
@@ -425,13 +419,13 @@ pub returns-in-Falsified-clause-conflict : goal.returns-in-Falsified-clause-conf
 returns-in-Falsified-clause-conflict c =
     let way = subst (λ o. IsOnItsWay c.args.watches.now c.loop-c.watches c.args.trail.now c.loop-c.trail c.loop-c.progress c.args.lit (link_in c.loop-c.last) o) (sym c.clause.ensures ∙ c.in-Some.is) c.loop-c.invariant.0 in
     let met = meets c.args.watches.now c.loop-c.watches c.args.trail.now c.loop-c.trail c.loop-c.progress c.args.lit (link_in c.loop-c.last) c.in-Some.c way in
-    let side = subst (λ (a : ArenaState). (h : HeadState) → slice_get a.heads c.in-Some.c ≡ Some h → c.side_at-w.result ≡ side_of h c.args.lit) c.arena.ensures c.side_at-w.ensures in
-    let link = subst (λ (a : ArenaState). slice_get (map (link_of c.side_at-w.result) a.heads) c.in-Some.c ≡ Some (link_in c.link-next.result)) c.arena-in-Some.ensures c.link-next.ensures in
-    let come = comes c.loop-c.watches c.loop-c.trail.vars c.args.lit c.in-Some.c c.side_at-w.result (link_in c.link-next.result) met side link in
-    let found = subst (λ (a : ArenaState). slice_get a.heads c.in-Some.c ≡ Some come.leads.head) (sym c.arena-in-Some-2.ensures) come.leads.is_head in
+    let side = subst (λ (a : ArenaState). (h : HeadState) → slice_get a.heads c.in-Some.c ≡ Some h → c.meet-met.result.w ≡ side_of h c.args.lit) c.arena.ensures c.meet-met.ensures.side in
+    let link = subst (λ (a : ArenaState). slice_get (map (link_of c.meet-met.result.w) a.heads) c.in-Some.c ≡ Some (link_in c.meet-met.result.next)) c.arena.ensures c.meet-met.ensures.next in
+    let come = comes c.loop-c.watches c.loop-c.trail.vars c.args.lit c.in-Some.c c.meet-met.result.w (link_in c.meet-met.result.next) met side link in
+    let found = subst (λ (a : ArenaState). slice_get a.heads c.in-Some.c ≡ Some come.leads.head) (sym c.arena-in-Some.ensures) come.leads.is_head in
     let seen = c.in-Falsified.ensures come.leads.head found in
     let is_false = way_false c.args.watches.now c.loop-c.watches c.args.trail.now c.loop-c.trail c.loop-c.progress c.args.lit (link_in c.loop-c.last) (Some c.in-Some.c) way in
-    conflict_at c.loop-c.watches.arena.heads c.loop-c.trail c.in-Some.c come.leads.head c.side_at-w.result come.leads.is_head seen.0 (subst (HasNegated c.loop-c.trail.entries) (sym come.watches) is_false) seen.1 seen.2
+    conflict_at c.loop-c.watches.arena.heads c.loop-c.trail c.in-Some.c come.leads.head c.meet-met.result.w come.leads.is_head seen.0 (subst (HasNegated c.loop-c.trail.entries) (sym come.watches) is_false) seen.1 seen.2
 
 pub overflow_add-progress : goal.overflow_add-progress
 overflow_add-progress c =

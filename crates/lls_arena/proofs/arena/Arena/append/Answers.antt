@@ -16,7 +16,7 @@ invariant_of-self c =
         few = c.self.invariant.0.few;
         in_order = c.self.invariant.0.in_order;
         tail_begins = omega (arith, longer, grown, c.self.invariant.0.tail_begins);
-        watched = AreAllWatched-same a.lits.items c.push_reserved.new.self.items a.edges.items spans 0 a.tail same_front c.self.invariant.0.in_order c.self.invariant.0.watched;
+        watched = AreAllWatched-same a.lits.items c.push_reserved.new.self.items a.edges.pairs spans 0 a.tail same_front c.self.invariant.0.in_order c.self.invariant.0.watched;
       },
       record {
         for_edges = c.self.invariant.1.for_edges;
@@ -37,4 +37,4 @@ returns c =
     let spans = spans_in a.spans.items a.lives.items a.ids.items in
     let same_front : take a.tail a.lits.items ≡ take a.tail c.push_reserved.new.self.items = rw c.push_reserved.ensures.items (sym (take-append-le a.tail a.lits.items (c.args.lit ∷ []) c.self.invariant.0.tail_begins)) in
     rw (← c.self.view_is)
-    (rw (sym (heads_in-same a.lits.items c.push_reserved.new.self.items a.edges.items spans 0 a.tail same_front c.self.invariant.0.in_order), c.push_reserved.ensures.items, drop-append-le a.tail a.lits.items (c.args.lit ∷ []) c.self.invariant.0.tail_begins) refl)
+    (rw (sym (heads_in-same a.lits.items c.push_reserved.new.self.items a.edges.pairs spans 0 a.tail same_front c.self.invariant.0.in_order), c.push_reserved.ensures.items, drop-append-le a.tail a.lits.items (c.args.lit ∷ []) c.self.invariant.0.tail_begins) refl)

@@ -14,7 +14,7 @@ pub returns-clause-count : goal.returns-clause-count
 returns-clause-count c =
     let a = c.self.inside in
     let spans = spans_in a.spans.items a.lives.items a.ids.items in
-    omega (arith, c.len.ensures, length-heads_in a.lits.items a.edges.items spans c.self.invariant.0.watched, length-spans_in a.spans.items a.lives.items a.ids.items c.self.invariant.3, ap (λ (x : ArenaState). length x.heads) c.self.view_is)
+    omega (arith, c.len.ensures, length-heads_in a.lits.items a.edges.pairs spans c.self.invariant.0.watched, length-spans_in a.spans.items a.lives.items a.ids.items c.self.invariant.3, ap (λ (x : ArenaState). length x.heads) c.self.view_is)
 
 pub returns-clause-most : goal.returns-clause-most
 returns-clause-most c =

@@ -15,7 +15,7 @@ invariant_of-self c =
         few = c.self.invariant.0.few;
         in_order = c.self.invariant.0.in_order;
         tail_begins = omega (arith, shorter, cut, c.self.invariant.0.tail_begins);
-        watched = AreAllWatched-same a.lits.items c.truncate.new.self.items a.edges.items spans 0 a.tail same_front c.self.invariant.0.in_order c.self.invariant.0.watched;
+        watched = AreAllWatched-same a.lits.items c.truncate.new.self.items a.edges.pairs spans 0 a.tail same_front c.self.invariant.0.in_order c.self.invariant.0.watched;
       },
       record {
         for_edges = c.self.invariant.1.for_edges;
@@ -37,4 +37,4 @@ returns-then-keep-end c =
     let same_front : take a.tail a.lits.items ≡ take a.tail c.truncate.new.self.items = rw c.truncate.ensures.items (sym (take-take a.tail (a.tail + c.args.keep) a.lits.items (omega arith))) in
     let more : a.spare_lits + (c.len-end.result - (a.tail + c.args.keep)) ≡ a.spare_lits + (length (drop a.tail a.lits.items) - c.args.keep) = omega (arith, c.len-end.ensures, length-drop a.tail a.lits.items) in
     rw (← c.self.view_is)
-    (rw (sym (heads_in-same a.lits.items c.truncate.new.self.items a.edges.items spans 0 a.tail same_front c.self.invariant.0.in_order), c.truncate.ensures.items, drop-take a.tail c.args.keep a.lits.items, more) refl)
+    (rw (sym (heads_in-same a.lits.items c.truncate.new.self.items a.edges.pairs spans 0 a.tail same_front c.self.invariant.0.in_order), c.truncate.ensures.items, drop-take a.tail c.args.keep a.lits.items, more) refl)

@@ -10,13 +10,13 @@ pub index-requires : goal.index-requires
 index-requires c =
     let a = c.self.inside in
     let spans = spans_in a.spans.items a.lives.items a.ids.items in
-    let lt : c.args.c < length spans = inside c.args.self.now a.lits.items a.edges.items spans c.args.c (ap (λ (x : ArenaState). x.heads) c.self.view_is) c.self.invariant.0.watched c.requires in
+    let lt : c.args.c < length spans = inside c.args.self.now a.lits.items a.edges.pairs spans c.args.c (ap (λ (x : ArenaState). x.heads) c.self.view_is) c.self.invariant.0.watched c.requires in
     omega (arith, lt, length-spans_in a.spans.items a.lives.items a.ids.items c.self.invariant.3, c.self.invariant.3.lives_each)
 
 pub returns : goal.returns
 returns c =
     let a = c.self.inside in
     let spans = spans_in a.spans.items a.lives.items a.ids.items in
-    let lt : c.args.c < length spans = inside c.args.self.now a.lits.items a.edges.items spans c.args.c (ap (λ (x : ArenaState). x.heads) c.self.view_is) c.self.invariant.0.watched c.requires in
+    let lt : c.args.c < length spans = inside c.args.self.now a.lits.items a.edges.pairs spans c.args.c (ap (λ (x : ArenaState). x.heads) c.self.view_is) c.self.invariant.0.watched c.requires in
     let s = get_or spans c.args.c no_span in
-    rw (← c.self.view_is) (read_span (λ (head : HeadState). head.live) c.index.result.now a.lits.items a.edges.items spans c.args.c s c.self.invariant.0.watched lt (get_or_default spans c.args.c no_span s lt) (λ e. live_at_row a.spans.items a.lives.items a.ids.items c.args.c no_span c.index.result.now lt c.index.ensures))
+    rw (← c.self.view_is) (read_span (λ (head : HeadState). head.live) c.index.result.now a.lits.items a.edges.pairs spans c.args.c s c.self.invariant.0.watched lt (get_or_default spans c.args.c no_span s lt) (λ e. live_at_row a.spans.items a.lives.items a.ids.items c.args.c no_span c.index.result.now lt c.index.ensures))

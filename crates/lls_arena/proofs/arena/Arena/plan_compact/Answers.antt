@@ -1,5 +1,4 @@
 use Rattle.std.proofs.Common.{length, ap, ◌∙◌, arith}
-use Rattle.std.proofs.lemmas.List.{with_items_is}
 use Rattle.lls_arena.specs.Parts.{AreTold, spans_in}
 use Rattle.lls_arena.proofs.Heads.{same_length}
 use Rattle.lls_arena.proofs.Told.{AreAllWatched-told, unlinked-told}
@@ -10,7 +9,7 @@ pub tell_where_to-requires-clause-each : goal.tell_where_to-requires-clause-each
 tell_where_to-requires-clause-each c =
     let a = c.self.inside in
     let spans = spans_in a.spans.items a.lives.items a.ids.items in
-    omega (arith, ap length c.deref_mut.ensures.value, same_length a.lits.items a.edges.items spans c.self.invariant.0.watched, ap length c.deref.ensures.value, length-spans_in a.spans.items a.lives.items a.ids.items c.self.invariant.3, c.self.invariant.3.lives_each)
+    omega (arith, same_length a.lits.items a.edges.pairs spans c.self.invariant.0.watched, ap length c.deref.ensures.value, length-spans_in a.spans.items a.lives.items a.ids.items c.self.invariant.3, c.self.invariant.3.lives_each)
 
 pub tell_where_to-requires-clause-few : goal.tell_where_to-requires-clause-few
 tell_where_to-requires-clause-few c =
@@ -21,17 +20,16 @@ pub invariant_of-self : goal.invariant_of-self
 invariant_of-self c =
     let a = c.self.inside in
     let spans = spans_in a.spans.items a.lives.items a.ids.items in
-    let new = c.tell_where_to.new.edges in
-    let told : AreTold a.edges.items new a.lives.items = rw (c.deref_mut.ensures.value, c.deref.ensures.value) at c.tell_where_to.ensures in
-    rw (with_items_is a.edges new (c.tell_where_to.auto.edges ∙ c.deref_mut.ensures.len)) (
+    let new = c.tell_where_to.new.edges.pairs in
+    let told : AreTold a.edges.pairs new a.lives.items = rw c.deref.ensures.value at c.tell_where_to.ensures.told in (
       record {
         few = c.self.invariant.0.few;
         in_order = c.self.invariant.0.in_order;
         tail_begins = c.self.invariant.0.tail_begins;
-        watched = AreAllWatched-told a.lits.items a.edges.items new spans told.length_same told.first told.second c.self.invariant.0.watched;
+        watched = AreAllWatched-told a.lits.items a.edges.pairs new spans told.length_same told.first told.second c.self.invariant.0.watched;
       },
       record {
-        for_edges = omega (arith, told.length_same, c.self.invariant.1.for_edges);
+        for_edges = omega (arith, c.tell_where_to.ensures.room, told.length_same, c.self.invariant.1.for_edges);
         for_spans = c.self.invariant.1.for_spans;
         for_lives = c.self.invariant.1.for_lives;
         for_ids = c.self.invariant.1.for_ids;
@@ -47,7 +45,7 @@ pub returns-clause-heads : goal.returns-clause-heads
 returns-clause-heads c =
     let a = c.self.inside in
     let spans = spans_in a.spans.items a.lives.items a.ids.items in
-    let new = c.tell_where_to.new.edges in
-    let told : AreTold a.edges.items new a.lives.items = rw (c.deref_mut.ensures.value, c.deref.ensures.value) at c.tell_where_to.ensures in
-    rw (with_items_is a.edges new (c.tell_where_to.auto.edges ∙ c.deref_mut.ensures.len), ← c.self.view_is)
-    (unlinked-told a.lits.items a.edges.items new spans told.length_same)
+    let new = c.tell_where_to.new.edges.pairs in
+    let told : AreTold a.edges.pairs new a.lives.items = rw c.deref.ensures.value at c.tell_where_to.ensures.told in
+    rw (← c.self.view_is)
+    (unlinked-told a.lits.items a.edges.pairs new spans told.length_same)

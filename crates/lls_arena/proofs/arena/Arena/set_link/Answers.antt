@@ -1,5 +1,6 @@
-use Rattle.std.proofs.Common.{◌<◌, List, drop, false, length, ap, arith}
-use Rattle.std.proofs.lemmas.List.{length-set}
+use Rattle.std.proofs.Common.{◌≡◌, ◌<◌, List, drop, false, length, get_or, ap, arith}
+use Rattle.std.proofs.lemmas.List.{get_or_default, length-set}
+use Rattle.lls_arena.specs.Links.{EdgeTableState, no_pair, with_next}
 use Rattle.lls_arena.specs.Arena.{ArenaState, HeadState}
 use Rattle.lls_arena.specs.Parts.{spans_in}
 use Rattle.lls_arena.proofs.Heads.{inside, same_length}
@@ -7,26 +8,38 @@ use Rattle.lls_arena.proofs.Changed.{AreAllWatched-linked, heads_in-linked}
 use Rattle.lls_arena.proofs.Told.{no_plan}
 use Rattle.lls_arena.proofs.arena.Arena.set_link.Goals as goal
 
-pub index_mut-requires : goal.index_mut-requires
-index_mut-requires c =
+pub set_next-requires-clause-within : goal.set_next-requires-clause-within
+set_next-requires-clause-within c =
     let a = c.self.inside in
     let spans = spans_in a.spans.items a.lives.items a.ids.items in
-    let lt : c.args.c < length spans = inside c.args.self.now a.lits.items a.edges.items spans c.args.c (ap (λ (x : ArenaState). x.heads) c.self.view_is) c.self.invariant.0.watched c.requires in
-    omega (arith, lt, same_length a.lits.items a.edges.items spans c.self.invariant.0.watched)
+    let lt : c.args.c < length spans = inside c.args.self.now a.lits.items a.edges.pairs spans c.args.c (ap (λ (x : ArenaState). x.heads) c.self.view_is) c.self.invariant.0.watched c.requires in
+    omega (arith, lt, same_length a.lits.items a.edges.pairs spans c.self.invariant.0.watched)
+
+pub set_next-requires-clause-few : goal.set_next-requires-clause-few
+set_next-requires-clause-few c =
+    let a = c.self.inside in
+    let spans = spans_in a.spans.items a.lives.items a.ids.items in
+    omega (arith, inside c.args.self.now a.lits.items a.edges.pairs spans c.args.c (ap (λ (x : ArenaState). x.heads) c.self.view_is) c.self.invariant.0.watched c.requires, c.self.invariant.0.few)
 
 pub invariant_of-self : goal.invariant_of-self
 invariant_of-self c =
     let a = c.self.inside in
     let spans = spans_in a.spans.items a.lives.items a.ids.items in
-    let longer = length-set a.edges.items c.args.c c.set_next.new.self in (
+    let lt : c.args.c < length spans = inside c.args.self.now a.lits.items a.edges.pairs spans c.args.c (ap (λ (x : ArenaState). x.heads) c.self.view_is) c.self.invariant.0.watched c.requires in
+    let known : c.args.c < length a.edges.pairs = omega (arith, lt, same_length a.lits.items a.edges.pairs spans c.self.invariant.0.watched) in
+    let e = get_or a.edges.pairs c.args.c no_pair in
+    let at : e ≡ get_or a.edges.pairs c.args.c e = get_or_default a.edges.pairs c.args.c no_pair e known in
+    let pairs = ap (λ (t : EdgeTableState). t.pairs) c.set_next.ensures in
+    let room = ap (λ (t : EdgeTableState). t.room) c.set_next.ensures in
+    let longer = length-set a.edges.pairs c.args.c (with_next c.args.w c.args.next e) in (
       record {
         few = c.self.invariant.0.few;
         in_order = c.self.invariant.0.in_order;
         tail_begins = c.self.invariant.0.tail_begins;
-        watched = rw c.set_next.ensures (AreAllWatched-linked a.lits.items a.edges.items spans c.args.c c.args.w c.args.next c.index_mut.result.now c.index_mut.ensures.value c.self.invariant.0.watched);
+        watched = rw pairs (AreAllWatched-linked a.lits.items a.edges.pairs spans c.args.c c.args.w c.args.next e at c.self.invariant.0.watched);
       },
       record {
-        for_edges = omega (arith, longer, c.self.invariant.1.for_edges);
+        for_edges = omega (arith, longer, ap length pairs, room, c.self.invariant.1.for_edges);
         for_spans = c.self.invariant.1.for_spans;
         for_lives = c.self.invariant.1.for_lives;
         for_ids = c.self.invariant.1.for_ids;
@@ -42,8 +55,12 @@ pub returns : goal.returns
 returns c =
     let a = c.self.inside in
     let spans = spans_in a.spans.items a.lives.items a.ids.items in
-    let lt : c.args.c < length spans = inside c.args.self.now a.lits.items a.edges.items spans c.args.c (ap (λ (x : ArenaState). x.heads) c.self.view_is) c.self.invariant.0.watched c.requires in
-    let known : c.args.c < length a.edges.items = omega (arith, lt, same_length a.lits.items a.edges.items spans c.self.invariant.0.watched) in
-    rw (← c.self.view_is, c.set_next.ensures)
+    let lt : c.args.c < length spans = inside c.args.self.now a.lits.items a.edges.pairs spans c.args.c (ap (λ (x : ArenaState). x.heads) c.self.view_is) c.self.invariant.0.watched c.requires in
+    let known : c.args.c < length a.edges.pairs = omega (arith, lt, same_length a.lits.items a.edges.pairs spans c.self.invariant.0.watched) in
+    let e = get_or a.edges.pairs c.args.c no_pair in
+    let at : e ≡ get_or a.edges.pairs c.args.c e = get_or_default a.edges.pairs c.args.c no_pair e known in
+    let pairs = ap (λ (t : EdgeTableState). t.pairs) c.set_next.ensures in
+    let room = ap (λ (t : EdgeTableState). t.room) c.set_next.ensures in
+    rw (← c.self.view_is, pairs)
     (ap (λ (heads : List HeadState). record { heads = heads; tail = drop a.tail a.lits.items; spare_heads = a.spare_heads; spare_lits = a.spare_lits; planned = false })
-    (heads_in-linked a.lits.items a.edges.items spans c.args.c c.args.w c.args.next c.index_mut.result.now c.index_mut.ensures.value known))
+    (heads_in-linked a.lits.items a.edges.pairs spans c.args.c c.args.w c.args.next e at known))

@@ -22,7 +22,7 @@ returns-clause-state c =
     ap (λ o. index_of (option_map_or (watched c.args.w) o (pos 0))) here ∙ ap index_of read ∙ sym c.index-i.ensures.place in
     let within : c.index-i.result < length m.first.items = omega (arith, known.within, ap index_of read, c.index-i.ensures.place, ap (λ (s : WatchState). length s.first) c.self.view_is, length-map m.first.items link_in) in
     subst (λ (s : WatchState). AttachedAt c.args.c c.args.w s (record { arena = c.set_link.new.self; first = map link_in (slice_set m.first.items c.index-i.result c.to.result) })) c.self.view_is
-    (start_attached m.arena c.set_link.new.self m.first.items c.args.c c.index-i.result c.args.w c.index.result.now c.to.result list within c.index.ensures c.set_link.ensures c.to.ensures)
+    (start_attached m.arena c.set_link.new.self m.first.items c.args.c c.index-i.result c.args.w c.index.result.now c.to.result list within c.index.ensures c.set_link.ensures c.to.ensures.clause)
 
 pub returns-clause-threaded : goal.returns-clause-threaded
 returns-clause-threaded c = λ lists threaded absent.
