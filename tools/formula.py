@@ -8,11 +8,11 @@ BIRTHS and SURVIVALS are digits, or `-` for none. LOW and HIGH may be left out. 
 file, which shares nothing with the crates.
 """
 import ending
-from refute import formula_of_words
+from refute import formula_of, parser_of
 
 
 def main():
-    formula = formula_of_words(__doc__)
+    formula = formula_of(parser_of(__doc__).parse_args())
     print(f"p cnf {formula.count} {len(formula.clauses)}")
     for clause in formula.clauses:
         print(*clause, 0)

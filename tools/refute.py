@@ -2,9 +2,10 @@
 """Makes the formula of a small search file and an LRAT proof of its absence, by plain splitting.
 
     refute.py SEARCH BIRTHS SURVIVALS closed|open [--symmetry NAME] [--period N] [--shift DX,DY] [--live T:LOW-HIGH,..]
-        [--differ A,B] [--formula 1|2]
+        [--differ A,B] [--formula 1|2] [--define V,W]
 
-BIRTHS and SURVIVALS are digits, or `-` for none. LOW and HIGH may be left out. Form 2 of the formula, by cover, is the default. The proof goes to the standard output, the sizes of the formula to the
+BIRTHS and SURVIVALS are digits, or `-` for none. LOW and HIGH may be left out. Form 2 of the formula, by cover, is the default. With
+V and W the proof begins with a variable of its own, which is true just where both of these are, and splits on it first. The proof goes to the standard output, the sizes of the formula to the
 standard error. Where generations exist that fit the file, there is no proof and the exit status is 1.
 
 It is written from docs/definitions.md alone and shares nothing with the crates, so that what both agree on is worth
@@ -244,9 +245,27 @@ class Refutation:
     """A proof by splitting on the first open variable; each conflict adds the negation of its choices."""
 
     def __init__(self, formula):
-        self.count = formula.count
         self.clauses = list(formula.clauses)
+        self.variables = list(range(1, formula.count + 1))
         self.lines = []
+
+    def push_line(self, clause, hints):
+        self.clauses.append(clause)
+        words = [len(self.clauses)] + clause + [0] + hints + [0]
+        self.lines.append(" ".join(map(str, words)))
+
+    def define(self, first, second):
+        """A new variable that is true just where both are, split on before the others.
+
+        No clause of the formula has it, so the first line has no group. Of the two others each has one, of the first
+        line, where the negation of the clause's second literal stands.
+        """
+        new = len(self.variables) + 1
+        self.push_line([new, -first, -second], [])
+        both = -len(self.clauses)
+        self.push_line([-new, first], [both])
+        self.push_line([-new, second], [both])
+        self.variables.insert(0, new)
 
     def propagate(self, choices):
         """Returns the values, the clause that is false or None, and the order and reasons of what follows."""
@@ -274,15 +293,12 @@ class Refutation:
             if variable in needed:
                 used.append(reasons[variable] + 1)
                 needed |= {abs(literal) for literal in self.clauses[reasons[variable]]}
-        clause = [-literal for literal in choices]
-        self.clauses.append(clause)
-        words = [len(self.clauses)] + clause + [0] + used[::-1] + [conflict + 1, 0]
-        self.lines.append(" ".join(map(str, words)))
+        self.push_line([-literal for literal in choices], used[::-1] + [conflict + 1])
 
     def refute(self, choices=()):
         values, conflict, order, reasons = self.propagate(choices)
         if conflict is None:
-            split = next((v for v in range(1, self.count + 1) if v not in values), None)
+            split = next((v for v in self.variables if v not in values), None)
             if split is None or not all(self.refute((*choices, way)) for way in (split, -split)):
                 return False
             _, conflict, order, reasons = self.propagate(choices)
@@ -305,8 +321,8 @@ def bounds(text):
     return found
 
 
-def formula_of_words(description):
-    """Returns the formula of the search file and the demands that the program's words name."""
+def parser_of(description):
+    """What reads the words that name a search file and the demands on it."""
     parser = argparse.ArgumentParser(description=description, formatter_class=argparse.RawDescriptionHelpFormatter)
     parser.add_argument("search")
     parser.add_argument("births")
@@ -318,7 +334,11 @@ def formula_of_words(description):
     parser.add_argument("--live", type=bounds, default=())
     parser.add_argument("--differ", type=pair)
     parser.add_argument("--formula", type=int, choices=(1, 2), default=2)
-    words = parser.parse_args()
+    return parser
+
+
+def formula_of(words):
+    """Returns the formula of the search file and the demands that the words name."""
 
     def successor(nine):
         neighbours = sum(nine) - nine[4]
@@ -331,9 +351,14 @@ def formula_of_words(description):
 
 
 def main():
-    formula = formula_of_words(__doc__)
+    parser = parser_of(__doc__)
+    parser.add_argument("--define", type=pair)
+    words = parser.parse_args()
+    formula = formula_of(words)
     print(f"{formula.count} variables, {len(formula.clauses)} clauses", file=sys.stderr)
     refutation = Refutation(formula)
+    if words.define is not None:
+        refutation.define(*words.define)
     if not refutation.refute():
         sys.exit("there are generations that fit the file")
     print("\n".join(refutation.lines))
