@@ -124,6 +124,8 @@ def main():
     parser.add_argument("--formula", type=int, choices=(1, 2), default=2)
     parser.add_argument("--try", action="store_true", dest="tries")
     words = parser.parse_args()
+    if not words.low <= words.high:
+        sys.exit("the low rule gives 1 where the high one gives 0")
     with open(words.search, encoding="ascii") as file:
         generations = refute.read_search_file(file.read())
     if words.tries:

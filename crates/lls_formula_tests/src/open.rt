@@ -95,7 +95,7 @@ fn formulas_of_open_rules(rt: HostRuntime) -> Result<(), Fail> {
         // Under an open edge the one transition that no mark frees.
         (
             b"* *\n* *\n\n*' *'\n*' *",
-            "B2a3/S12a3",
+            "B2a3/S123",
             Edge::Bare,
             Form::Cover,
             11,

@@ -1,5 +1,8 @@
 // Worked rows: texts with their canonical forms and faults, classes with their sizes, published rules.
-use lls_hensel::{Class, PrintRuleError, RuleError, class_of, print_rule, read_rule};
+use lls_hensel::{
+    Class, PrintRuleError, RuleError, all_classes, class_at, class_of, is_isotropic, print_rule,
+    read_rule,
+};
 use lls_rule::Rule;
 use std::alloc::Global;
 use std::process::Abort;
@@ -170,11 +173,43 @@ fn a_rule_that_is_not_isotropic(rt: HostRuntime) {
     for (nine, least) in [(2, 8), (8, 8), (16 + 4, 16 + 4), (16 + 1, 16 + 4)] {
         let mut rule = Rule::from_counts(0b1000, 0b1100);
         assert!(rt; nine < Rule::NEIGHBOURHOODS);
+        assert!(rt; is_isotropic(&rule));
         let live = rule.next(nine);
         rule.set(nine, !live);
+        assert!(rt; !is_isotropic(&rule));
         assert!(rt;
             print_rule(rt.alloc(), &rule) == Err(PrintRuleError::NotIsotropic(least)),
             "{nine}"
         );
+    }
+}
+
+// The letters of each count, and none where there is one class alone.
+#[test]
+fn classes_in_their_order(rt: HostRuntime) {
+    let few = ["-", "ce", "aceikn", "aceijknqry"];
+    let letters = few.iter().chain(&["aceijknqrtwyz"]).chain(few.iter().rev());
+    let mut classes = all_classes().iter();
+    for (count, letters) in (0..).zip(letters) {
+        for letter in letters.bytes() {
+            let letter = Some(letter).filter(|letter| *letter != b'-');
+            assert!(rt; classes.next() == Some(&Class { count, letter }));
+        }
+    }
+    assert!(rt; classes.next().is_none());
+}
+
+#[test]
+fn classes_of_neighbourhoods(rt: HostRuntime) {
+    for (nine, count, letter) in [
+        (0, 0, None),
+        (16, 0, None),
+        (1, 1, Some(b'c')),
+        (16 + 2, 1, Some(b'e')),
+        (40, 2, Some(b'i')),
+        (511 - 16 - 68, 6, Some(b'n')),
+        (511, 8, None),
+    ] {
+        assert!(rt; class_at(nine) == Class { count, letter }, "{nine}");
     }
 }
