@@ -1,7 +1,7 @@
 // How far unit propagation has come along a trail.
-ghost use Rattle.std.specs.Prelude.{◌≡◌, ◌≢◌, ◌≤◌, ◌<◌, ℕ, Some, slice_get};
+ghost use Rattle.std.specs.Prelude.{◌≡◌, ◌≢◌, ◌≤◌, ◌<◌, ◌⊎◌, ℕ, Some, slice_get};
 ghost use Rattle.lls_lit.specs.Literal.{negation, variable_of};
-ghost use Rattle.lls_store.specs.Trail.{Entry};
+ghost use Rattle.lls_store.specs.Trail.{Entry, place_of};
 ghost use Rattle.lls_watch.specs.Passed.{IsMarked, cut_progress};
 
 use lls_lit::Lit;
@@ -20,6 +20,7 @@ impl Progress {
         ensures passed { self.new.passed ≡ self.old.passed }
         ensures marked { IsMarked self.new.mark self.old.passed }
         ensures kept { (place : ℕ) → IsMarked self.old.mark place → IsMarked self.new.mark place }
+        ensures least { (place : ℕ) → IsMarked self.new.mark place → (self.old.passed ≤ place) ⊎ IsMarked self.old.mark place }
     {
         match self.mark {
             Some(mark) if mark <= self.passed => {}
@@ -32,6 +33,7 @@ impl Progress {
         requires { variable_of lit ≤ trail.now.vars }
         ensures less { self.new.passed ≤ self.old.passed }
         ensures mark { self.new.mark ≡ self.old.mark }
+        ensures least { (self.new.passed ≡ self.old.passed) ⊎ (place_of trail.now.entries (variable_of lit) ≡ Some self.new.passed) }
         ensures apart { (place : ℕ) (entry : Entry) → place < self.new.passed → slice_get trail.now.entries place ≡ Some entry → entry.lit ≢ negation lit }
     {
         if let Some(value) = trail.value(lit) {

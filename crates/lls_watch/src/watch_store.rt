@@ -83,6 +83,7 @@ impl WatchStore {
         requires tracked { Tracks self.old trail.old }
         ensures conflict { IfSome result (IsConflict (store_in self.old).live trail.new) }
         ensures satisfied { IfNone result (AreSatisfied (store_in self.old).live trail.new.entries self.old.short (length self.old.short)) }
+        ensures for_good { IfNone result (trail.new.current ≡ 0 → self.new.satisfied ≡ length self.old.short) }
         ensures grown { GoesOn trail.old trail.new }
         ensures same { self.new ≡ record self.old { satisfied = self.new.satisfied } }
         ensures tracked { Tracks self.new trail.new }
