@@ -1,8 +1,10 @@
 -- A proof that goes through its checker as its file is read.
-use Rattle.std.proofs.Common.{◌≡◌, ◌≢◌, ◌<◌, ◌≤◌, ◌+◌, ℕ, List, ◌++◌, length, drop, take, Option, Some, None, Result, Err, IfSome, IsSome, refl, sym, ap, ◌∙◌, arith, length-drop}
+use Rattle.std.proofs.Common.{◌≡◌, ◌≢◌, ◌<◌, ◌≤◌, ◌+◌, ℕ, List, ◌++◌, length, drop, take, Option, Some, None, Result, Ok, Err, IfSome, IsSome, refl, sym, ap, ◌∙◌, arith, nat_lt, true, length-drop}
+use Rattle.std.specs.FinMap as map
+use Rattle.std.proofs.lemmas.Bool.Decides.{nat_tests}
 use Rattle.std.specs.Option.{option_map}
 use Rattle.std.proofs.lemmas.List.{length-append, length-take-le, take_all}
-use Rattle.lls_base.specs.Shelf.{ReadsFront}
+use Rattle.lls_base.specs.Shelf.{Contents, OpensAsTold, ReadsFront, after_open, known_files, known_rest, known_target}
 use Rattle.lls_base.proofs.Rest.{IsFront, IsFront-more}
 use Rattle.lls_lit.specs.Formula.{Cnf}
 use Rattle.lls_lrat.specs.declared.checker.Progress.{Progress}
@@ -10,7 +12,13 @@ use Rattle.lls_lrat.specs.declared.error.CheckError.{CheckError}
 use Rattle.lls_lrat.specs.declared.error.CheckError.TheVariants as errors
 use Rattle.lls_lrat.specs.Feeding.{Feeding, FeedState, begun, fed, piece_answer}
 use Rattle.lls_lrat.proofs.Feedings.{fed_fed}
-use Rattle.lls_cli.specs.Fed.{fed_with}
+use Rattle.lls_cli.specs.declared.fault.Fault.{Fault}
+use Rattle.lls_cli.specs.declared.fault.Fault.TheVariants as faults
+use Rattle.lls_cli.specs.Fed.{FedRest, IsFed, fed_with}
+use Rattle.lls_cli.specs.Moment.{ShelfMoment}
+use Rattle.lls_cli.specs.Question.{IsInput, input_from, proof_limit}
+use Rattle.lls_cli.specs.Steps.{Reads}
+use Rattle.lls_cli.proofs.Stopped.{Stops-along, Stops-from}
 
 -- one more piece has come
 fed_more : (formula : Cnf) (old now : Option Feeding) (bytes piece : List ℕ) → old ≡ Some (fed (begun formula) bytes) → now ≡ option_map (λ f. fed f piece) old
@@ -50,3 +58,39 @@ all_read (Some rest) n bytes buffer front end room =
     let none : length (drop n rest) ≡ 0 = ap length (end.end refl room) in
     let short : length rest ≤ n = omega (arith, none, length-drop n rest) in
     sym (front.whole ∙ take_all n rest short)
+
+-- an input of more bytes than a proof may have is refused for that
+from_long : (found : Option (List ℕ)) (fault : Fault) → IsSome found → fault ≡ faults.TooLong proof_limit → IfSome found (λ all. proof_limit < length all)
+    → Err fault ≡ input_from proof_limit found
+from_long None fault there is long = search (there)
+from_long (Some bytes) fault there is long = let more : nat_lt proof_limit (length bytes) ≡ true = grind (arith, nat_tests, long) in rw (is, more) refl
+
+too_long : (before : Option Contents) (name : List ℕ) (feed : FeedState) (fault : Fault) → IfSome before (OpensAsTold name (Ok tt))
+    → FedRest (known_rest (option_map (after_open name (Ok tt)) before)) feed (Err fault) → IsInput (known_files before) name proof_limit (Err fault)
+too_long None name feed fault there long = rw long.0 refl
+too_long (Some c) name feed fault there long = from_long (map.get c.files name) fault there long.0 long.1
+
+files_opened : (told : Option Contents) (name : List ℕ) → known_files (option_map (after_open name (Ok tt)) told) ≡ known_files told
+files_opened None name = refl
+files_opened (Some c) name = refl
+
+target_opened : (told : Option Contents) (name : List ℕ) → known_target (option_map (after_open name (Ok tt)) told) ≡ known_target told
+target_opened None name = refl
+target_opened (Some c) name = refl
+
+-- an input that was opened and couldn't be fed
+pub not_fed : (before opened after : ShelfMoment) (name : List ℕ) (formula : Cnf) (feed : FeedState) (fault : Fault)
+    → opened.told ≡ option_map (after_open name (Ok tt)) before.told → IfSome before.told (OpensAsTold name (Ok tt)) → opened.has_output ≡ before.has_output
+    → opened.faults ≡ before.faults → Reads {X = Unit {0}} (FedRest (known_rest opened.told) feed) (Err fault) opened after
+    → Reads {X = FeedState} (IsFed formula (known_files before.told) name) (Err fault) before after
+not_fed before opened after name formula feed fault told there output faults read = record {
+  kept = record {
+    files = read.kept.files ∙ ap known_files told ∙ files_opened before.told name;
+    target = read.kept.target ∙ ap known_target told ∙ target_opened before.told name;
+    has_output = read.kept.has_output ∙ output;
+  };
+  counts = rw faults at read.counts;
+  ok = tt;
+  err = Stops-from fault _ before opened after faults
+      (Stops-along fault _ _ opened after (λ long. too_long before.told name feed fault there (rw told at long)) read.err);
+}

@@ -1,5 +1,5 @@
 -- Readings that stop at an input.
-use Rattle.std.proofs.Common.{ℕ, List, [], Option, None, Some, Result, Ok, Err, refl, ap, arith}
+use Rattle.std.proofs.Common.{ℕ, List, [], Option, None, Some, Result, Ok, Err, ◌≡◌, ◌∙◌, refl, ap, arith}
 use Rattle.lls_base.specs.Results.{and_then}
 use Rattle.lls_base.specs.Shelf.{Files}
 use Rattle.lls_cli.specs.Questions.{Question}
@@ -25,6 +25,23 @@ Stops-along (faults.Dimacs error) One Two before after along stops = (along stop
 Stops-along (faults.NotPlain t y x) One Two before after along stops = (along stops.0, stops.1)
 Stops-along (faults.Rle error) One Two before after along stops = (along stops.0, stops.1)
 Stops-along (faults.TooLong limit) One Two before after along stops = (along stops.0, stops.1)
+
+-- as many calls had failed before another moment
+pub Stops-from : (fault : Fault) (Says : Fault → Type 0) (before opened after : ShelfMoment) → opened.faults ≡ before.faults → Stops fault Says opened after → Stops fault Says before after
+Stops-from faults.Memory Says before opened after same stops = tt
+Stops-from (faults.Outside outside.OpenFailed) Says before opened after same stops = (rw same at stops.0, stops.1)
+Stops-from (faults.Outside outside.ReadFailed) Says before opened after same stops = (rw same at stops.0, stops.1)
+Stops-from (faults.Outside outside.NoFile) Says before opened after same stops = (stops.0, stops.1 ∙ same)
+Stops-from (faults.Outside outside.CreateFailed) Says before opened after same stops = absurd stops
+Stops-from (faults.Outside outside.WriteFailed) Says before opened after same stops = absurd stops
+Stops-from (faults.Outside outside.OutFailed) Says before opened after same stops = absurd stops
+Stops-from (faults.Words error) Says before opened after same stops = absurd stops
+Stops-from (faults.Posed error) Says before opened after same stops = (stops.0, stops.1 ∙ same)
+Stops-from (faults.Demands error) Says before opened after same stops = (stops.0, stops.1 ∙ same)
+Stops-from (faults.Dimacs error) Says before opened after same stops = (stops.0, stops.1 ∙ same)
+Stops-from (faults.NotPlain t y x) Says before opened after same stops = (stops.0, stops.1 ∙ same)
+Stops-from (faults.Rle error) Says before opened after same stops = (stops.0, stops.1 ∙ same)
+Stops-from (faults.TooLong limit) Says before opened after same stops = (stops.0, stops.1 ∙ same)
 
 -- an input that isn't read has some bytes or some refusal
 some_input : (files : Option Files) (name : List ℕ) (limit : ℕ) → (read : Result (List ℕ) Fault) × IsInput files name limit read
