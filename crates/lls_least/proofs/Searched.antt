@@ -3,9 +3,8 @@ use Rattle.std.proofs.Common.{◌≡◌, ◌≤◌, ℕ, ◌+◌, cond, List, []
 use Rattle.std.proofs.lemmas.List.Sums.{count_by-le-length, sum_by-append}
 use Rattle.lls_lit.specs.Formula.{Cnf, IsUnsatisfiable}
 use Rattle.lls_prooflog.specs.declared.step.Step.{Step}
-use Rattle.lls_prooflog.specs.Steps.{numbered}
 use Rattle.lls_prooflog.specs.Spent.{is_addition}
-use Rattle.lls_prooflog.proofs.Soundness.{KeepsSatisfiable-numbered, unsatisfiable_if_accepted}
+use Rattle.lls_prooflog.proofs.Soundness.{unsatisfiable_by_propagation}
 use Rattle.lls_problem.specs.declared.form.Form.{Form}
 use Rattle.lls_problem.specs.Problem.{PosedProblem}
 use Rattle.lls_problem.specs.Solution.{IsAbsent}
@@ -38,6 +37,6 @@ pub absence_from : (p : PosedProblem) (effort : Effort) (formula : Cnf) (steps :
     → IsRefutation formula effort.budget steps → KeepsAll effort.keep_all steps → ShowsAbsence p effort steps
 absence_from p effort formula steps same none refutation kept = record {
   proof = subst (λ (f : Cnf). IsProof f effort.budget steps) same (proof_from formula effort.budget steps refutation);
-  absent = none (unsatisfiable_if_accepted formula (numbered formula.clauses) steps (KeepsSatisfiable-numbered formula) refutation.accepted);
+  absent = none (unsatisfiable_by_propagation formula steps refutation.good refutation.accepted);
   all_kept = kept;
 }
