@@ -68,10 +68,10 @@ any-unset i (s ∷ ss) zero stamp old q lt before =
     let rest = stamped (i + 1) ss stamp in
     let other : eqb old stamp ≡ false = grind (arith, nat_tests) in
     let gone : list_any (int_eq q) rest ≡ (not (int_eq q (literal_at i)) && list_any (int_eq q) (cond (eqb s stamp) (literal_at i ∷ rest) rest)) =
-        elim (int_eq q (literal_at i)) as (λ h. int_eq q (literal_at i) ≡ h → list_any (int_eq q) rest ≡ (not h && list_any (int_eq q) (cond (eqb s stamp) (literal_at i ∷ rest) rest))) [
-          | true ↦ λ is. none_before (i + 1) ss stamp q (let at : index_of q ≡ i = ap index_of ((Decides-int_eq q (literal_at i)).0 is) ∙ index_of-literal_at i in omega (arith, at))
-          | false ↦ λ is. elim (eqb s stamp) as (λ b. list_any (int_eq q) rest ≡ list_any (int_eq q) (cond b (literal_at i ∷ rest) rest)) [ true ↦ rw is refl | false ↦ refl ]
-        ] refl
+    elim (int_eq q (literal_at i)) as (λ h. int_eq q (literal_at i) ≡ h → list_any (int_eq q) rest ≡ (not h && list_any (int_eq q) (cond (eqb s stamp) (literal_at i ∷ rest) rest))) [
+      | true ↦ λ is. none_before (i + 1) ss stamp q (let at : index_of q ≡ i = ap index_of ((Decides-int_eq q (literal_at i)).0 is) ∙ index_of-literal_at i in omega (arith, at))
+      | false ↦ λ is. elim (eqb s stamp) as (λ b. list_any (int_eq q) rest ≡ list_any (int_eq q) (cond b (literal_at i ∷ rest) rest)) [ true ↦ rw is refl | false ↦ refl ]
+    ] refl
     in rw (other, add-zero) gone
 any-unset i (s ∷ ss) (suc j) stamp old q lt before =
     let were = stamped (i + 1) ss stamp in
@@ -80,7 +80,7 @@ any-unset i (s ∷ ss) (suc j) stamp old q lt before =
     let there = int_eq q (literal_at (i + suc j)) in
     let fewer : list_any (int_eq q) now ≡ (not there && list_any (int_eq q) were) = rw place (any-unset (i + 1) ss j stamp old q (omega arith) before) in
     let here_no_more : there ≡ true → int_eq q (literal_at i) ≡ false =
-        λ is. not_there i q (λ same. let at : index_of q ≡ i + suc j = ap index_of ((Decides-int_eq q (literal_at (i + suc j))).0 is) ∙ index_of-literal_at (i + suc j) in omega (arith, same, at))
+    λ is. not_there i q (λ same. let at : index_of q ≡ i + suc j = ap index_of ((Decides-int_eq q (literal_at (i + suc j))).0 is) ∙ index_of-literal_at (i + suc j) in omega (arith, same, at))
     in
     elim (eqb s stamp) as (λ b. list_any (int_eq q) (cond b (literal_at i ∷ now) now) ≡ (not there && list_any (int_eq q) (cond b (literal_at i ∷ were) were))) [
       | true ↦ ap (λ b. int_eq q (literal_at i) || b) fewer ∙ and_or (int_eq q (literal_at i)) there (list_any (int_eq q) were) here_no_more

@@ -1,6 +1,6 @@
 -- Clauses and literals within the variables.
-use Rattle.std.proofs.Common.{◌≡◌, ℕ, zero, suc, ◌<◌, ◌≤◌, true, length, get_or, Some, None, refl, ap, ◌∙◌, arith, leb, leb-true}
-use Rattle.std.specs.Prelude.{ℤ, pos, negsuc, Ok}
+use Rattle.std.proofs.Common.{◌≡◌, ℕ, zero, suc, ◌<◌, ◌≤◌, true, length, get_or, Some, refl, ◌∙◌, arith, leb, leb-true}
+use Rattle.std.specs.Prelude.{ℤ, pos, negsuc}
 use Rattle.std.proofs.lemmas.Option.{slice_get-get_or}
 use Rattle.lls_lit.specs.Literal.{variable_of, negation}
 use Rattle.lls_lit.specs.Formula.{Clause, is_literal_of, is_within}

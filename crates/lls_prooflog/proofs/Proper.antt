@@ -1,7 +1,7 @@
 -- Live clauses with ids of their own and without the literal 0: at the start, and behind a good step.
-use Rattle.std.proofs.Common.{◌≡◌, ◌≢◌, ℕ, ◌+◌, ◌<◌, Bool, true, false, not, ◌&&◌, cond, List, [], ◌∷◌, ◌++◌, Option, Some, None, refl, sym, ap, ◌∙◌, inl, inr, arith, eqb}
-use Rattle.std.specs.Prelude.{ℤ, filter, is_some, is_none, ◌==◌}
-use Rattle.std.specs.List.{list_all, list_any, enumerate_from}
+use Rattle.std.proofs.Common.{◌≡◌, ◌≢◌, ℕ, ◌+◌, ◌<◌, Bool, true, false, cond, List, [], ◌∷◌, ◌++◌, Option, Some, None, refl, sym, ap, ◌∙◌, inl, inr, arith, eqb}
+use Rattle.std.specs.Prelude.{filter, is_some, is_none}
+use Rattle.std.specs.List.{list_all, enumerate_from}
 use Rattle.std.proofs.lemmas.Bool.{and_parts, and_from}
 use Rattle.std.proofs.lemmas.Bool.Decides.{eqb_tells}
 use Rattle.std.proofs.lemmas.List.{map-append}
@@ -26,11 +26,13 @@ none_is (Some clause) e = absurd cc
 -- one more clause in front, under an id of its own, hides none
 found_behind : (pair : ℕ × Clause) (live rest : Live) → find_clause live pair.0 ≡ None → EachFound live rest → EachFound (pair ∷ live) rest
 found_behind pair live [] new each = tt
-found_behind pair live (other ∷ rest) new each =
-    (elim (eqb_tells pair.0 other.0) [
-      | inl same ↦ let clash : None ≡ Some other.1 = sym new ∙ ap (find_clause live) same.1 ∙ each.0 in absurd cc
-      | inr apart ↦ rw apart.0 each.0
-    ], found_behind pair live rest new each.1)
+found_behind pair live (other ∷ rest) new each = (
+  elim (eqb_tells pair.0 other.0) [
+    | inl same ↦ let clash : None ≡ Some other.1 = sym new ∙ ap (find_clause live) same.1 ∙ each.0 in absurd cc
+    | inr apart ↦ rw apart.0 each.0
+  ],
+  found_behind pair live rest new each.1,
+)
 
 pub each_found : (live : Live) → ids_differ live ≡ true → EachFound live live
 each_found [] e = tt

@@ -1,14 +1,13 @@
 -- A good step keeps the live clauses satisfiable where the formula is.
-use Rattle.std.proofs.Common.{◌≡◌, ℕ, ◌+◌, Bool, true, false, ◌&&◌, ◌||◌, cond, List, [], ◌∷◌, ◌++◌, length, Option, Some, None, refl, ap}
-use Rattle.std.specs.Prelude.{ℤ, filter, is_some, is_none}
-use Rattle.std.specs.List.{list_all, enumerate_from}
+use Rattle.std.proofs.Common.{◌≡◌, ℕ, Bool, true, false, ◌||◌, cond, List, [], ◌∷◌, ◌++◌, Some, None, refl}
+use Rattle.std.specs.Prelude.{ℤ, is_some, is_none}
+use Rattle.std.specs.List.{list_all}
 use Rattle.std.proofs.lemmas.Bool.{and_parts}
 use Rattle.std.proofs.lemmas.List.{map-append}
 use Rattle.std.proofs.lemmas.List.Folds.{list_all-append}
 use Rattle.lls_lit.specs.Formula.{Clause, Cnf, satisfies_clause, satisfies, IsUnsatisfiable}
 use Rattle.lls_prooflog.specs.declared.step.Step.{Step}
 use Rattle.lls_prooflog.specs.declared.step.Step.TheVariants.{Add, Del}
-use Rattle.lls_prooflog.specs.declared.step_fault.StepFault.{StepFault}
 use Rattle.lls_prooflog.specs.declared.step_fault.StepFault.TheVariants.{IdLive}
 use Rattle.lls_prooflog.specs.UnitWalk.{Live, find_clause, walk_on, unit_walk}
 use Rattle.lls_prooflog.specs.Rat.{Group, groups_of, rat_fault}

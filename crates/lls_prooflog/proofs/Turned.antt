@@ -1,6 +1,6 @@
 -- Where a clause that is good by its pivot isn't satisfied, the bits with the pivot made true satisfy it and the live clauses.
-use Rattle.std.proofs.Common.{◌≡◌, ◌≢◌, ℕ, zero, suc, ◌+◌, Bool, true, false, not, ◌&&◌, ◌||◌, cond, List, [], ◌∷◌, ◌++◌, Option, Some, None, refl, sym, ap, ◌∙◌, inl, inr, arith, add-one, eqb}
-use Rattle.std.specs.Prelude.{ℤ, pos, negsuc, filter, find, is_some, ◌⊎◌, ◌==◌, nat_le}
+use Rattle.std.proofs.Common.{◌≡◌, ◌≢◌, ℕ, zero, suc, ◌+◌, Bool, true, false, not, ◌&&◌, ◌||◌, cond, List, [], ◌∷◌, ◌++◌, Option, Some, None, refl, sym, ap, ◌∙◌, inl, inr, arith, add-one}
+use Rattle.std.specs.Prelude.{ℤ, pos, negsuc, filter, find, ◌⊎◌, ◌==◌, nat_le}
 use Rattle.std.specs.List.{list_all, list_any}
 use Rattle.std.specs.Option.{option_map, option_or}
 use Rattle.std.specs.Ordering.{int_eq}
@@ -10,7 +10,7 @@ use Rattle.std.proofs.lemmas.List.Folds.{list_all-append}
 use Rattle.lls_lit.specs.Literal.{variable_of, negation}
 use Rattle.lls_lit.specs.Formula.{Clause, is_true, value_at, satisfies_clause, satisfies}
 use Rattle.lls_prooflog.specs.declared.step_fault.StepFault.{StepFault}
-use Rattle.lls_prooflog.specs.declared.step_fault.StepFault.TheVariants.{NoClause, NoConflict, RatMissing, RatOther}
+use Rattle.lls_prooflog.specs.declared.step_fault.StepFault.TheVariants.{NoConflict, RatMissing, RatOther}
 use Rattle.lls_prooflog.specs.UnitWalk.{Live, find_clause, is_among, unit_walk}
 use Rattle.lls_prooflog.specs.Rat.{Group, others, has_true, resolvent_fault, other_fault, group_fault, groups_fault, lacks_group, missing_fault, pivot_fault, rat_fault}
 use Rattle.lls_prooflog.specs.Steps.{clauses_of, are_literals, AreProper}

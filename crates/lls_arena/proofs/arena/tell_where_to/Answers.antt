@@ -1,7 +1,6 @@
-use Rattle.std.proofs.Common.{◌≡◌, ◌<◌, false, length, get_or, set, ap, sym, refl, ◌∙◌, arith}
+use Rattle.std.proofs.Common.{◌≡◌, ◌<◌, false, length, get_or, ap, refl, ◌∙◌, arith}
 use Rattle.std.proofs.lemmas.List.{get_or_default, length-set}
-use Rattle.lls_arena.specs.declared.edges.Edges.{Edges}
-use Rattle.lls_arena.specs.Links.{EdgeTableState, link_in, no_pair, with_next}
+use Rattle.lls_arena.specs.Links.{EdgeTableState, no_pair, with_next}
 use Rattle.lls_arena.proofs.Told.{IsTelling-dead, IsTelling-live, IsTelling-start}
 use Rattle.lls_arena.proofs.arena.tell_where_to.Goals as goal
 use Rattle.lls_arena.proofs.arena.tell_where_to.Goals.{then-lives-k, else-lives-k}

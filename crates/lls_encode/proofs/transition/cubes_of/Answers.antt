@@ -1,4 +1,4 @@
-use Rattle.std.proofs.Common.{◌≡◌, ◌<◌, ◌≤◌, ◌^◌, ◌∙◌, Bool, List, length, ap, arith}
+use Rattle.std.proofs.Common.{◌∙◌, Bool, List, length, ap, arith}
 use Rattle.std.proofs.lemmas.Result.{IfOk-weaker}
 use Rattle.lls_cube.specs.Table.{forbidden_rows}
 use Rattle.lls_transition.proofs.Obeyed.{length-forbidden_rows}

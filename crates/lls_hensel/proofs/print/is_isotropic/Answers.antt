@@ -1,6 +1,5 @@
-use Rattle.std.proofs.Common.{◌≡◌, ◌↔◌, ℕ, Bool, true, false, not, Option, Some, None, refl, ap, ◌∙◌, sym}
+use Rattle.std.proofs.Common.{◌≡◌, ℕ, Bool, true, false, not, Option, Some, None, refl, ap, ◌∙◌, sym}
 use Rattle.std.specs.Option.{is_some}
-use Rattle.lls_hensel.specs.Isotropy.{IsIsotropic}
 use Rattle.lls_hensel.proofs.Isotropy.{uneven-IsIsotropic}
 use Rattle.lls_hensel.proofs.print.is_isotropic.Goals as goal
 

@@ -1,4 +1,3 @@
-use Rattle.std.proofs.Common.{◌≡◌, ◌≤◌, arith}
 use Rattle.lls_cnf.proofs.Within.{is_within-more}
 use Rattle.lls_lrat.proofs.checker.assume.Goals as goal
 

@@ -2,7 +2,7 @@ use Rattle.std.proofs.Common.{◌≡◌, get_or, refl, arith}
 use Rattle.std.proofs.lemmas.Bool.Decides.{nat_tests}
 use Rattle.lls_lit.specs.Literal.{index_of}
 use Rattle.lls_lrat.specs.Occurring.{count_at}
-use Rattle.lls_lrat.proofs.Occurring.{Taken, takes_none, takes_on, all_taken}
+use Rattle.lls_lrat.proofs.Occurring.{takes_none, takes_on, all_taken}
 use Rattle.lls_lrat.proofs.live.are_all.Goals as goal
 use Rattle.lls_lrat.proofs.live.are_all.Goals.{then-id-last, else-id-last}
 

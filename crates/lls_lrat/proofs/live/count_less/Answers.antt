@@ -1,5 +1,4 @@
-use Rattle.std.proofs.Common.{◌≡◌, Some, sym, ap, subst, ◌∙◌}
-use Rattle.std.specs.Prelude.{List, ℕ}
+use Rattle.std.proofs.Common.{sym, subst}
 use Rattle.std.proofs.lemmas.Option.{same_Some}
 use Rattle.lls_lrat.specs.Occurring.{AreCounts}
 use Rattle.lls_lrat.proofs.Occurring.{without, AreCounts-less, AreCounts-same}

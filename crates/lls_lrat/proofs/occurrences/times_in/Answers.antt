@@ -1,6 +1,4 @@
-use Rattle.std.proofs.Common.{◌≡◌, ℕ, Bool, ◌+◌, ◌≤◌, true, false, take, cond, sym, ap, ◌∙◌, arith}
-use Rattle.std.specs.Ordering.{int_eq}
-use Rattle.lls_lrat.specs.Occurring.{times_in}
+use Rattle.std.proofs.Common.{ℕ, Bool, cond, sym, ap, arith}
 use Rattle.lls_lrat.proofs.Occurring.{times_more}
 use Rattle.lls_lrat.proofs.occurrences.times_in.Goals as goal
 use Rattle.lls_lrat.proofs.occurrences.times_in.Goals.{then-eq, else-eq}

@@ -1,18 +1,18 @@
-use Rattle.std.proofs.Common.{◌≡◌, ℕ, ◌<◌, ◌^◌, true, false, Some, Ok, Err, List, drop, ◌++◌, w64, sym, ap, subst, ◌∙◌}
+use Rattle.std.proofs.Common.{◌≡◌, ℕ, ◌<◌, ◌^◌, Some, Ok, Err, drop, ◌++◌, w64, sym, ap, subst, ◌∙◌}
 use Rattle.std.specs.Prelude.{ℤ}
 use Rattle.std.proofs.lemmas.Result.{err_from_is_err_and}
 use mir.Val.{to_z, of_z}
 use lib.Signed.{mag}
 use Rattle.lls_prooflog.specs.declared.step_fault.StepFault.TheVariants.{NoConflict}
-use Rattle.lls_lit.specs.Literal.{variable_of, negation}
+use Rattle.lls_lit.specs.Literal.{variable_of}
 use Rattle.lls_lit.specs.Formula.{Clause}
 use Rattle.lls_prooflog.specs.UnitWalk.{Live, find_clause, is_among}
 use Rattle.lls_prooflog.specs.Lent.{hints_of}
 use Rattle.lls_prooflog.proofs.PrintedNumbers.{same_number}
 use Rattle.lls_prooflog.specs.Rat.{others, has_true}
-use Rattle.lls_lrat.specs.Walked.{Walk, EndsAs, walk_from}
+use Rattle.lls_lrat.specs.Walked.{EndsAs, walk_from}
 use Rattle.lls_lrat.proofs.Within.{found_within}
-use Rattle.lls_lrat.proofs.Groups.{group_of_none, group_of_other, group_of_clause, group_closes, walk_refused, resolvent_true}
+use Rattle.lls_lrat.proofs.Groups.{group_closes, walk_refused}
 use Rattle.lls_lrat.proofs.pivot.check_group.Goals as goal
 
 -- the clause that the hint names

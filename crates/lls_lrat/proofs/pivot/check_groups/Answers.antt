@@ -1,4 +1,4 @@
-use Rattle.std.proofs.Common.{◌≡◌, ◌+◌, None, Some, drop, w64, length, sym, ap, subst, ◌∙◌, arith}
+use Rattle.std.proofs.Common.{◌≡◌, ◌+◌, None, Some, drop, w64, sym, subst, ◌∙◌, arith}
 use Rattle.std.specs.Prelude.{pos}
 use Rattle.std.proofs.lemmas.Option.{get_or_from_slice_get}
 use Rattle.std.proofs.lemmas.Result.{err_from_is_err_and}
@@ -9,7 +9,7 @@ use Rattle.lls_lrat.specs.Entered.{AssumedState}
 use Rattle.lls_lrat.specs.Grouped.{IsTold}
 use Rattle.lls_prooflog.specs.Lent.{hints_of}
 use Rattle.lls_prooflog.proofs.PrintedNumbers.{same_number}
-use Rattle.lls_lrat.proofs.Groups.{groups_none, hint_negative, groups_on, group_refused, no_fault, all_ids}
+use Rattle.lls_lrat.proofs.Groups.{hint_negative, groups_on, group_refused}
 use Rattle.lls_lrat.proofs.pivot.check_groups.Goals as goal
 
 pub check_group-requires-clause-negative : goal.check_group-requires-clause-negative

@@ -1,7 +1,5 @@
-use Rattle.std.proofs.Common.{◌≡◌, ◌≤◌, ◌++◌, ◌-◌, true, length, drop}
+use Rattle.std.proofs.Common.{◌≡◌, ◌-◌, length}
 use Rattle.lls_prooflog.specs.Lent.{hints_of}
-use Rattle.lls_prooflog.specs.Rat.{groups_of, groups_fault}
-use Rattle.lls_lrat.specs.Grouped.{begins_group, ids_of_groups}
 use Rattle.lls_lrat.proofs.Groups.{Grouped}
 use Rattle.lls_lrat.proofs.pivot.check_groups.Given as goal
 

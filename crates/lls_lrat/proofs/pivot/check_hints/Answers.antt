@@ -1,4 +1,4 @@
-use Rattle.std.proofs.Common.{◌≡◌, Some, Ok, Err, sym, ap, subst, ◌∙◌}
+use Rattle.std.proofs.Common.{Ok, Err, sym, ap, subst, ◌∙◌}
 use Rattle.std.proofs.lemmas.Result.{err_from_is_err_and}
 use Rattle.lls_prooflog.specs.Lent.{hints_of}
 use Rattle.lls_prooflog.specs.Rat.{groups_of, rat_fault}

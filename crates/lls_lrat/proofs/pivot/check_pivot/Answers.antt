@@ -1,10 +1,9 @@
-use Rattle.std.proofs.Common.{◌≡◌, ℕ, None, Some, List, length, drop, sym, ap, ◌∙◌}
+use Rattle.std.proofs.Common.{◌≡◌, None, Some, length, drop, sym, ap, ◌∙◌}
 use Rattle.std.proofs.Common.{arith}
 use Rattle.std.proofs.lemmas.Bool.Decides.{nat_tests}
 use Rattle.std.proofs.lemmas.Grind.{common_steps}
 use Rattle.lls_prooflog.specs.Lent.{hints_of}
 use Rattle.lls_prooflog.specs.Rat.{groups_of}
-use Rattle.lls_lit.specs.Literal.{negation}
 use Rattle.lls_lrat.proofs.Groups.{first_lacking, first_lacking-permuted, by_lacking-empty, by_lacking-some, pivot_told, with_pivot}
 use Rattle.lls_lrat.proofs.pivot.check_pivot.Goals as goal
 

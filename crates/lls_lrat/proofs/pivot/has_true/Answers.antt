@@ -1,4 +1,4 @@
-use Rattle.std.proofs.Common.{◌≡◌, Bool, true, not, get_or, sym, ap, ◌∙◌, int_eq}
+use Rattle.std.proofs.Common.{Bool, not, sym, ap, ◌∙◌, int_eq}
 use Rattle.std.specs.Prelude.{ℤ}
 use Rattle.lls_lit.specs.Literal.{negation}
 use Rattle.lls_prooflog.specs.UnitWalk.{is_among}

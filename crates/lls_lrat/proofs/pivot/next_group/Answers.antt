@@ -1,10 +1,10 @@
-use Rattle.std.proofs.Common.{◌≡◌, ◌<◌, ℕ, Some, List, get_or, sym, ◌∙◌, w64, arith}
-use Rattle.std.specs.Prelude.{ℤ, pos, slice_get}
+use Rattle.std.proofs.Common.{sym, ◌∙◌, w64, arith}
+use Rattle.std.specs.Prelude.{pos}
 use Rattle.std.proofs.lemmas.Option.{get_or_from_slice_get}
 use mir.Val.{to_z, of_z}
 use Rattle.lls_prooflog.specs.Lent.{hints_of}
 use Rattle.lls_prooflog.proofs.PrintedNumbers.{same_number}
-use Rattle.lls_lrat.proofs.Walked.{passes_none, passes_on, next_here, next_at_end}
+use Rattle.lls_lrat.proofs.Walked.{passes_none, passes_on, next_here}
 use Rattle.lls_lrat.proofs.pivot.next_group.Goals as goal
 
 pub loop-k-init : goal.loop-k-init

@@ -1,16 +1,13 @@
-use Rattle.std.proofs.Common.{◌≡◌, ◌<◌, ◌≤◌, ◌^◌, w64, ℕ, true, false, None, Some, Err, List, [], ◌∷◌, ◌++◌, length, drop, get_or, refl, sym, ap, ◌∙◌, arith}
+use Rattle.std.proofs.Common.{◌≡◌, ◌<◌, ◌^◌, w64, ℕ, Some, List, [], get_or, refl, sym, ap, ◌∙◌, arith}
 use Rattle.std.specs.Prelude.{ℤ, pos, slice_get}
 use Rattle.std.proofs.lemmas.List.{append-nil}
 use Rattle.std.proofs.lemmas.Option.{get_or_from_slice_get}
-use Rattle.lls_lit.specs.Literal.{variable_of, negation}
 use mir.Val.{to_z, of_z}
 use lib.Signed.{mag}
 use Rattle.lls_prooflog.specs.Lent.{hints_of}
 use Rattle.lls_prooflog.proofs.PrintedNumbers.{same_number}
 use Rattle.lls_prooflog.specs.UnitWalk.{find_clause}
-use Rattle.lls_lrat.specs.Walked.{EndsAs, walk_from}
-use Rattle.lls_lrat.specs.Entered.{AssumedState}
-use Rattle.lls_lrat.proofs.Walked.{follows_none, stays_here, stays_at_end, stops_without, closes_here, stops_here, follows_on, next_here, next_at_end}
+use Rattle.lls_lrat.proofs.Walked.{follows_none, stays_here, stops_without, closes_here, stops_here, follows_on, next_here}
 use Rattle.lls_lrat.proofs.Within.{found_within, variable_of-negation}
 use Rattle.lls_lrat.proofs.walk.follow_hints.Goals as goal
 

@@ -18,7 +18,7 @@ use Rattle.lls_watch.specs.Visiting.{leading_on}
 use Rattle.lls_watch.specs.Propagating.{IsOnItsWay}
 use Rattle.lls_watch.proofs.Followed.{followed}
 use Rattle.lls_watch.proofs.Led.{length_first_led, way_drops}
-use Rattle.lls_watch.proofs.Meeting.{HasCome, comes, dropped_shorter, kept_shorter, meets, met_edge, met_visitable, met_within, way_edge}
+use Rattle.lls_watch.proofs.Meeting.{HasCome, comes, dropped_shorter, kept_shorter, meets, met_edge, met_visitable, way_edge}
 use Rattle.lls_watch.proofs.Moving.{can_rewatch}
 use Rattle.lls_watch.proofs.OnItsWay.{way_moves}
 use Rattle.lls_watch.proofs.Steps.{way_begins, way_ends}

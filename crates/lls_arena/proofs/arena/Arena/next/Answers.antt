@@ -1,11 +1,9 @@
-use Rattle.std.proofs.Common.{◌≡◌, ◌<◌, Bool, true, false, cond, length, get_or, ap, ◌∙◌, refl, arith}
+use Rattle.std.proofs.Common.{◌≡◌, ◌<◌, length, get_or, ap, arith}
 use Rattle.std.proofs.lemmas.List.{get_or_default}
-use Rattle.lls_arena.specs.declared.edges.Edge.{Edge}
-use Rattle.lls_arena.specs.declared.edges.Edges.{Edges}
 use Rattle.lls_arena.specs.Links.{no_pair, side_in}
 use Rattle.lls_arena.specs.Arena.{ArenaState}
 use Rattle.lls_arena.specs.Parts.{spans_in}
-use Rattle.lls_arena.proofs.Heads.{inside, link_at, same_length, watched_literal}
+use Rattle.lls_arena.proofs.Heads.{inside, link_at, same_length}
 use Rattle.lls_arena.proofs.arena.Arena.next.Goals as goal
 
 pub named-requires-clause-within : goal.named-requires-clause-within

@@ -1,4 +1,4 @@
-use Rattle.std.proofs.Common.{length, ap, ◌∙◌, arith}
+use Rattle.std.proofs.Common.{length, ap, arith}
 use Rattle.lls_arena.specs.Parts.{AreTold, spans_in}
 use Rattle.lls_arena.proofs.Heads.{same_length}
 use Rattle.lls_arena.proofs.Told.{AreAllWatched-told, unlinked-told}

@@ -5,7 +5,7 @@ use Rattle.lls_arena.specs.declared.edges.Edges.{Edges}
 use Rattle.lls_arena.specs.Links.{no_pair, side_in}
 use Rattle.lls_arena.specs.Arena.{ArenaState}
 use Rattle.lls_arena.specs.Parts.{spans_in}
-use Rattle.lls_arena.proofs.Heads.{inside, link_at, same_length, watched_literal}
+use Rattle.lls_arena.proofs.Heads.{inside, same_length, watched_literal}
 use Rattle.lls_arena.proofs.arena.Arena.watched_by.Goals as goal
 
 pub named-requires-clause-within : goal.named-requires-clause-within

@@ -1,6 +1,4 @@
-use Rattle.std.proofs.Common.{◌≡◌, ◌<◌, ◌≤◌, ◌/◌, List, length, ap, sym, refl, ◌∙◌, arith}
-use Rattle.std.specs.Prelude.{vec_capacity}
-use Rattle.lls_arena.specs.declared.edges.Edges.{Edges}
+use Rattle.std.proofs.Common.{◌<◌, length, ap, arith}
 use Rattle.lls_arena.specs.Links.{EdgeTableState, pairs_in}
 use Rattle.lls_arena.proofs.Paired.{AreTwos, both_stand}
 use Rattle.lls_arena.proofs.edge_table.EdgeTable.both.Goals as goal

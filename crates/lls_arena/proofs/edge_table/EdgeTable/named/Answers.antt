@@ -1,4 +1,4 @@
-use Rattle.std.proofs.Common.{◌≡◌, ◌<◌, length, ap, sym, subst, arith}
+use Rattle.std.proofs.Common.{◌<◌, length, ap, arith}
 use Rattle.lls_arena.specs.Links.{EdgeTableState, pairs_in, side_in}
 use Rattle.lls_arena.proofs.Paired.{AreTwos, stands}
 use Rattle.lls_arena.proofs.edge_table.EdgeTable.named.Goals as goal

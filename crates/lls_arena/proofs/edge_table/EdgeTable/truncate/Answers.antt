@@ -1,7 +1,6 @@
-use Rattle.std.proofs.Common.{◌≡◌, ◌<◌, ◌≤◌, ◌/◌, List, length, ap, sym, refl, ◌∙◌, arith}
+use Rattle.std.proofs.Common.{◌/◌, List, ap, refl}
 use Rattle.std.specs.Prelude.{vec_capacity}
 use Rattle.lls_arena.specs.declared.edges.Edges.{Edges}
-use Rattle.lls_arena.specs.Links.{EdgeTableState, pairs_in}
 use Rattle.lls_arena.proofs.Paired.{AreTwos, pairs_taken, twos_taken}
 use Rattle.lls_arena.proofs.edge_table.EdgeTable.truncate.Goals as goal
 

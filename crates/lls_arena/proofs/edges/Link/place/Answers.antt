@@ -1,4 +1,3 @@
-use Rattle.std.proofs.Common.{◌≡◌, ◌<◌, zero, suc, ap, arith}
 use Rattle.lls_arena.proofs.Paired.{named_place}
 use Rattle.lls_arena.proofs.edges.Link.place.Goals as goal
 

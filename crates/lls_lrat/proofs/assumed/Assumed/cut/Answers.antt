@@ -1,4 +1,4 @@
-use Rattle.std.proofs.Common.{◌≡◌, take, ap, ◌∙◌}
+use Rattle.std.proofs.Common.{take, ap, ◌∙◌}
 use Rattle.lls_lrat.specs.Entered.{AssumedState, lits_of}
 use Rattle.lls_lrat.proofs.Entries.{same_state, lits_of-take}
 use Rattle.lls_lrat.proofs.assumed.Assumed.cut.Goals as goal

@@ -1,4 +1,4 @@
-use Rattle.std.proofs.Common.{sym, ap, ◌∙◌}
+use Rattle.std.proofs.Common.{ap, ◌∙◌}
 use Rattle.lls_prooflog.specs.UnitWalk.{is_among}
 use Rattle.lls_lrat.specs.Entered.{AssumedState}
 use Rattle.lls_lrat.proofs.Entries.{among_entered}

@@ -1,4 +1,4 @@
-use Rattle.std.proofs.Common.{◌≡◌, ◌≤◌, not, ap}
+use Rattle.std.proofs.Common.{◌≤◌, not, ap}
 use Rattle.lls_lit.specs.Literal.{variable_of}
 use Rattle.lls_lrat.specs.Entered.{AssumedState}
 use Rattle.lls_lrat.proofs.Entries.{AreEntered-put}

@@ -1,4 +1,4 @@
-use Rattle.std.proofs.Common.{sym, ap, subst}
+use Rattle.std.proofs.Common.{sym, subst}
 use Rattle.lls_lrat.specs.Hinted.{LiveParts}
 use Rattle.lls_lrat.specs.Occurring.{IsCounted}
 use Rattle.lls_lrat.proofs.Occurring.{IsCounted-push}

@@ -1,6 +1,6 @@
-use Rattle.std.proofs.Common.{◌≡◌, ℕ, Some, None, sym, ap, ◌∙◌}
+use Rattle.std.proofs.Common.{ℕ, sym, ap, ◌∙◌}
 use Rattle.std.specs.Prelude.{find}
-use Rattle.std.specs.Option.{option_map, option_or}
+use Rattle.std.specs.Option.{option_map}
 use Rattle.lls_lit.specs.Formula.{Clause}
 use Rattle.lls_lrat.specs.Hinted.{LiveParts}
 use Rattle.lls_lrat.specs.Grouped.{is_lacking}
