@@ -1,12 +1,14 @@
 #!/usr/bin/env python3
-"""Gives a solver's proof its hints: reads clauses that follow by unit propagation, prints LRAT additions.
+"""Gives a solver's proof its hints: reads clauses that follow by unit propagation or stand by their first literal, prints LRAT.
 
     hints.py [--text | --binary] FORMULA PROOF
 
-FORMULA is DIMACS CNF, PROOF a DRUP proof in text or binary, with or without deletions, as `cadical --plain FORMULA PROOF` writes it.
+FORMULA is DIMACS CNF, PROOF a DRAT proof in text or binary, with or without deletions, as `cadical FORMULA PROOF` writes it.
 Which of the two it is, the first ten bytes tell, as in drat-trim, unless a word says so. Printed are the clauses that the empty
-clause rests on. One of them that doesn't follow by unit propagation ends the run with exit status 1 and its line, as does a proof
-that comes to no contradiction. On a terminal, and for a proof that takes over a minute, the standard error says how long it takes.
+clause rests on, and where one of them stands by its first literal alone (RAT), what is deleted too, since each clause that is there
+with the negation of that literal has to be looked at. A clause that stands in neither way ends the run with exit status 1 and its
+line, as does a proof that comes to no contradiction. On a terminal, and for a proof that takes over a minute, the standard error
+says how long it takes.
 
 Nothing has to be trusted here: `lls check` checks what is printed. The clauses are all read first and then looked at from the last
 one to the first, so that only those are checked that are needed (Goldberg, Novikov, Verification of proofs of unsatisfiability for
@@ -65,7 +67,12 @@ class Propagation:
     def __init__(self, variables):
         size = 2 * variables + 1
         self.clauses = [()]
+        # As they were given, since the watched literals of `clauses` move to the front.
+        self.given = [()]
+        self.is_live = [False]
         self.is_core = [False]
+        # Where each literal stands, once somebody asks.
+        self.places = None
         # Which clauses watch a literal: those that are needed, and the others.
         self.core = [[] for _ in range(size)]
         self.rest = [[] for _ in range(size)]
@@ -81,6 +88,8 @@ class Propagation:
         clause = list(dict.fromkeys(literals))
         index = len(self.clauses)
         self.clauses.append(clause)
+        self.given.append(literals)
+        self.is_live.append(True)
         self.is_core.append(False)
         # Literals that aren't false come first, so that they are watched.
         clause.sort(key=self.is_false.__getitem__)
@@ -109,6 +118,14 @@ class Propagation:
             watches = self.core if self.is_core[index] else self.rest
             watches[clause[0]].remove(index)
             watches[clause[1]].remove(index)
+
+    def take_out(self, index):
+        self.unwatch(index)
+        self.is_live[index] = False
+
+    def put_back(self, index):
+        self.watch(index)
+        self.is_live[index] = True
 
     def is_reason(self, index):
         clause = self.clauses[index]
@@ -202,11 +219,37 @@ class Propagation:
                     ids.append(reason)
                     needed.update(clauses[reason])
         for index in ids:
-            if not self.is_core[index]:
-                self.unwatch(index)
-                self.is_core[index] = True
-                self.watch(index)
+            self.need(index)
         return ids[::-1]
+
+    def need(self, index):
+        """A clause is needed from now on, and goes before those that aren't."""
+        if not self.is_core[index]:
+            self.unwatch(index)
+            self.is_core[index] = True
+            self.watch(index)
+
+    def live_with(self, literal):
+        """Returns the ids of the live clauses that have a literal."""
+        if self.places is None:
+            self.places = {}
+            for index, clause in enumerate(self.given):
+                for other in dict.fromkeys(clause):
+                    self.places.setdefault(other, []).append(index)
+        return [index for index in self.places.get(literal, ()) if self.is_live[index]]
+
+    def groups(self, clause):
+        """Returns what shows that a clause may stand by its first literal, or None. For each live clause with the negation of that
+        literal: minus its id, and the ids that lead from the negation of both to a conflict, where they don't exclude each other."""
+        ids = []
+        for index in self.live_with(-clause[0]):
+            others = [literal for literal in self.given[index] if literal != -clause[0]]
+            behind = [] if any(-literal in clause for literal in others) else self.hints(list(clause) + others)
+            if behind is None:
+                return None
+            self.need(index)
+            ids += [-index, *behind]
+        return ids
 
 
 def literals_of(words, where):
@@ -293,7 +336,7 @@ def replay(state, formula, steps):
         elif ids.get(key) and not state.is_reason(ids[key][-1]):
             # What something follows from stays, and so does what isn't there: more clauses only help.
             index = ids[key].pop()
-            state.unwatch(index)
+            state.take_out(index)
             done.append((step, index, 0))
     if not state.refuted:
         raise BadProof("the proof is unfinished: its clauses come to no contradiction")
@@ -301,7 +344,8 @@ def replay(state, formula, steps):
 
 
 def needed_lines(state, done, progress):
-    """Returns the lines of LRAT, the last one first: of the empty clause, and of the clauses that it rests on."""
+    """Returns the lines of LRAT, the last one first: of the empty clause, of the clauses that it rests on, and of what is deleted, which
+    has no literals."""
     lines = [(len(state.clauses), [], state.chain(state.refuted))]
     # Deletions take no time, and come many at once.
     checked, additions = 0, sum(not step[1] for step, _, _ in done)
@@ -309,14 +353,17 @@ def needed_lines(state, done, progress):
     for step, index, length in reversed(done):
         where, is_deletion, literals = step
         if is_deletion:
-            state.watch(index)
+            state.put_back(index)
+            lines.append((index, None, [index]))
             continue
         state.undo(length)
-        state.unwatch(index)
+        state.take_out(index)
         if state.is_core[index]:
             ids = state.hints(literals)
             if ids is None:
-                raise BadProof(f"{where}: doesn't follow by unit propagation: {' '.join(map(str, literals))}")
+                ids = state.groups(literals)
+            if ids is None:
+                raise BadProof(f"{where}: stands neither by unit propagation nor by its first literal: {' '.join(map(str, literals))}")
             lines.append((index, literals, ids))
         checked += 1
         progress.reach(checked, additions)
@@ -333,10 +380,27 @@ def hinted(formula, proof, has_bits=None):
         largest = max(max(map(abs, clause), default=0) for clause in clauses + [step[2] for step in steps] + [[]])
         state = Propagation(largest)
         done = replay(state, clauses, steps)
-        lines = needed_lines(state, done, progress)
+        lines = needed_lines(state, done, progress)[::-1]
     finally:
         progress.end()
-    return [" ".join(map(str, [index, *clause, 0, *ids, 0])) for index, clause, ids in reversed(lines)]
+    return [text_of(line) for line in shortened(lines, len(clauses))]
+
+
+def shortened(lines, count):
+    """Leaves out the deletions of clauses that aren't there: those that are neither of a formula's `count` nor added by a line. Without
+    a line that stands by its first literal no deletion is needed, and what a solver deletes to save memory may stay."""
+    # Unit propagation leads to the empty clause of the formula at the least, so it has some hint, and the first is positive.
+    has_pivots = any(clause is not None and (not ids or ids[0] < 0) for _, clause, ids in lines)
+    added = {index for index, clause, _ in lines if clause is not None}
+    for line in lines:
+        index, clause, _ = line
+        if clause is not None or (has_pivots and (index <= count or index in added)):
+            yield line
+
+
+def text_of(line):
+    index, clause, ids = line
+    return " ".join(map(str, [index, "d", *ids, 0] if clause is None else [index, *clause, 0, *ids, 0]))
 
 
 def content(path):

@@ -5,6 +5,7 @@
 
 Takes a few seconds and needs neither the proved program nor a solver: both are played by scripts. What is expected was worked out by hand.
 """
+import itertools
 import os
 import shutil
 import subprocess
@@ -13,10 +14,15 @@ import tempfile
 import unittest
 
 import hints
+import pivots
 
 TOP = os.path.dirname(os.path.dirname(os.path.abspath(__file__)))
+# Both signs of 1 are refused, the positive one by what unit propagation doesn't see.
+SIX = "p cnf 4 6\n1 2 3 0\n1 2 -3 0\n1 -2 3 0\n1 -2 -3 0\n-1 4 0\n-1 -4 0\n"
 # Each way to give three variables a sign, so that nothing is left; the clauses 1 to 8.
 EIGHT = "p cnf 3 8\n1 2 3 0\n1 2 -3 0\n1 -2 3 0\n1 -2 -3 0\n-1 2 3 0\n-1 2 -3 0\n-1 -2 3 0\n-1 -2 -3 0\n"
+# And four variables.
+SIXTEEN = "p cnf 4 16\n" + "".join(f"{a} {b} {c} {d} 0\n" for a in (1, -1) for b in (2, -2) for c in (3, -3) for d in (4, -4))
 # Clauses are taken out once they are of no more use.
 PROOF = "1 2 0\nd 3 2 1 0\nd 1 2 -3 0\n1 -2 0\n1 0\nd 1 2 0\n2 0\n0\n"
 BINARY = b"a\2\4\0d\6\4\2\0d\2\4\7\0a\2\5\0a\2\0d\2\4\0a\4\0a\0"
@@ -42,7 +48,8 @@ def parts_of(line):
 
 
 def first_fault(formula, lines):
-    """Returns the first line of LRAT that the rules refuse, or None where they all hold and the empty clause is the last."""
+    """Returns the first line of LRAT that the rules of unit propagation refuse, or None where they all hold and the empty clause is the
+    last."""
     clauses = dict(enumerate(map(set, formula), 1))
     for line in lines:
         index, literals, ids = parts_of(line)
@@ -57,6 +64,32 @@ def first_fault(formula, lines):
             return line
         clauses[index] = set(literals)
     return None if not literals else "no empty clause"
+
+
+def cooks_proof(holes):
+    """Returns that one more pigeon than holes doesn't fit, as a formula, and a short proof that leaves out one hole and one pigeon after
+    another (Cook, A short proof of the pigeon hole principle using extended resolution, 1976), without hints."""
+    names = {}
+
+    def sits(level, pigeon, hole):
+        return names.setdefault((level, pigeon, hole), len(names) + 1)
+
+    formula = [[sits(holes, pigeon, hole) for hole in range(holes)] for pigeon in range(holes + 1)]
+    formula += [[-sits(holes, a, hole), -sits(holes, b, hole)] for hole in range(holes) for b in range(holes + 1) for a in range(b)]
+    count, proof = len(names), []
+    for k in range(holes, 1, -1):
+        # In the smaller question a pigeon sits in a hole where it did, or where it sat in the last hole and the last pigeon here.
+        for pigeon, hole in itertools.product(range(k), range(k - 1)):
+            new, old, aside, last = sits(k - 1, pigeon, hole), sits(k, pigeon, hole), sits(k, pigeon, k - 1), sits(k, k, hole)
+            proof += [[new, -old], [new, -aside, -last], [-new, old, aside], [-new, old, last]]
+        proof += [[sits(k - 1, pigeon, hole) for hole in range(k - 1)] for pigeon in range(k)]
+        for hole, b in itertools.product(range(k - 1), range(k)):
+            for a in range(b):
+                both = [-sits(k - 1, a, hole), -sits(k - 1, b, hole)]
+                proof += [[*both, sits(k, a, hole)], both]
+    proof.append([])
+    text = "".join(" ".join(map(str, [*clause, 0])) + "\n" for clause in formula)
+    return f"p cnf {count} {len(formula)}\n{text}", "".join(" ".join(map(str, [*clause, 0])) + "\n" for clause in proof)
 
 
 class Scratch(unittest.TestCase):
@@ -117,11 +150,44 @@ class Hints(Scratch):
             self.assertIsNone(first_fault(hints.read_formula(formula), hints.hinted(formula, proof.encode())))
 
     def test_lemmas_that_arent_implied(self):
-        self.refused("line 2: doesn't follow by unit propagation: 1", "c\n1 0\n2 0\n0\n")
-        self.refused("step 1 of the binary proof: doesn't follow by unit propagation: 1", b"a\2\0a\4\0a\0")
+        neither = "stands neither by unit propagation nor by its first literal"
+        self.refused(f"line 2: {neither}: 1", "c\n1 0\n2 0\n0\n", formula=SIX)
+        self.refused(f"step 1 of the binary proof: {neither}: 1", b"a\2\0a\4\0a\0", formula=SIX)
         # Without the clause that it needs, which is gone by then.
-        self.refused("line 2: doesn't follow by unit propagation: 1 2", PROOF.replace("1 2 0\nd 3 2 1 0\n", "d 3 2 1 0\n1 2 0\n"))
+        self.refused(f"line 2: {neither}: 1 2", PROOF.replace("1 2 0\nd 3 2 1 0\n", "d 3 2 1 0\n1 2 0\n"))
         self.refused("line 1: the empty clause doesn't follow by unit propagation", "0\n")
+
+    # A variable 5 of the proof's own, true just where 1 and 2 are, which is refuted. What follows needs it, since clauses of the formula go.
+    DEFINED = (
+        "5 -1 -2 0\n-5 1 0\n-5 2 0\n-5 3 0\n-5 0\nd -1 -2 3 4 0\nd -1 -2 3 -4 0\nd -1 -2 -3 4 0\nd -1 -2 -3 -4 0\n"
+        "1 2 3 0\n1 2 0\n1 -2 3 0\n1 -2 0\n1 0\n3 0\n0\n"
+    )
+
+    def check_by_pivots(self, formula, proof):
+        """Returns the lines of LRAT, which the rules accept as tools/pivots.py has them."""
+        status, out, err = self.hinted(proof, formula=formula)
+        self.assertEqual((status, err), (0, ""))
+        lines = [line.split() for line in out.splitlines()]
+        steps = [list(map(int, line[2:-1])) if line[1] == "d" else parts_of(" ".join(line)) for line in lines]
+        self.assertEqual(pivots.answer(hints.read_formula(formula.encode()), steps), "accepted")
+        return out.splitlines()
+
+    def test_lemmas_that_stand_by_their_first_literal(self):
+        lines = self.check_by_pivots(SIXTEEN, self.DEFINED)
+        self.assertEqual(lines[:3], ["17 5 -1 -2 0 0", "18 -5 1 0 -17 0", "19 -5 2 0 -17 0"])
+        self.assertEqual(lines[5:9], ["13 d 13 0", "14 d 14 0", "15 d 15 0", "16 d 16 0"])
+
+    def test_pigeons_by_extension(self):
+        for holes in (3, 6):
+            formula, proof = cooks_proof(holes)
+            lines = self.check_by_pivots(formula, proof)
+            self.assertTrue(any(" 0 -" in line for line in lines))
+
+    def test_a_first_literal_whose_negation_is_deleted(self):
+        formula = SIXTEEN.replace("4 16", "8 17") + "5 8 0\n"
+        lines = self.check_by_pivots(formula, "d 8 5 0\n" + self.DEFINED)
+        self.assertEqual(lines[:3], ["17 d 17 0", "18 5 -1 -2 0 0", "19 -5 1 0 -18 0"])
+        self.refused("line 3: stands neither by unit propagation nor by its first literal: -5 2", self.DEFINED, formula=formula)
 
     def test_unfinished_proofs(self):
         unfinished = "the proof is unfinished: its clauses come to no contradiction"
@@ -190,7 +256,7 @@ esac
 
     # Where CaDiCaL is asked for its help, it says its options.
     CADICAL = 'case "$*" in --help) exit 0 ;; esac\n'
-    ABSENCE = CADICAL + f"printf '{PROOF}' > \"$5\"\necho 's UNSATISFIABLE'\nexit 20"
+    ABSENCE = CADICAL + f"printf '{PROOF}' > \"$4\"\necho 's UNSATISFIABLE'\nexit 20"
 
     def test_model(self):
         status, out, said = self.solved("cadical", self.CADICAL + "echo 's SATISFIABLE'; echo 'v 1 -2 3 0'; exit 10", "--period", "1")
@@ -218,7 +284,7 @@ esac
         self.assertIsNone(first_fault(hints.read_formula(EIGHT.encode()), self.read("out.lrat").splitlines()))
 
     def test_lrat_is_taken_as_it_is(self):
-        script = 'case "$*" in --help) echo "  --lrat=bool"; exit 0 ;; *--lrat*) echo "9 0 1 0" > "$6" ;; esac\nexit 20'
+        script = 'case "$*" in --help) echo "  --lrat=bool"; exit 0 ;; *--lrat*) echo "9 0 1 0" > "$5" ;; esac\nexit 20'
         self.assertEqual(self.solved("cadical", script)[:2], (20, "no pattern\n"))
         self.assertEqual(self.read("out.lrat"), "9 0 1 0\n")
 
@@ -235,10 +301,10 @@ esac
 
     def test_a_wrong_proof_is_no_answer(self):
         self.write("out.lrat", "what was there")
-        status, out, said = self.solved("cadical", self.ABSENCE.replace("1 2 0", "2 0", 1))
-        fault = "the solver's proof: line 1: doesn't follow by unit propagation: 2"
+        status, out, said = self.solved("cadical", self.ABSENCE.replace("1 2 0\nd 3 2 1 0\n", "d 3 2 1 0\n1 2 0\n", 1))
+        fault = "the solver's proof: line 2: stands neither by unit propagation nor by its first literal: 1 2"
         self.assertEqual((status, out, said[-1]), (1, "", fault))
-        script = 'case "$*" in --help) echo --lrat; exit 0 ;; esac\necho "14 0 1 0" > "$6"\nexit 20'
+        script = 'case "$*" in --help) echo --lrat; exit 0 ;; esac\necho "14 0 1 0" > "$5"\nexit 20'
         status, out, said = self.solved("cadical", script)
         self.assertEqual((status, out, said[-1]), (1, "", "`lls check` doesn't take the proof: refused: NoEmpty"))
         self.assertEqual(self.read("out.lrat"), "what was there")

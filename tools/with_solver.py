@@ -81,7 +81,7 @@ class Question:
 
 def cadical(program, formula, proof):
     has_lrat = "--lrat" in run(program, "--help")[1]
-    options = ["-q", "--plain", "--no-binary", *["--lrat"] * has_lrat]
+    options = ["-q", "--no-binary", *["--lrat"] * has_lrat]
     return (*run(program, *options, formula, proof), "lrat" if has_lrat else "drat")
 
 
