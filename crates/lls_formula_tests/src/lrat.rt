@@ -88,7 +88,10 @@ fn proofs_are_accepted_or_refused_as_worked(rt: HostRuntime) -> Result<(), Fail>
 // Proofs over the clauses 1 2, 1 -2, -1 2 and -1 -2. Each but those for the empty clause begins with a clause of a new variable.
 const PIVOTS: [(&str, &str); 17] = [
     ("5 3 0 0\n6 1 0 1 2 0\n7 0 6 3 4 0", "accepted"),
-    ("5 3 0 0\n6 -3 1 0 -5 1 2 0\n7 1 0 1 2 0\n8 0 7 3 4 0", "accepted"),
+    (
+        "5 3 0 0\n6 -3 1 0 -5 1 2 0\n7 1 0 1 2 0\n8 0 7 3 4 0",
+        "accepted",
+    ),
     ("5 3 0 0\n6 -3 1 0 -5 0", "NoConflict 2"),
     ("5 3 0 0\n6 -3 1 0 -1 0", "RatOther 2 1"),
     ("5 3 0 0\n6 3 1 0 0\n7 -3 1 0 -5 1 2 0", "RatMissing 3 6"),
