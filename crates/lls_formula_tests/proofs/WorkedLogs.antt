@@ -40,7 +40,7 @@ unrefuted hints positive e = closed_not_refuted [] (live_after searched one_lear
 pub one_learnt_spent : IsSpent searched one_learnt 1
 one_learnt_spent = record {
   budgeted = refl;
-  good = (refl, tt);
+  good = (record { positive = refl; good = refl }, tt);
   additions = (record { fresh = first_fresh; some = omega arith; once = refl; within = refl }, tt);
   deletions = (tt, tt);
   further = further;
