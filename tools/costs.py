@@ -3,8 +3,8 @@
 
     costs.py COMMAND WORD..
 
-Runs the command, usually `rt ci`, and looks each half second at the processes of the prover. Prints a table on standard error when the
-command ends, and ends with its status. A process that lives shorter than half a second isn't seen.
+Runs the command, usually `rt ci`, and looks each half second at the processes of the prover that it began, and no others. Prints a table
+on standard error when the command ends, and ends with its status. A process that lives shorter than half a second isn't seen.
 """
 import os
 import subprocess
@@ -24,21 +24,35 @@ def kind_of(pid, words):
     return "tests" if "--test" in words else "proof"
 
 
-def look(seen):
-    """Notes the processor seconds of each process of the prover, by process, crate and kind."""
+def fields_of(pid):
+    """Returns what the system says of a process behind its name: its parent is the 2nd field, its start the 20th."""
+    with open(f"/proc/{pid}/stat", encoding="utf-8", errors="replace") as file:
+        return file.read().rpartition(")")[2].split()
+
+
+def is_below(pid, top):
+    """Says whether a process was begun by `top`, or by one that was."""
+    while pid > 1:
+        if pid == top:
+            return True
+        pid = int(fields_of(pid)[1])
+    return False
+
+
+def look(seen, top):
+    """Notes the processor seconds of each process of the prover below `top`, by process, crate and kind."""
     for pid in filter(str.isdigit, os.listdir("/proc")):
         try:
             with open(f"/proc/{pid}/cmdline", encoding="utf-8", errors="replace") as file:
                 words = file.read().split("\0")
-            if not words[0].endswith("/rattle") or "--crate-name" not in words:
+            if not words[0].endswith("/rattle") or "--crate-name" not in words or not is_below(int(pid), top):
                 continue
             crate = words[words.index("--crate-name") + 1]
             kind = kind_of(pid, words)
-            with open(f"/proc/{pid}/stat", encoding="utf-8", errors="replace") as file:
-                fields = file.read().rpartition(")")[2].split()
+            fields = fields_of(pid)
         except (OSError, IndexError):
             continue
-        # Behind the name: user and system time are the 12th and 13th fields, the start is the 20th.
+        # User and system time are the 12th and 13th fields.
         seen[pid, fields[19], crate, kind] = (int(fields[11]) + int(fields[12])) / TICKS
 
 
@@ -61,7 +75,7 @@ def main():
     seen, start = {}, time.time()
     running = subprocess.Popen(words)
     while running.poll() is None:
-        look(seen)
+        look(seen, running.pid)
         time.sleep(0.5)
     for line in table(seen):
         print(line, file=sys.stderr)
