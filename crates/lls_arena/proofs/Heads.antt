@@ -183,6 +183,17 @@ literal_inside arena lits es spans k i s is watched lt at_span long =
     let short : i < length (slice_range lits s.start s.end) = long (head_at lits e s) (ap (λ (heads : List HeadState). slice_get heads k) (sym is) ∙ read) in
     omega (arith, short, length-take (s.end - s.start) (drop s.start lits))
 
+-- a literal of a clause that is known
+pub literal_read : (arena : ArenaState) (lits : List ℤ) (es : List Edges) (spans : List SpanState) (k i : ℕ) (s : SpanState) (l : ℤ) → heads_in lits es spans ≡ arena.heads → AreAllWatched lits es spans → k < length spans → s ≡ get_or spans k s
+    → s.start + i < s.end → s.end ≤ length lits → l ≡ get_or lits (s.start + i) (pos 0)
+    → IfSome (slice_get arena.heads k) (λ head. slice_get head.lits i ≡ Some l)
+literal_read arena lits es spans k i s l is watched lt at_span within fits read =
+    let e = get_or es k no_edges in
+    let at_edges : e ≡ get_or es k e = get_or_default es k no_edges e (omega (arith, same_length lits es spans watched)) in
+    let found : slice_get arena.heads k ≡ Some (head_at lits e s) = ap (λ (heads : List HeadState). slice_get heads k) (sym is) ∙ slice_get-heads_in lits es spans k e s watched lt at_edges at_span in
+    let short : i < length (slice_range lits s.start s.end) = omega (arith, within, fits, length-take (s.end - s.start) (drop s.start lits), length-drop s.start lits) in
+    rw found ((slice_get-slice_range lits s.start s.end i short).1 ∙ ap Some (sym read))
+
 abbrev pub arena_of : List HeadState → List ℤ → ℕ → ℕ → Bool → ArenaState
 arena_of heads tail spare_heads spare_lits planned = record { heads = heads; tail = tail; spare_heads = spare_heads; spare_lits = spare_lits; planned = planned }
 

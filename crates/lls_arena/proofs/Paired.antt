@@ -1,7 +1,8 @@
 -- Edges that stand beside each other in one list.
 use Rattle.std.proofs.Common.{◌≡◌, ℕ, zero, suc, ◌+◌, ◌*◌, ◌<◌, Bool, true, false, cond, List, [], ◌∷◌, ◌++◌, length, get_or, set, take, refl, sym, ap, ◌∙◌, arith}
-use Rattle.std.specs.Prelude.{ℤ, ◌-◌, ◌/◌, ◌%◌, ◌==◌, Some}
-use Rattle.std.proofs.Common.{inl, inr}
+use Rattle.std.specs.Prelude.{ℤ, ◌-◌, ◌/◌, ◌%◌, ◌==◌, not, None, Option, Some}
+use Rattle.std.proofs.Common.{inl, inr, add-one}
+use lib.Bits.{bit_xor, xor_block, xor_zero_r}
 use Rattle.std.proofs.lemmas.Bool.Decides.{eqb_tells}
 use Rattle.std.proofs.lemmas.List.{get_or_default, length-set, length-take, length_push}
 use Rattle.lls_arena.specs.declared.edges.Link.{Link}
@@ -132,3 +133,51 @@ named_place (suc p) c is =
     let same : p / 2 ≡ c = cc in
     let at : suc p - 1 ≡ p = omega arith in
     at ∙ remainder p ∙ ap (λ n. 2 * n + place_of (p % 2 == 1)) same
+
+-- a number with its last bit turned
+flipped : (a r : ℕ) → r < 2 → bit_xor (a * 2 + r) 1 ≡ a * 2 + bit_xor r 1
+flipped a r h = xor_block 1 a 0 r 1 h (omega arith) ∙ ap (λ n. n * 2 + bit_xor r 1) (xor_zero_r a)
+
+pub turned : (p : ℕ) → bit_xor p 1 ≡ 2 * (p / 2) + place_of (not (p % 2 == 1))
+turned p = elim (eqb_tells (p % 2) 1) [
+  | inl t ↦
+      let is : p ≡ p / 2 * 2 + 1 = omega (arith, t.1) in
+      rw t.0 (ap (λ n. bit_xor n 1) is ∙ flipped (p / 2) 1 (omega arith) ∙ omega arith)
+  | inr t ↦
+      let is : p ≡ p / 2 * 2 + 0 = omega (arith, t.1) in
+      rw t.0 (ap (λ n. bit_xor n 1) is ∙ flipped (p / 2) 0 (omega arith) ∙ omega arith)
+]
+
+half : (k : ℕ) (b : Bool) → (2 * k + place_of b) / 2 ≡ k
+half k true = omega arith
+half k false = omega arith
+
+second_at : (k : ℕ) (b : Bool) → ((2 * k + place_of b) % 2 == 1) ≡ b
+second_at k true =
+    let odd : (2 * k + 1) % 2 ≡ 1 = omega arith in
+    rw odd refl
+second_at k false =
+    let even : (2 * k + 0) % 2 ≡ 0 = omega arith in
+    rw even refl
+
+-- the link to the other edge of the same clause
+pub beside_linked : (after : ℕ) → 0 < after → linked (bit_xor (after - 1) 1 + 1) ≡ linked after
+beside_linked zero some = absurd (omega (arith, some))
+beside_linked (suc p) some =
+    let at : suc p - 1 ≡ p = omega arith in
+    rw (at, add-one) (ap Some (ap (λ n. n / 2) (turned p) ∙ half (p / 2) (not (p % 2 == 1))))
+
+pub beside_named : (after : ℕ) → 0 < after → second_named (bit_xor (after - 1) 1 + 1) ≡ not (second_named after)
+beside_named zero some = absurd (omega (arith, some))
+beside_named (suc p) some =
+    let at : suc p - 1 ≡ p = omega arith in
+    rw (at, add-one) (ap (λ n. n % 2 == 1) (turned p) ∙ second_at (p / 2) (not (p % 2 == 1)))
+
+pub some_link : (after : ℕ) → (linked after ≡ None → ⊥) → 0 < after
+some_link zero leads = absurd (leads refl)
+some_link (suc p) leads = omega arith
+
+-- a link that leads somewhere leads to a clause
+pub led_to : (o : Option ℕ) → (o ≡ None → ⊥) → (k : ℕ) × (o ≡ Some k)
+led_to None leads = absurd (leads refl)
+led_to (Some k) leads = (k, refl)

@@ -192,21 +192,35 @@ impl Arena {
         self.planned = false;
     }
 
-    /// Puts the literal of a live clause's first edge, or of its second where `w`, and the one at place n in each other's place. The edge
-    /// watches the one that came. The other edge's literal isn't at n.
+    /// Gives the edge that a link names another link, written without a step between. A dead clause's too.
     #[inline]
-    pub fn swap(&mut self, c: u32, w: bool, n: usize)
+    pub fn set_next(&mut self, link: Link, next: Link)
+        requires leads { link_in link ≢ None }
+        requires within { ForSome (link_in link) (λ c. c < length self.old.heads) }
+        ensures { ForSome (link_in link) (λ c. self.new ≡ record self.old { heads = changed_at (with_link (side_in link) (link_in next)) c self.old.heads; planned = false }) }
+    {
+        self.edges.lead(link, next);
+        self.planned = false;
+    }
+
+    /// Puts the literal of a live clause's first edge, or of its second where `w`, and the one at place n in each other's place. The edge
+    /// watches the one that came, which it answers. The other edge's literal isn't at n.
+    #[inline]
+    pub fn swap(&mut self, c: u32, w: bool, n: usize) -> Lit
         requires live { IsLive self.old.heads c }
         requires first { ForSome (slice_get self.old.heads c) (λ head. place_of w < length head.lits) }
         requires second { ForSome (slice_get self.old.heads c) (λ head. n < length head.lits) }
         requires beside { n ≢ place_of (not w) }
-        ensures { self.new ≡ record self.old { heads = changed_at (swapped (place_of w) n) c self.old.heads } }
+        ensures state { self.new ≡ record self.old { heads = changed_at (swapped (place_of w) n) c self.old.heads } }
+        ensures came { IfSome (slice_get self.old.heads c) (λ head. slice_get head.lits n ≡ Some result) }
     {
         let start = self.spans[c as usize].start as usize;
         let here = start + place(w);
-        self.lits.swap(here, start + n);
-        let lit = self.lits[here];
+        let there = start + n;
+        let lit = self.lits[there];
+        self.lits.swap(here, there);
         self.edges.watch(c, w, lit);
+        lit
     }
 
     /// Makes a live clause dead.

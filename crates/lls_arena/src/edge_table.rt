@@ -78,6 +78,16 @@ impl EdgeTable {
         self.edges[place_in(c, w)].next = next;
     }
 
+    // Gives the edge that a link names another link, written at its place.
+    #[inline]
+    pub(crate) fn lead(&mut self, link: Link, next: Link)
+        requires leads { link_in link ≢ None }
+        requires within { ForSome (link_in link) (λ c. c < length self.old.pairs) }
+        ensures { ForSome (link_in link) (λ c. self.new ≡ record self.old { pairs = slice_set self.old.pairs c (with_next (side_in link) next (slice_index_or self.old.pairs c no_pair)) }) }
+    {
+        self.edges[link.place()].next = next;
+    }
+
     // Has an edge watch another literal.
     #[inline]
     pub(crate) fn watch(&mut self, c: u32, w: bool, lit: Lit)

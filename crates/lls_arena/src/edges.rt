@@ -1,6 +1,6 @@
 // The hot part of a clause.
 ghost use Rattle.std.specs.Option.{ForSome};
-ghost use Rattle.std.specs.Prelude.{◌≡◌, ◌≢◌, ◌<◌, ◌+◌, ◌*◌, pos, length, slice_index_or, None, Some};
+ghost use Rattle.std.specs.Prelude.{◌≡◌, ◌≢◌, ◌<◌, ◌+◌, ◌*◌, not, pos, length, slice_index_or, None, Some};
 ghost use Rattle.lls_arena.specs.declared.TheConstants.{MOST_HEADS};
 ghost use Rattle.lls_arena.specs.Arena.{place_of};
 ghost use Rattle.lls_arena.specs.Links.{link_in, side_in};
@@ -69,6 +69,19 @@ impl Link {
         ensures { result ≡ side_in self }
     {
         self.after.wrapping_sub(1) % 2 == 1
+    }
+
+    /// To the other edge of the same clause.
+    #[inline]
+    pub fn beside(self) -> Link
+        requires leads { link_in self ≢ None }
+        requires few { ForSome (link_in self) (λ c. c < MOST_HEADS) }
+        ensures clause { link_in result ≡ link_in self }
+        ensures side { side_in result ≡ not (side_in self) }
+    {
+        Link {
+            after: ((self.after - 1) ^ 1) + 1,
+        }
     }
 
     // Where the edge stands in a table of two edges a clause.

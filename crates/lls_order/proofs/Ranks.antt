@@ -1,5 +1,5 @@
 -- Ranks of variables, and what they say.
-use Rattle.std.proofs.Common.{◌≡◌, ◌≢◌, ℕ, zero, suc, true, ◌+◌, ◌-◌, ◌*◌, ◌<◌, ◌≤◌, List, length, get_or, set, refl, ap, ◌⊎◌, inl, inr, arith}
+use Rattle.std.proofs.Common.{◌≡◌, ◌≢◌, ℕ, zero, suc, true, ◌+◌, ◌-◌, ◌*◌, ◌<◌, ◌≤◌, List, length, get_or, set, refl, sym, ap, ◌⊎◌, inl, inr, arith}
 use Rattle.std.specs.Prelude.{◌↔◌, nat_lt}
 use Rattle.std.proofs.lemmas.Bool.{cases_lt}
 use Rattle.std.proofs.lemmas.Bool.Decides.{nat_tests}
@@ -80,3 +80,35 @@ compared activities v w v_some w_some v_fits w_fits = (
   λ is. from_rank activities v w v_some w_some v_fits w_fits (below_of (rank_of activities w) (rank_of activities v) is),
   λ before. is_below (rank_of activities w) (rank_of activities v) (to_rank activities v w v_some w_some v_fits w_fits before),
 )
+
+same_test : (a b m n : ℕ) → (a < b → m < n) → (b ≤ a → n ≤ m) → nat_lt a b ≡ nat_lt m n
+same_test a b m n less le = elim (cases_lt a b) [
+  | inl lower ↦ let more : m < n = less lower in grind (arith, nat_tests)
+  | inr ge ↦ let no_more : n ≤ m = le ge in grind (arith, nat_tests)
+]
+
+-- the test of two ranks, told without them: by the activities where they differ, else by the numbers
+pub told_by_activity : (activities : List ℕ) (v w : ℕ) → 0 < v → 0 < w → v ≤ MOST → w ≤ MOST → get_or activities (v - 1) 0 ≢ get_or activities (w - 1) 0
+    → nat_lt (get_or activities (w - 1) 0) (get_or activities (v - 1) 0) ≡ nat_lt (rank_of activities w) (rank_of activities v)
+told_by_activity activities v w v_some w_some v_fits w_fits differ =
+    same_test (get_or activities (w - 1) 0) (get_or activities (v - 1) 0) (rank_of activities w) (rank_of activities v)
+    (λ lower. to_rank activities v w v_some w_some v_fits w_fits (inl lower))
+    (λ ge. below_or_same (to_rank activities w v w_some v_some w_fits v_fits (inl (strictly ge))))
+  where
+    strictly : get_or activities (v - 1) 0 ≤ get_or activities (w - 1) 0 → get_or activities (v - 1) 0 < get_or activities (w - 1) 0
+    strictly ge = omega (arith, ge, differ)
+
+    below_or_same : {a b : ℕ} → a < b → a ≤ b
+    below_or_same less = omega (arith, less)
+
+pub told_by_number : (activities : List ℕ) (v w : ℕ) → 0 < v → 0 < w → v ≤ MOST → w ≤ MOST → get_or activities (v - 1) 0 ≡ get_or activities (w - 1) 0
+    → nat_lt v w ≡ nat_lt (rank_of activities w) (rank_of activities v)
+told_by_number activities v w v_some w_some v_fits w_fits same =
+    same_test v w (rank_of activities w) (rank_of activities v)
+    (λ lower. to_rank activities v w v_some w_some v_fits w_fits (inr (sym same, lower)))
+    (λ ge. omega (arith, rank_of-variable activities v v_some, rank_of-variable activities w w_some, same, ge, v_fits))
+
+pub told_by_none : (activities : List ℕ) (v w : ℕ) → 0 < v → v ≤ MOST → w ≡ 0 → true ≡ nat_lt (rank_of activities w) (rank_of activities v)
+told_by_none activities v w v_some v_fits none =
+    let less : rank_of activities w < rank_of activities v = omega (arith, ap (rank_of activities) none, rank_of-variable activities v v_some, v_fits) in
+    grind (arith, nat_tests)

@@ -4,8 +4,8 @@ ghost use Rattle.lls_order.specs.Order.{activity_of, is_in, ComesBefore, IsEmpty
 ghost use Rattle.lls_order.specs.Changes.{bumped, halved, new_order, put_in, raised, taken_out};
 
 use crate::queue::{
-    cursor_behind, first_inside, foremost, greater_numbers, halve_all, lesser_numbers,
-    link_by_rank, raise, rank,
+    cursor_behind, first_inside, foremost, greater_numbers, halve_all, is_greater, lesser_numbers,
+    link_by_rank, raise,
 };
 use lls_base::Memory;
 use lls_lit::Var;
@@ -81,7 +81,7 @@ impl Order {
         requires second { second ≤ self.now.vars }
         ensures { (result ≡ true) ↔ ComesBefore self.now first second }
     {
-        rank(&self.activities, first.number()) > rank(&self.activities, second.number())
+        is_greater(&self.activities, first, second.number())
     }
 
     /// Takes out the variable of the greatest activity, of equal ones the least: None exactly where none is in.
@@ -106,9 +106,8 @@ impl Order {
         ensures put_in { self.new ≡ put_in self.old var }
         ensures stands { is_in self.new var ≡ true }
     {
-        let number = var.number();
-        self.inside[number as usize - 1] = true;
-        self.cursor = foremost(&self.activities, number, self.cursor);
+        self.inside[var.index()] = true;
+        self.cursor = foremost(&self.activities, var, self.cursor);
     }
 
     /// Adds a whole number of at least 1, which the order chooses, to a variable's activity: the greatest that was given, and
@@ -142,14 +141,13 @@ impl Order {
         requires room { self.old.top < MOST_ACTIVITY }
         ensures { self.new ≡ raised self.old var }
     {
-        let number = var.number();
-        self.cursor = cursor_behind(&self.inside, &self.previous, self.cursor, number);
+        self.cursor = cursor_behind(&self.inside, &self.previous, self.cursor, var);
         self.top += 1;
         raise(
             &mut self.activities,
             &mut self.previous,
             &mut self.next,
-            number,
+            var,
             self.top,
         );
     }

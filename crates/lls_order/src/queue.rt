@@ -1,7 +1,8 @@
 //! A queue of the variables by rank, as a ring of links in two tables: from each to the next of lesser rank, and to that of
 //! greater. 0, which is no variable, stands between the last and the first.
-ghost use Rattle.std.specs.Prelude.{◌≡◌, ℕ, ◌+◌, ◌-◌, ◌<◌, ◌≤◌, ◌/◌, ◌⊎◌, length, map, slice_index, slice_set, true, IfOk};
+ghost use Rattle.std.specs.Prelude.{◌≡◌, ℕ, ◌+◌, ◌-◌, ◌<◌, ◌≤◌, ◌/◌, ◌⊎◌, length, map, nat_lt, slice_index, slice_set, true, IfOk};
 ghost use Rattle.std.specs.List.Sorted.{IsNonDecreasingBy, IsPermutation};
+ghost use Rattle.lls_lit.specs.Literal.{IsVariable};
 ghost use Rattle.lls_order.specs.Queue.{AreInRing, AreLinks, HasEach, IsCursor, IsPrevious, cursor_moved, next_moved, previous_moved, rank_of, stands_in};
 
 use lls_base::Memory;
@@ -20,16 +21,41 @@ pub(crate) fn rank(activities: &[u64], number: u32) -> u128
     u128::from(activity) * u128::from(Var::MOST) + u128::from(Var::MOST.saturating_sub(index))
 }
 
-/// Of two numbers the one of greater rank.
-pub(crate) fn foremost(activities: &[u64], one: u32, other: u32) -> u32
-    ensures among { (result ≡ one) ⊎ (result ≡ other) }
-    ensures one { rank_of activities.now one ≤ rank_of activities.now result }
-    ensures other { rank_of activities.now other ≤ rank_of activities.now result }
+/// Whether a variable is of greater rank than another one, or than 0. It is told without a rank, since a search asks it for each
+/// value that it takes back.
+pub(crate) fn is_greater(activities: &[u64], var: Var, other: u32) -> bool
+    requires var { var ≤ length activities.now }
+    requires other { other ≤ length activities.now }
+    requires few { length activities.now ≤ Var.MOST }
+    ensures greater { result ≡ nat_lt (rank_of activities.now other) (rank_of activities.now var) }
+    ensures variable { IsVariable var }
 {
-    if rank(activities, one) < rank(activities, other) {
-        other
+    let own = activities[var.index()];
+    let Some(other) = Var::from_number(other) else {
+        return true;
+    };
+    let its = activities[other.index()];
+    if own == its {
+        var.number() < other.number()
     } else {
-        one
+        own > its
+    }
+}
+
+/// The variable's number or the other one: that of greater rank.
+pub(crate) fn foremost(activities: &[u64], var: Var, other: u32) -> u32
+    requires var { var ≤ length activities.now }
+    requires other { other ≤ length activities.now }
+    requires few { length activities.now ≤ Var.MOST }
+    ensures among { (result ≡ var) ⊎ (result ≡ other) }
+    ensures var { rank_of activities.now var ≤ rank_of activities.now result }
+    ensures other { rank_of activities.now other ≤ rank_of activities.now result }
+    ensures variable { IsVariable var }
+{
+    if is_greater(activities, var, other) {
+        var.number()
+    } else {
+        other
     }
 }
 
@@ -88,19 +114,19 @@ pub(crate) fn raise(
     activities: &mut [u64],
     previous: &mut [u32],
     next: &mut [u32],
-    number: u32,
+    var: Var,
     activity: u64,
 )
-    requires some { 0 < number }
-    requires within { number ≤ length activities.old }
+    requires within { var ≤ length activities.old }
     requires few { length activities.old ≤ Var.MOST }
     requires greatest { (k : ℕ) → slice_index activities.old k < activity }
     requires links { AreLinks (rank_of activities.old) (length activities.old) previous.old next.old }
-    ensures activities { activities.new ≡ slice_set activities.old (number - 1) activity }
+    ensures variable { IsVariable var }
+    ensures activities { activities.new ≡ slice_set activities.old (var - 1) activity }
     ensures links { AreLinks (rank_of activities.new) (length activities.old) previous.new next.new }
 {
-    activities[number as usize - 1] = activity;
-    move_last(previous, next, number);
+    activities[var.index()] = activity;
+    move_last(previous, next, var.number());
 }
 
 /// Halves all activities, rounding down.
@@ -173,16 +199,15 @@ pub(crate) fn first_inside(_activities: &[u64], inside: &[bool], previous: &[u32
 }
 
 /// Where the search for the first variable that is in begins once this one is the last of the ring.
-pub(crate) fn cursor_behind(inside: &[bool], previous: &[u32], cursor: u32, number: u32) -> u32
-    requires some { 0 < number }
-    requires within { number ≤ length inside.now }
+pub(crate) fn cursor_behind(inside: &[bool], previous: &[u32], cursor: u32, var: Var) -> u32
+    requires within { var ≤ length inside.now }
     requires previous_each { length previous.now ≡ length inside.now + 1 }
-    ensures { result ≡ cursor_moved inside.now previous.now cursor number }
+    ensures { result ≡ cursor_moved inside.now previous.now cursor var }
 {
-    if inside[number as usize - 1] {
-        number
-    } else if cursor == number {
-        previous[number as usize]
+    if inside[var.index()] {
+        var.number()
+    } else if cursor == var.number() {
+        previous[cursor as usize]
     } else {
         cursor
     }

@@ -1,5 +1,5 @@
 -- What one clause's visit makes of a walk, case by case.
-use Rattle.std.proofs.Common.{◌≡◌, ◌≤◌, ◌<◌, ◌*◌, zero, suc, ℕ, ℤ, pos, Bool, true, false, not, ◌||◌, List, [], ◌∷◌, ◌++◌, Option, Some, None, refl, sym, ap, ◌∙◌, subst, arith, length, inl}
+use Rattle.std.proofs.Common.{◌≡◌, ◌≤◌, ◌<◌, ◌*◌, zero, suc, ℕ, ℤ, pos, Bool, true, false, not, ◌||◌, List, [], ◌∷◌, ◌++◌, Option, Some, None, refl, sym, ap, ◌∙◌, subst, arith, length, ◌⊎◌}
 use Rattle.std.specs.Prelude.{slice_get, slice_index_or}
 use Rattle.std.specs.Option.{option_map}
 use Rattle.std.specs.Ordering.{int_eq}
@@ -26,8 +26,8 @@ use Rattle.lls_watch.specs.Propagating.{IsOnItsWay}
 use Rattle.lls_watch.proofs.Meeting.{HasCome}
 use Rattle.lls_watch.proofs.Moving.{IsMoving, relinked_led}
 use Rattle.lls_watch.proofs.Passed.{has_at}
-use Rattle.lls_watch.proofs.Steps.{way_forces, way_keeps, way_marked}
-use Rattle.lls_watch.proofs.Visited.{forced_by, offset_marked, visited_one}
+use Rattle.lls_watch.proofs.Steps.{way_forces, way_keeps}
+use Rattle.lls_watch.proofs.Visited.{forced_by, visited_one}
 
 -- where a false literal stands
 pub record StandsFalse (trail : TrailState) (k : ℕ) (lit : ℤ) : Type 0 where
@@ -95,9 +95,9 @@ forced_true (x ∷ es) e = later (int_eq x.lit e.lit) (forced_true es e)
     later true is = refl
     later false is = is
 
--- and offsets a false one of the current level
-pub offset_forced : (es : List Entry) (e : Entry) (mark : Option ℕ) (place level : ℕ) → e.level ≤ level → IsOffset (es ++ e ∷ []) mark place level e.lit
-offset_forced es e mark place level low = record { at = length es; entry = e; found = at_end es; is_true = refl; in_time = inl low }
+-- and offsets a false one of the current level, and one whose place is marked
+pub offset_forced : (es : List Entry) (e : Entry) (mark : Option ℕ) (place level : ℕ) → (e.level ≤ level) ⊎ IsMarked mark place → IsOffset (es ++ e ∷ []) mark place level e.lit
+offset_forced es e mark place level in_time = record { at = length es; entry = e; found = at_end es; is_true = refl; in_time = in_time }
   where
     at_end : (xs : List Entry) → slice_get (xs ++ e ∷ []) (length xs) ≡ Some e
     at_end [] = refl
@@ -111,19 +111,6 @@ pub turn_keeps : (before now : WatchState) (start trail : TrailState) (progress 
 turn_keeps before now start trail progress lit last c w next way come offset =
     way_keeps before now start trail progress lit last c next way come.leads
     (visited_one now.arena.heads trail.entries progress way.entry.level lit c come.leads.head w come.leads.is_head come.watches offset)
-
--- and the mark is lowered
-pub turn_marks : (before now : WatchState) (start trail : TrailState) (progress new : Progress) (lit : ℤ) (last : Option ℕ) (c : ℕ) (w : Bool) (next : Option ℕ)
-    → IsOnItsWay before now start trail progress lit last (Some c) → (come : HasCome now trail.vars lit c w next)
-    → Has trail.entries (watched (not w) come.leads.head)
-    → new.passed ≡ progress.passed → IsMarked new.mark progress.passed → ((place : ℕ) → IsMarked progress.mark place → IsMarked new.mark place)
-    → IsOnItsWay before now start trail new lit (Some c) next
-turn_marks before now start trail progress new lit last c w next way come is_true passed marked lower =
-    let low = way_marked before now start trail progress lit last (Some c) new.mark lower way in
-    let kept =
-    turn_keeps before now start trail (record progress { mark = new.mark }) lit last c w next low come
-    (offset_marked trail.entries new.mark progress.passed low.entry.level (watched (not w) come.leads.head) is_true marked) in
-    subst (λ k. IsOnItsWay before now start trail (record { passed = k; mark = new.mark }) lit (Some c) next) (sym passed) kept
 
 -- the clause forces its other watched literal
 pub turn_forces : (before now : WatchState) (start trail : TrailState) (progress : Progress) (lit : ℤ) (last : Option ℕ) (c : ℕ) (w : Bool) (next : Option ℕ) (other : ℤ)

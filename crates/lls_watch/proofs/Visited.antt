@@ -25,7 +25,7 @@ offset_marked es mark place level other is_true marked =
     record { at = at.place; entry = at.entry; found = at.found; is_true = at.is_it; in_time = inr marked }
 
 -- and where the false one is of the current level
-pub offset_in_time : (trail : TrailState) (mark : Option ℕ) (place level : ℕ) (other : ℤ) → IsTrail trail → trail.current ≤ level → Has trail.entries other → IsOffset trail.entries mark place level other
+offset_in_time : (trail : TrailState) (mark : Option ℕ) (place level : ℕ) (other : ℤ) → IsTrail trail → trail.current ≤ level → Has trail.entries other → IsOffset trail.entries mark place level other
 offset_in_time trail mark place level other kept high is_true =
     let at = entry_at trail.entries other is_true in
     record {
@@ -35,6 +35,11 @@ offset_in_time trail mark place level other kept high is_true =
       is_true = at.is_it;
       in_time = inl (omega (arith, level_most 0 trail.entries at.place at.entry kept.levels at.found, kept.current, high));
     }
+
+-- so it is in either case
+pub offset_here : (trail : TrailState) (mark : Option ℕ) (place level : ℕ) (other : ℤ) → IsTrail trail → (trail.current ≤ level) ⊎ IsMarked mark place → Has trail.entries other → IsOffset trail.entries mark place level other
+offset_here trail mark place level other kept (inl high) is_true = offset_in_time trail mark place level other kept high is_true
+offset_here trail mark place level other kept (inr marked) is_true = offset_marked trail.entries mark place level other is_true marked
 
 -- one clause alone was visited
 pub visited_one : (heads : List HeadState) (es : List Entry) (progress : Progress) (level : ℕ) (lit : ℤ) (c : ℕ) (head : HeadState) (w : Bool) → slice_get heads c ≡ Some head → watched w head ≡ lit

@@ -81,9 +81,13 @@ pub record WatchesAt (state : WatchState) (c : ℕ) (w : Bool) : Type 0 where
   pub watching : IsWatching head
   pub within : index_of (watched w head) < length state.first
 
+-- the literal of a clause's edge
+abbrev pub literal_of : WatchState → ℕ → Bool → ℤ
+literal_of state c w = option_map_or (watched w) (slice_get state.arena.heads c) (pos 0)
+
 -- which list the edge belongs to
 abbrev pub list_of : WatchState → ℕ → Bool → ℕ
-list_of state c w = index_of (option_map_or (watched w) (slice_get state.arena.heads c) (pos 0))
+list_of state c w = index_of (literal_of state c w)
 
 -- the clause is put before its edge's list
 abbrev pub attached : ℕ → Bool → WatchState → WatchState

@@ -1,9 +1,12 @@
 // A visit of a clause of which a watched literal became false.
-ghost use Rattle.std.specs.Prelude.{◌≡◌, true, slice_get, IfNone, IfSome, Some};
+ghost use Rattle.std.specs.Prelude.{◌≡◌, true, not, slice_get, IfNone, IfSome, Some};
 ghost use Rattle.lls_lit.specs.Formula.{is_within};
 ghost use Rattle.lls_arena.specs.Arena.{HeadState};
+ghost use Rattle.lls_arena.specs.Links.{side_in};
+ghost use Rattle.lls_watch.specs.Watches.{watched};
 ghost use Rattle.lls_watch.specs.Visit.{AreRestFalse, CanBeVisited, CanBeWatched, IsVisit};
 
+use crate::walk::Meeting;
 use lls_arena::Arena;
 use lls_lit::Lit;
 use lls_store::Trail;
@@ -25,22 +28,23 @@ pub(crate) enum Visit {
 
 // Looks at the other watched literal alone where that is true.
 #[inline]
-pub(crate) fn visit_clause(arena: &Arena, trail: &Trail, c: u32, w: bool) -> Visit
-    requires { CanBeVisited arena.now.heads trail.now.vars c }
-    ensures { (head : HeadState) → slice_get arena.now.heads c ≡ Some head → IsVisit head trail.now.entries w result }
+pub(crate) fn visit_clause(arena: &Arena, trail: &Trail, c: u32, met: &Meeting) -> Visit
+    requires clause { CanBeVisited arena.now.heads trail.now.vars c }
+    requires other { (head : HeadState) → slice_get arena.now.heads c ≡ Some head → met.now.other ≡ watched (not (side_in met.now.here)) head }
+    ensures { (head : HeadState) → slice_get arena.now.heads c ≡ Some head → IsVisit head trail.now.entries (side_in met.now.here) result }
 {
-    let other = arena.watched(c, !w);
-    let value = trail.value(other);
-    if value == Some(true) {
+    if trail.value(met.other) == Some(true) {
         return Visit::Kept;
     }
     if !arena.live(c) {
         return Visit::Dead;
     }
-    match watchable(arena.lits(c), trail, other) {
+    match watchable(arena.lits(c), trail, met.other) {
         Some(n) => Visit::Moves(n),
-        None if value.is_none() => Visit::Forces(other),
-        None => Visit::Falsified,
+        None => match trail.value(met.other) {
+            None => Visit::Forces(met.other),
+            Some(_) => Visit::Falsified,
+        },
     }
 }
 

@@ -1,12 +1,13 @@
 // A walk along the list of a literal.
-ghost use Rattle.std.specs.Prelude.{◌≡◌, ◌≤◌, ◌<◌, ◌+◌, ◌∷◌, ◌++◌, ℕ, List, length, map, slice_get, IfNone, IfSome, Some};
-ghost use Rattle.lls_lit.specs.Literal.{index_of, negation};
-ghost use Rattle.lls_store.specs.Trail.{literals_of};
+ghost use Rattle.std.specs.Prelude.{◌≡◌, ◌≤◌, ◌<◌, ◌+◌, ◌∷◌, ◌++◌, ◌⊎◌, ℕ, List, length, map, not, slice_get, IfNone, IfSome, Some};
+ghost use Rattle.lls_lit.specs.Literal.{IsLiteral, index_of, negation};
+ghost use Rattle.lls_store.specs.Trail.{Entry, literals_of};
 ghost use Rattle.lls_store.specs.Store.{GoesOn, IsConflict};
 ghost use Rattle.lls_arena.specs.Arena.{HeadState, link_of};
-ghost use Rattle.lls_arena.specs.Links.{link_in};
-ghost use Rattle.lls_watch.specs.Watches.{HasEdgeOf, IsThreaded, LeadsOn, Lists, side_of, with_list};
-ghost use Rattle.lls_watch.specs.Passed.{live_from};
+ghost use Rattle.lls_arena.specs.declared.TheConstants.{MOST_HEADS};
+ghost use Rattle.lls_arena.specs.Links.{link_in, side_in};
+ghost use Rattle.lls_watch.specs.Watches.{HasEdgeOf, IsThreaded, LeadsOn, Lists, side_of, watched, with_list};
+ghost use Rattle.lls_watch.specs.Passed.{IsMarked, live_from};
 ghost use Rattle.lls_watch.specs.Propagating.{ArePropagating, LookAlike};
 ghost use Rattle.lls_watch.specs.Visiting.{HasEdge, IsLast, leading_on};
 
@@ -20,26 +21,46 @@ use lls_store::Trail;
 // What a walk meets at a clause.
 #[derive(Clone, Copy, Debug)]
 pub(crate) struct Meeting {
-    // Whether the clause's second edge watches the literal, or the first.
-    pub(crate) w: bool,
-    // Where that edge leads.
+    // To the clause's edge that watches the literal.
+    pub(crate) here: Link,
+    // What its other edge watches.
+    pub(crate) other: Lit,
+    // Where the edge leads.
     pub(crate) next: Link,
 }
 
-// Meets the clause to which a link leads. The link names the edge that watches the literal, but no clause says so: what is read there
-// stands where it does, and a processor that foresees that goes on without knowing the clause.
+// Meets the clause to which a link leads.
 #[inline]
-fn meet(arena: &Arena, here: Link, c: u32, lit: Lit) -> Meeting
-    requires leads { link_in here ≡ Some c }
+fn meet(arena: &Arena, link: Link, c: u32, lit: Lit) -> Meeting
+    requires leads { link_in link ≡ Some c }
     requires edge { HasEdgeOf arena.now.heads lit c }
-    ensures side { (head : HeadState) → slice_get arena.now.heads c ≡ Some head → result.w ≡ side_of head lit }
-    ensures next { slice_get (map (link_of result.w) arena.now.heads) c ≡ Some (link_in result.next) }
+    ensures clause { link_in result.here ≡ Some c }
+    ensures side { (head : HeadState) → slice_get arena.now.heads c ≡ Some head → side_in result.here ≡ side_of head lit }
+    ensures other { (head : HeadState) → slice_get arena.now.heads c ≡ Some head → result.other ≡ watched (not (side_in result.here)) head }
+    ensures next { slice_get (map (link_of (side_in result.here)) arena.now.heads) c ≡ Some (link_in result.next) }
 {
-    if arena.watched_by(here) == lit {
-        Meeting {
-            w: here.is_second(),
-            next: arena.next(here),
-        }
+    let here = edge_with(arena, link, c, lit);
+    Meeting {
+        here,
+        other: arena.watched_by(here.beside()),
+        next: arena.next(here),
+    }
+}
+
+// The edge of a clause that watches the literal. It is the one that the link names, but no clause says so: what is read there stands
+// where it does, and a processor that foresees that goes on without knowing the clause.
+#[inline]
+fn edge_with(arena: &Arena, link: Link, c: u32, lit: Lit) -> Link
+    requires leads { link_in link ≡ Some c }
+    requires edge { HasEdgeOf arena.now.heads lit c }
+    ensures clause { link_in result ≡ Some c }
+    ensures side { (head : HeadState) → slice_get arena.now.heads c ≡ Some head → side_in result ≡ side_of head lit }
+    ensures few { c < MOST_HEADS }
+{
+    // So few clauses are there.
+    let _count = arena.count();
+    if arena.watched_by(link) == lit {
+        link
     } else {
         look(arena, c, lit)
     }
@@ -48,29 +69,13 @@ fn meet(arena: &Arena, here: Link, c: u32, lit: Lit) -> Meeting
 // It stands apart, since it never comes to it.
 #[cold]
 #[inline(never)]
-fn look(arena: &Arena, c: u32, lit: Lit) -> Meeting
+fn look(arena: &Arena, c: u32, lit: Lit) -> Link
     requires { HasEdgeOf arena.now.heads lit c }
-    ensures side { (head : HeadState) → slice_get arena.now.heads c ≡ Some head → result.w ≡ side_of head lit }
-    ensures next { slice_get (map (link_of result.w) arena.now.heads) c ≡ Some (link_in result.next) }
+    ensures clause { link_in result ≡ Some c }
+    ensures side { (head : HeadState) → slice_get arena.now.heads c ≡ Some head → side_in result ≡ side_of head lit }
 {
-    let w = arena.watched(c, true) == lit;
-    Meeting {
-        w,
-        next: arena.link(c, w),
-    }
-}
-
-// Which edge of a clause watches the literal, where a link named one of them. The link names the right one, but no clause says so.
-#[inline]
-fn side_at(arena: &Arena, c: u32, is_second: bool, lit: Lit) -> bool
-    requires { HasEdgeOf arena.now.heads lit c }
-    ensures { (head : HeadState) → slice_get arena.now.heads c ≡ Some head → result ≡ side_of head lit }
-{
-    if arena.watched(c, is_second) == lit {
-        is_second
-    } else {
-        look(arena, c, lit).w
-    }
+    let _count = arena.count();
+    Link::to(c, arena.watched(c, true) == lit)
 }
 
 // Has the last clause that was kept lead on, or the list begin, behind the clause that is taken out.
@@ -84,10 +89,26 @@ pub(crate) fn lead_on(watches: &mut Watches, lit: Lit, last: Link, next: Link)
 {
     match last.clause() {
         Some(p) => {
-            let w = side_at(watches.arena(), p, last.is_second(), lit);
-            watches.drop_next(p, w, next);
+            let edge = edge_with(watches.arena(), last, p, lit);
+            watches.drop_next(edge, next);
         }
         None => watches.drop_first(lit, next),
+    }
+}
+
+// Lowers the mark where the literal that became false at the first place that isn't passed did so below the current level: what is true
+// now may not be so once the trail is cut, and the literal still false.
+fn lower_if_late(trail: &Trail, progress: &mut Progress, lit: Lit)
+    requires lit { slice_get (literals_of trail.now.entries) progress.old.passed ≡ Some (negation lit) }
+    ensures literal { IsLiteral lit }
+    ensures passed { progress.new.passed ≡ progress.old.passed }
+    ensures kept { (place : ℕ) → IsMarked progress.old.mark place → IsMarked progress.new.mark place }
+    ensures in_time { (entry : Entry) → slice_get trail.now.entries progress.old.passed ≡ Some entry → (trail.now.current ≤ entry.level) ⊎ IsMarked progress.new.mark progress.old.passed }
+{
+    // What holds of every trail is known from here on.
+    let current = trail.current();
+    if trail.known_level(lit.var()) < current {
+        progress.lower();
     }
 }
 
@@ -109,35 +130,25 @@ pub(crate) fn visit_list(
     ensures alike { LookAlike watches.old watches.new }
 {
     // What holds of every trail is known from here on.
-    let current = trail.current();
-    let late = trail.known_level(lit.var()) < current;
+    let _level = trail.current();
+    lower_if_late(trail, progress, lit);
     let mut last = Link::nowhere();
     let mut next = watches.first(lit);
     while let Some(c) = next.clause() {
         // So it is of the trail as it has grown.
         let _len = trail.len();
-        let here = next;
-        let met = meet(watches.arena(), here, c, lit);
-        let w = met.w;
+        let met = meet(watches.arena(), next, c, lit);
         next = met.next;
-        match visit_clause(watches.arena(), trail, c, w) {
-            Visit::Kept => {
-                if late {
-                    progress.lower();
-                }
-                last = here;
-            }
+        match visit_clause(watches.arena(), trail, c, &met) {
+            Visit::Kept => last = met.here,
             Visit::Dead => lead_on(watches, lit, last, next),
             Visit::Moves(n) => {
                 lead_on(watches, lit, last, next);
-                watches.rewatch(c, w, n);
+                watches.rewatch(c, met.here, n);
             }
             Visit::Forces(other) => {
                 trail.force(other, c);
-                if late {
-                    progress.lower();
-                }
-                last = here;
+                last = met.here;
             }
             Visit::Falsified => return Some(c),
         }

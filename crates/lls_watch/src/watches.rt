@@ -1,10 +1,11 @@
 // Lists of the clauses that watch each literal.
 ghost use Rattle.std.specs.Prelude.{OnOk, take, ◌+◌, ◌-◌, ◌≡◌, ◌≢◌, ◌<◌, ◌≤◌, ◌*◌, ◌∷◌, ◌++◌, ℕ, ℤ, Bool, not, true, false, map, List, [], length, replicate, slice_get, slice_index_or, IfOk, IfSome, Option, None, Some};
 ghost use Rattle.lls_lit.specs.Literal.{index_of, literal_at};
-ghost use Rattle.lls_arena.specs.Links.{link_in};
+ghost use Rattle.std.specs.Option.{ForSome};
+ghost use Rattle.lls_arena.specs.Links.{link_in, side_in};
 ghost use Rattle.lls_arena.specs.Arena.{IsLive, changed_at, compacted, empty_arena, killed, place_of, sealed, unlinked};
 ghost use Rattle.lls_watch.specs.Anew.{AreLonger, BeginApart, CanBeListed, HasLists, IsRelinked};
-ghost use Rattle.lls_watch.specs.Watches.{AttachedAt, BeginsWith, CanBegin, CanRewatch, ComesAfter, HasLiteral, IsInNone, IsNotIn, IsThreaded, Lists, WatchesAt, begun, swapped_at, with_attached, with_begun, with_first, with_link_at, with_list};
+ghost use Rattle.lls_watch.specs.Watches.{AttachedAt, BeginsWith, CanBegin, CanRewatch, ComesAfter, HasLiteral, IsInNone, IsNotIn, IsThreaded, Lists, WatchesAt, begun, literal_of, swapped_at, with_attached, with_begun, with_first, with_link_at, with_list};
 
 use lls_arena::{Arena, Link};
 use lls_base::Memory;
@@ -183,9 +184,23 @@ impl Watches {
         ensures threaded { (lists : Lists) → IsThreaded self.old lists → IsNotIn lists self.old c w → IsThreaded self.new (with_attached lists self.old c w) }
     {
         let _count = self.arena.count();
-        let i = self.arena.watched(c, w).index();
-        self.arena.set_link(c, w, self.first[i]);
-        self.first[i] = Link::to(c, w);
+        let lit = self.arena.watched(c, w);
+        self.put_first(Link::to(c, w), lit);
+    }
+
+    // Puts the edge that a link names first in the list of the literal that it watches.
+    #[inline]
+    fn put_first(&mut self, edge: Link, lit: Lit)
+        requires leads { link_in edge ≢ None }
+        requires clause { ForSome (link_in edge) (λ c. WatchesAt self.old c (side_in edge)) }
+        requires lit { ForSome (link_in edge) (λ c. literal_of self.old c (side_in edge) ≡ lit) }
+        ensures state { ForSome (link_in edge) (λ c. AttachedAt c (side_in edge) self.old self.new) }
+        ensures threaded { ForSome (link_in edge) (λ c. (lists : Lists) → IsThreaded self.old lists → IsNotIn lists self.old c (side_in edge)
+            → IsThreaded self.new (with_attached lists self.old c (side_in edge))) }
+    {
+        let i = lit.index();
+        self.arena.set_next(edge, self.first[i]);
+        self.first[i] = edge;
     }
 
     /// Has a live clause that is in no list watch its first literal and the one at place n behind it, which becomes its second, and
@@ -212,30 +227,32 @@ impl Watches {
         self.first[lit.index()] = next;
     }
 
-    /// Takes the clause behind another one out of the list of that one's first literal, or of its second where `w`: the other one
-    /// leads to the next.
+    /// Takes the clause behind another one out of the list of the literal that this edge of the other one watches: the edge leads to the
+    /// next.
     #[inline]
-    pub fn drop_next(&mut self, p: u32, w: bool, next: Link)
-        requires { WatchesAt self.old p w }
-        ensures state { self.new ≡ with_link_at p w (link_in next) self.old }
-        ensures threaded { (lists : Lists) (lit : ℤ) (c : ℕ) (before cs : List ℕ) → IsThreaded self.old lists → HasLiteral self.old p w lit
-            → ComesAfter self.old lists lit p c (link_in next) before cs → IsThreaded self.new (with_list (index_of lit) (before ++ p ∷ cs) lists) }
+    pub fn drop_next(&mut self, edge: Link, next: Link)
+        requires leads { link_in edge ≢ None }
+        requires clause { ForSome (link_in edge) (λ p. WatchesAt self.old p (side_in edge)) }
+        ensures state { ForSome (link_in edge) (λ p. self.new ≡ with_link_at p (side_in edge) (link_in next) self.old) }
+        ensures threaded { ForSome (link_in edge) (λ p. (lists : Lists) (lit : ℤ) (c : ℕ) (before cs : List ℕ) → IsThreaded self.old lists → HasLiteral self.old p (side_in edge) lit
+            → ComesAfter self.old lists lit p c (link_in next) before cs → IsThreaded self.new (with_list (index_of lit) (before ++ p ∷ cs) lists)) }
     {
-        self.arena.set_link(p, w, next);
+        self.arena.set_next(edge, next);
     }
 
-    /// Watches another literal of a live clause, the one at place n behind the first two, in place of its first literal, or of its
-    /// second where `w`. The clause is to be out of the list of the literal that it watched, and is put first in the list of the other.
+    /// Watches another literal of a live clause, the one at place n behind the first two, in place of that which the edge watches that a
+    /// link names. The clause is to be out of the list of the literal that it watched, and is put first in the list of the other.
     #[inline]
-    pub fn rewatch(&mut self, c: u32, w: bool, n: usize)
+    pub fn rewatch(&mut self, c: u32, edge: Link, n: usize)
+        requires names { link_in edge ≡ Some c }
         requires live { IsLive self.old.arena.heads c }
-        requires clause { CanRewatch self.old c w n }
-        ensures state { AttachedAt c w (swapped_at self.old c w n) self.new }
-        ensures threaded { (lists : Lists) → IsThreaded self.old lists → IsNotIn lists self.old c w
-            → IsThreaded self.new (with_attached lists (swapped_at self.old c w n) c w) }
+        requires clause { CanRewatch self.old c (side_in edge) n }
+        ensures state { AttachedAt c (side_in edge) (swapped_at self.old c (side_in edge) n) self.new }
+        ensures threaded { (lists : Lists) → IsThreaded self.old lists → IsNotIn lists self.old c (side_in edge)
+            → IsThreaded self.new (with_attached lists (swapped_at self.old c (side_in edge) n) c (side_in edge)) }
     {
-        self.arena.swap(c, w, n);
-        self.attach(c, w);
+        let lit = self.arena.swap(c, edge.is_second(), n);
+        self.put_first(edge, lit);
     }
 }
 

@@ -1,16 +1,14 @@
-use Rattle.std.proofs.Common.{zero, suc, None, ◌++◌, ◌≡◌, ◌≤◌, ◌<◌, ℕ, Bool, true, false, not, length, List, Option, Some, None, refl, sym, ap, ◌∙◌, subst, arith, ◌∷◌, []}
-use Rattle.std.specs.Prelude.{◌≢◌, slice_get, slice_index_or, nat_lt, map}
-use Rattle.std.specs.Option.{IsSome, option_map}
-use Rattle.std.proofs.lemmas.Bool.Decides.{nat_tests}
+use Rattle.std.proofs.Common.{zero, suc, None, ◌++◌, ◌≡◌, ◌≤◌, ◌<◌, ℕ, Bool, true, false, not, length, List, Option, Some, None, sym, ◌∙◌, subst, arith, ◌∷◌, [], ◌⊎◌}
+use Rattle.std.specs.Prelude.{◌≢◌, slice_get, slice_index_or, map}
 use Rattle.std.proofs.lemmas.Option.{slice_get_within}
-use Rattle.lls_lit.specs.Literal.{IsLiteral, IsVariable, index_of, variable_of}
-use Rattle.lls_store.specs.Trail.{Has, Entry, TrailState, HasNegated, entry_of, level_of}
+use Rattle.lls_lit.specs.Literal.{IsLiteral, index_of, variable_of}
+use Rattle.lls_store.specs.Trail.{Entry, TrailState, HasNegated}
 use Rattle.lls_arena.specs.Arena.{ArenaState, HeadState, IsLive, link_of, place_of}
-use Rattle.lls_arena.specs.Links.{link_in}
+use Rattle.lls_arena.specs.Links.{link_in, side_in}
 use Rattle.lls_lit.proofs.Stamps.{index_within}
 use Rattle.lls_store.specs.Changes.{forced}
 use Rattle.lls_store.proofs.Tabled.{variable_bounds}
-use Rattle.lls_watch.specs.Passed.{IsOffset}
+use Rattle.lls_watch.specs.Passed.{IsMarked, IsOffset}
 use Rattle.lls_watch.specs.Visit.{CanBeVisited}
 use Rattle.lls_watch.proofs.Kept.{get_in_front}
 use Rattle.lls_watch.specs.Watches.{HasEdgeOf, side_of, IsWatching, AttachedAt, CanRewatch, IsNotIn, IsThreaded, Lists, WatchState, swapped_at, watched, with_attached, with_list}
@@ -21,37 +19,33 @@ use Rattle.lls_watch.proofs.Led.{length_first_led, way_drops}
 use Rattle.lls_watch.proofs.Meeting.{HasCome, comes, dropped_shorter, kept_shorter, meets, met_edge, met_visitable, way_edge}
 use Rattle.lls_watch.proofs.Moving.{can_rewatch}
 use Rattle.lls_watch.proofs.OnItsWay.{way_moves}
-use Rattle.lls_watch.proofs.Steps.{way_begins, way_ends}
-use Rattle.lls_watch.proofs.Turns.{has_list, moving_live, offset_forced, stands_false, turn_forces, turn_keeps, turn_marks, turn_moves, forced_true, way_false, within_at}
-use Rattle.lls_watch.proofs.Visited.{conflict_at, offset_in_time}
+use Rattle.lls_watch.proofs.Steps.{way_begins, way_ends, way_marked}
+use Rattle.lls_watch.proofs.Turns.{has_list, moving_live, offset_forced, stands_false, turn_forces, turn_keeps, turn_moves, way_false, within_at}
+use Rattle.lls_watch.proofs.Visited.{conflict_at, offset_here}
 use Rattle.lls_watch.proofs.walk.visit_list.Goals as goal
-
-pub known_level-requires : goal.known_level-requires
-known_level-requires c =
-    let false_at = stands_false c.args.trail.now c.args.progress.now.passed c.args.lit c.current-current.ensures.kept c.requires.lit in
-    subst (λ v. IsSome (entry_of c.args.trail.now.entries v)) (sym c.var.ensures.var) (subst IsSome (sym false_at.by_variable) refl)
 
 pub first-next-requires : goal.first-next-requires
 first-next-requires c =
-    let false_at = stands_false c.args.trail.now c.args.progress.now.passed c.args.lit c.current-current.ensures.kept c.requires.lit in
-    let literal : IsLiteral c.args.lit = subst IsVariable c.var.ensures.var c.var.ensures.variable in
+    let false_at = stands_false c.args.trail.now c.args.progress.now.passed c.args.lit c.current-level.ensures.kept c.requires.lit in
+    let literal : IsLiteral c.args.lit = c.lower_if_late.ensures.literal in
     subst (λ n. index_of c.args.lit < n) (sym c.requires.ready.fits.lists) (index_within c.args.lit c.args.trail.now.vars literal false_at.within)
 
 pub loop-c-init : goal.loop-c-init
 loop-c-init c =
-    let false_at = stands_false c.args.trail.now c.args.progress.now.passed c.args.lit c.current-current.ensures.kept c.requires.lit in
-    let literal : IsLiteral c.args.lit = subst IsVariable c.var.ensures.var c.var.ensures.variable in
+    let false_at = stands_false c.args.trail.now c.args.progress.now.passed c.args.lit c.current-level.ensures.kept c.requires.lit in
+    let literal : IsLiteral c.args.lit = c.lower_if_late.ensures.literal in
     let within : index_of c.args.lit < length c.args.watches.now.first = subst (λ n. index_of c.args.lit < n) (sym c.requires.ready.fits.lists) (index_within c.args.lit c.args.trail.now.vars literal false_at.within) in
     let begun = way_begins c.args.watches.now c.args.trail.now c.args.progress.now c.args.lit false_at.entry c.requires.ready literal within false_at.found false_at.is_false in
-    let first : slice_index_or c.args.watches.now.first (index_of c.args.lit) None ≡ link_in c.first-next.result = read_first c.args.watches.now.first (index_of c.args.lit) (link_in c.first-next.result) c.first-next.ensures in (
-      subst (λ o. IsOnItsWay c.args.watches.now c.args.watches.now c.args.trail.now c.args.trail.now c.args.progress.now c.args.lit o (link_in c.first-next.result)) (sym c.nowhere-last.ensures)
-          (subst (IsOnItsWay c.args.watches.now c.args.watches.now c.args.trail.now c.args.trail.now c.args.progress.now c.args.lit None) first begun),
-      refl,
-      λ e early found.
-          let level : Some c.known_level.result ≡ Some false_at.entry.level =
-          sym c.known_level.ensures ∙ ap (level_of c.args.trail.now.entries) c.var.ensures.var ∙ ap (option_map (λ (x : Entry). x.level)) false_at.by_variable in
-          let same : e ≡ false_at.entry = same_entry e false_at.entry (sym found ∙ false_at.found) in
-          grind (arith, nat_tests, early, same_number c.known_level.result false_at.entry.level level, ap (λ (x : Entry). x.level) same, c.current-current.ensures.current),
+    let first : slice_index_or c.args.watches.now.first (index_of c.args.lit) None ≡ link_in c.first-next.result = read_first c.args.watches.now.first (index_of c.args.lit) (link_in c.first-next.result) c.first-next.ensures in
+    let new = c.lower_if_late.new.progress in
+    let passed = c.lower_if_late.ensures.passed in
+    let low = way_marked c.args.watches.now c.args.watches.now c.args.trail.now c.args.trail.now c.args.progress.now c.args.lit None (link_in c.first-next.result) new.mark c.lower_if_late.ensures.kept
+    (subst (IsOnItsWay c.args.watches.now c.args.watches.now c.args.trail.now c.args.trail.now c.args.progress.now c.args.lit None) first begun) in
+    let lowered = subst (λ k. IsOnItsWay c.args.watches.now c.args.watches.now c.args.trail.now c.args.trail.now (record { passed = k; mark = new.mark }) c.args.lit None (link_in c.first-next.result)) (sym passed) low in (
+      subst (λ o. IsOnItsWay c.args.watches.now c.args.watches.now c.args.trail.now c.args.trail.now new c.args.lit o (link_in c.first-next.result)) (sym c.nowhere-last.ensures) lowered,
+      λ e found.
+          subst (λ k. (c.args.trail.now.current ≤ e.level) ⊎ IsMarked new.mark k) (sym passed)
+          (c.lower_if_late.ensures.in_time e (subst (λ k. slice_get c.args.trail.now.entries k ≡ Some e) passed found)),
     )
   where
     read_first : (xs : List (Option ℕ)) (k : ℕ) (x : Option ℕ) → slice_get xs k ≡ Some x → slice_index_or xs k None ≡ x
@@ -59,159 +53,113 @@ loop-c-init c =
     read_first (y ∷ ys) zero x found = cc
     read_first (y ∷ ys) (suc k) x found = read_first ys k x found
 
-    same_entry : (a b : Entry) → Some a ≡ Some b → a ≡ b
-    same_entry a b e = cc
-
-    same_number : (a b : ℕ) → Some a ≡ Some b → a ≡ b
-    same_number a b e = cc
-
 pub meet-met-requires-clause-edge : goal.meet-met-requires-clause-edge
 meet-met-requires-clause-edge c =
-    let way = subst (λ o. IsOnItsWay c.args.watches.now c.loop-c.watches c.args.trail.now c.loop-c.trail c.loop-c.progress c.args.lit (link_in c.loop-c.last) o) (sym c.clause.ensures ∙ c.in-Some.is) c.loop-c.invariant.0 in
-    let met = meets c.args.watches.now c.loop-c.watches c.args.trail.now c.loop-c.trail c.loop-c.progress c.args.lit (link_in c.loop-c.last) c.in-Some.c way in
+    let way = subst (λ o. IsOnItsWay c.args.watches.now c.loop-c.watches c.args.trail.now c.loop-c.trail c.lower_if_late.new.progress c.args.lit (link_in c.loop-c.last) o) (sym c.clause.ensures ∙ c.in-Some.is) c.loop-c.invariant.0 in
+    let met = meets c.args.watches.now c.loop-c.watches c.args.trail.now c.loop-c.trail c.lower_if_late.new.progress c.args.lit (link_in c.loop-c.last) c.in-Some.c way in
     subst (λ (a : ArenaState). HasEdgeOf a.heads c.args.lit c.in-Some.c) (sym c.arena.ensures) (met_edge c.loop-c.watches c.loop-c.trail.vars c.args.lit c.in-Some.c met)
 
-pub visit_clause-requires : goal.visit_clause-requires
-visit_clause-requires c =
-    let way = subst (λ o. IsOnItsWay c.args.watches.now c.loop-c.watches c.args.trail.now c.loop-c.trail c.loop-c.progress c.args.lit (link_in c.loop-c.last) o) (sym c.clause.ensures ∙ c.in-Some.is) c.loop-c.invariant.0 in
-    let met = meets c.args.watches.now c.loop-c.watches c.args.trail.now c.loop-c.trail c.loop-c.progress c.args.lit (link_in c.loop-c.last) c.in-Some.c way in
+pub visit_clause-requires-clause-clause : goal.visit_clause-requires-clause-clause
+visit_clause-requires-clause-clause c =
+    let way = subst (λ o. IsOnItsWay c.args.watches.now c.loop-c.watches c.args.trail.now c.loop-c.trail c.lower_if_late.new.progress c.args.lit (link_in c.loop-c.last) o) (sym c.clause.ensures ∙ c.in-Some.is) c.loop-c.invariant.0 in
+    let met = meets c.args.watches.now c.loop-c.watches c.args.trail.now c.loop-c.trail c.lower_if_late.new.progress c.args.lit (link_in c.loop-c.last) c.in-Some.c way in
     subst (λ (a : ArenaState). CanBeVisited a.heads c.loop-c.trail.vars c.in-Some.c) (sym c.arena-in-Some.ensures) (met_visitable c.loop-c.watches c.loop-c.trail.vars c.args.lit c.in-Some.c met)
 
-pub loop-c-smaller-then-late : goal.loop-c-smaller-then-late
-loop-c-smaller-then-late c =
-    let way = subst (λ o. IsOnItsWay c.args.watches.now c.loop-c.watches c.args.trail.now c.loop-c.trail c.loop-c.progress c.args.lit (link_in c.loop-c.last) o) (sym c.clause.ensures ∙ c.in-Some.is) c.loop-c.invariant.0 in
-    let met = meets c.args.watches.now c.loop-c.watches c.args.trail.now c.loop-c.trail c.loop-c.progress c.args.lit (link_in c.loop-c.last) c.in-Some.c way in
-    let side = subst (λ (a : ArenaState). (h : HeadState) → slice_get a.heads c.in-Some.c ≡ Some h → c.meet-met.result.w ≡ side_of h c.args.lit) c.arena.ensures c.meet-met.ensures.side in
-    let link = subst (λ (a : ArenaState). slice_get (map (link_of c.meet-met.result.w) a.heads) c.in-Some.c ≡ Some (link_in c.meet-met.result.next)) c.arena.ensures c.meet-met.ensures.next in
-    let come = comes c.loop-c.watches c.loop-c.trail.vars c.args.lit c.in-Some.c c.meet-met.result.w (link_in c.meet-met.result.next) met side link in
-    let found = subst (λ (a : ArenaState). slice_get a.heads c.in-Some.c ≡ Some come.leads.head) (sym c.arena-in-Some.ensures) come.leads.is_head in
-    let false_at = stands_false c.args.trail.now c.args.progress.now.passed c.args.lit c.current-current.ensures.kept c.requires.lit in
-    let literal : IsLiteral c.args.lit = subst IsVariable c.var.ensures.var c.var.ensures.variable in
-    let within : index_of c.args.lit < length c.loop-c.watches.first = has_list c.args.watches.now c.loop-c.watches c.args.trail.now c.loop-c.trail c.loop-c.progress c.args.lit (link_in c.loop-c.last) (link_in c.loop-c.next) c.args.lit c.loop-c.invariant.0 literal false_at.within in
-    subst (λ o. length (followed (length c.loop-c.watches.arena.heads) c.loop-c.watches.arena.heads c.args.lit (link_in c.meet-met.result.next)) < length (followed (length c.loop-c.watches.arena.heads) c.loop-c.watches.arena.heads c.args.lit o)) (sym (sym c.clause.ensures ∙ c.in-Some.is))
-    (kept_shorter c.args.watches.now c.loop-c.watches c.args.trail.now c.loop-c.trail c.loop-c.progress c.args.lit (link_in c.loop-c.last) c.in-Some.c (link_in c.meet-met.result.next) within way come.leads)
+pub visit_clause-requires-clause-other : goal.visit_clause-requires-clause-other
+visit_clause-requires-clause-other c = λ h found.
+    c.meet-met.ensures.other h (subst (λ (a : ArenaState). slice_get a.heads c.in-Some.c ≡ Some h) (c.arena-in-Some.ensures ∙ sym c.arena.ensures) found)
 
-pub loop-c-smaller-else-late : goal.loop-c-smaller-else-late
-loop-c-smaller-else-late c =
-    let way = subst (λ o. IsOnItsWay c.args.watches.now c.loop-c.watches c.args.trail.now c.loop-c.trail c.loop-c.progress c.args.lit (link_in c.loop-c.last) o) (sym c.clause.ensures ∙ c.in-Some.is) c.loop-c.invariant.0 in
-    let met = meets c.args.watches.now c.loop-c.watches c.args.trail.now c.loop-c.trail c.loop-c.progress c.args.lit (link_in c.loop-c.last) c.in-Some.c way in
-    let side = subst (λ (a : ArenaState). (h : HeadState) → slice_get a.heads c.in-Some.c ≡ Some h → c.meet-met.result.w ≡ side_of h c.args.lit) c.arena.ensures c.meet-met.ensures.side in
-    let link = subst (λ (a : ArenaState). slice_get (map (link_of c.meet-met.result.w) a.heads) c.in-Some.c ≡ Some (link_in c.meet-met.result.next)) c.arena.ensures c.meet-met.ensures.next in
-    let come = comes c.loop-c.watches c.loop-c.trail.vars c.args.lit c.in-Some.c c.meet-met.result.w (link_in c.meet-met.result.next) met side link in
+pub loop-c-smaller-in-Kept : goal.loop-c-smaller-in-Kept
+loop-c-smaller-in-Kept c =
+    let way = subst (λ o. IsOnItsWay c.args.watches.now c.loop-c.watches c.args.trail.now c.loop-c.trail c.lower_if_late.new.progress c.args.lit (link_in c.loop-c.last) o) (sym c.clause.ensures ∙ c.in-Some.is) c.loop-c.invariant.0 in
+    let met = meets c.args.watches.now c.loop-c.watches c.args.trail.now c.loop-c.trail c.lower_if_late.new.progress c.args.lit (link_in c.loop-c.last) c.in-Some.c way in
+    let side = subst (λ (a : ArenaState). (h : HeadState) → slice_get a.heads c.in-Some.c ≡ Some h → (side_in c.meet-met.result.here) ≡ side_of h c.args.lit) c.arena.ensures c.meet-met.ensures.side in
+    let link = subst (λ (a : ArenaState). slice_get (map (link_of (side_in c.meet-met.result.here)) a.heads) c.in-Some.c ≡ Some (link_in c.meet-met.result.next)) c.arena.ensures c.meet-met.ensures.next in
+    let come = comes c.loop-c.watches c.loop-c.trail.vars c.args.lit c.in-Some.c (side_in c.meet-met.result.here) (link_in c.meet-met.result.next) met side link in
     let found = subst (λ (a : ArenaState). slice_get a.heads c.in-Some.c ≡ Some come.leads.head) (sym c.arena-in-Some.ensures) come.leads.is_head in
-    let false_at = stands_false c.args.trail.now c.args.progress.now.passed c.args.lit c.current-current.ensures.kept c.requires.lit in
-    let literal : IsLiteral c.args.lit = subst IsVariable c.var.ensures.var c.var.ensures.variable in
-    let within : index_of c.args.lit < length c.loop-c.watches.first = has_list c.args.watches.now c.loop-c.watches c.args.trail.now c.loop-c.trail c.loop-c.progress c.args.lit (link_in c.loop-c.last) (link_in c.loop-c.next) c.args.lit c.loop-c.invariant.0 literal false_at.within in
+    let false_at = stands_false c.args.trail.now c.args.progress.now.passed c.args.lit c.current-level.ensures.kept c.requires.lit in
+    let literal : IsLiteral c.args.lit = c.lower_if_late.ensures.literal in
+    let within : index_of c.args.lit < length c.loop-c.watches.first = has_list c.args.watches.now c.loop-c.watches c.args.trail.now c.loop-c.trail c.lower_if_late.new.progress c.args.lit (link_in c.loop-c.last) (link_in c.loop-c.next) c.args.lit c.loop-c.invariant.0 literal false_at.within in
     subst (λ o. length (followed (length c.loop-c.watches.arena.heads) c.loop-c.watches.arena.heads c.args.lit (link_in c.meet-met.result.next)) < length (followed (length c.loop-c.watches.arena.heads) c.loop-c.watches.arena.heads c.args.lit o)) (sym (sym c.clause.ensures ∙ c.in-Some.is))
-    (kept_shorter c.args.watches.now c.loop-c.watches c.args.trail.now c.loop-c.trail c.loop-c.progress c.args.lit (link_in c.loop-c.last) c.in-Some.c (link_in c.meet-met.result.next) within way come.leads)
+    (kept_shorter c.args.watches.now c.loop-c.watches c.args.trail.now c.loop-c.trail c.lower_if_late.new.progress c.args.lit (link_in c.loop-c.last) c.in-Some.c (link_in c.meet-met.result.next) within way come.leads)
 
-pub loop-c-smaller-then-late-2 : goal.loop-c-smaller-then-late-2
-loop-c-smaller-then-late-2 c =
-    let way = subst (λ o. IsOnItsWay c.args.watches.now c.loop-c.watches c.args.trail.now c.loop-c.trail c.loop-c.progress c.args.lit (link_in c.loop-c.last) o) (sym c.clause.ensures ∙ c.in-Some.is) c.loop-c.invariant.0 in
-    let met = meets c.args.watches.now c.loop-c.watches c.args.trail.now c.loop-c.trail c.loop-c.progress c.args.lit (link_in c.loop-c.last) c.in-Some.c way in
-    let side = subst (λ (a : ArenaState). (h : HeadState) → slice_get a.heads c.in-Some.c ≡ Some h → c.meet-met.result.w ≡ side_of h c.args.lit) c.arena.ensures c.meet-met.ensures.side in
-    let link = subst (λ (a : ArenaState). slice_get (map (link_of c.meet-met.result.w) a.heads) c.in-Some.c ≡ Some (link_in c.meet-met.result.next)) c.arena.ensures c.meet-met.ensures.next in
-    let come = comes c.loop-c.watches c.loop-c.trail.vars c.args.lit c.in-Some.c c.meet-met.result.w (link_in c.meet-met.result.next) met side link in
-    let found = subst (λ (a : ArenaState). slice_get a.heads c.in-Some.c ≡ Some come.leads.head) (sym c.arena-in-Some.ensures) come.leads.is_head in
-    let false_at = stands_false c.args.trail.now c.args.progress.now.passed c.args.lit c.current-current.ensures.kept c.requires.lit in
-    let literal : IsLiteral c.args.lit = subst IsVariable c.var.ensures.var c.var.ensures.variable in
-    let within : index_of c.args.lit < length c.loop-c.watches.first = has_list c.args.watches.now c.loop-c.watches c.args.trail.now c.loop-c.trail c.loop-c.progress c.args.lit (link_in c.loop-c.last) (link_in c.loop-c.next) c.args.lit c.loop-c.invariant.0 literal false_at.within in
-    subst (λ o. length (followed (length c.loop-c.watches.arena.heads) c.loop-c.watches.arena.heads c.args.lit (link_in c.meet-met.result.next)) < length (followed (length c.loop-c.watches.arena.heads) c.loop-c.watches.arena.heads c.args.lit o)) (sym (sym c.clause.ensures ∙ c.in-Some.is))
-    (kept_shorter c.args.watches.now c.loop-c.watches c.args.trail.now c.loop-c.trail c.loop-c.progress c.args.lit (link_in c.loop-c.last) c.in-Some.c (link_in c.meet-met.result.next) within way come.leads)
+pub loop-c-preserved-in-Kept : goal.loop-c-preserved-in-Kept
+loop-c-preserved-in-Kept c =
+    let way = subst (λ o. IsOnItsWay c.args.watches.now c.loop-c.watches c.args.trail.now c.loop-c.trail c.lower_if_late.new.progress c.args.lit (link_in c.loop-c.last) o) (sym c.clause.ensures ∙ c.in-Some.is) c.loop-c.invariant.0 in
+    let met = meets c.args.watches.now c.loop-c.watches c.args.trail.now c.loop-c.trail c.lower_if_late.new.progress c.args.lit (link_in c.loop-c.last) c.in-Some.c way in
+    let side = subst (λ (a : ArenaState). (h : HeadState) → slice_get a.heads c.in-Some.c ≡ Some h → (side_in c.meet-met.result.here) ≡ side_of h c.args.lit) c.arena.ensures c.meet-met.ensures.side in
+    let link = subst (λ (a : ArenaState). slice_get (map (link_of (side_in c.meet-met.result.here)) a.heads) c.in-Some.c ≡ Some (link_in c.meet-met.result.next)) c.arena.ensures c.meet-met.ensures.next in
+    let come = comes c.loop-c.watches c.loop-c.trail.vars c.args.lit c.in-Some.c (side_in c.meet-met.result.here) (link_in c.meet-met.result.next) met side link in
+    let found = subst (λ (a : ArenaState). slice_get a.heads c.in-Some.c ≡ Some come.leads.head) (sym c.arena-in-Some.ensures) come.leads.is_head in (
+      subst (λ o. IsOnItsWay c.args.watches.now c.loop-c.watches c.args.trail.now c.loop-c.trail c.lower_if_late.new.progress c.args.lit o (link_in c.meet-met.result.next)) (sym c.meet-met.ensures.clause)
+          (turn_keeps c.args.watches.now c.loop-c.watches c.args.trail.now c.loop-c.trail c.lower_if_late.new.progress c.args.lit (link_in c.loop-c.last) c.in-Some.c (side_in c.meet-met.result.here) (link_in c.meet-met.result.next) way come
+          (offset_here c.loop-c.trail c.lower_if_late.new.progress.mark c.lower_if_late.new.progress.passed way.entry.level (watched (not (side_in c.meet-met.result.here)) come.leads.head) c.len-len.ensures.kept
+          (c.loop-c.invariant.1 way.entry way.found) (c.in-Kept.ensures come.leads.head found))),
+      c.loop-c.invariant.1,
+    )
 
 pub loop-c-smaller : goal.loop-c-smaller
 loop-c-smaller c =
-    let way = subst (λ o. IsOnItsWay c.args.watches.now c.loop-c.watches c.args.trail.now c.loop-c.trail c.loop-c.progress c.args.lit (link_in c.loop-c.last) o) (sym c.clause.ensures ∙ c.in-Some.is) c.loop-c.invariant.0 in
-    let met = meets c.args.watches.now c.loop-c.watches c.args.trail.now c.loop-c.trail c.loop-c.progress c.args.lit (link_in c.loop-c.last) c.in-Some.c way in
-    let side = subst (λ (a : ArenaState). (h : HeadState) → slice_get a.heads c.in-Some.c ≡ Some h → c.meet-met.result.w ≡ side_of h c.args.lit) c.arena.ensures c.meet-met.ensures.side in
-    let link = subst (λ (a : ArenaState). slice_get (map (link_of c.meet-met.result.w) a.heads) c.in-Some.c ≡ Some (link_in c.meet-met.result.next)) c.arena.ensures c.meet-met.ensures.next in
-    let come = comes c.loop-c.watches c.loop-c.trail.vars c.args.lit c.in-Some.c c.meet-met.result.w (link_in c.meet-met.result.next) met side link in
+    let way = subst (λ o. IsOnItsWay c.args.watches.now c.loop-c.watches c.args.trail.now c.loop-c.trail c.lower_if_late.new.progress c.args.lit (link_in c.loop-c.last) o) (sym c.clause.ensures ∙ c.in-Some.is) c.loop-c.invariant.0 in
+    let met = meets c.args.watches.now c.loop-c.watches c.args.trail.now c.loop-c.trail c.lower_if_late.new.progress c.args.lit (link_in c.loop-c.last) c.in-Some.c way in
+    let side = subst (λ (a : ArenaState). (h : HeadState) → slice_get a.heads c.in-Some.c ≡ Some h → (side_in c.meet-met.result.here) ≡ side_of h c.args.lit) c.arena.ensures c.meet-met.ensures.side in
+    let link = subst (λ (a : ArenaState). slice_get (map (link_of (side_in c.meet-met.result.here)) a.heads) c.in-Some.c ≡ Some (link_in c.meet-met.result.next)) c.arena.ensures c.meet-met.ensures.next in
+    let come = comes c.loop-c.watches c.loop-c.trail.vars c.args.lit c.in-Some.c (side_in c.meet-met.result.here) (link_in c.meet-met.result.next) met side link in
     let found = subst (λ (a : ArenaState). slice_get a.heads c.in-Some.c ≡ Some come.leads.head) (sym c.arena-in-Some.ensures) come.leads.is_head in
-    let false_at = stands_false c.args.trail.now c.args.progress.now.passed c.args.lit c.current-current.ensures.kept c.requires.lit in
-    let literal : IsLiteral c.args.lit = subst IsVariable c.var.ensures.var c.var.ensures.variable in
-    let within : index_of c.args.lit < length c.loop-c.watches.first = has_list c.args.watches.now c.loop-c.watches c.args.trail.now c.loop-c.trail c.loop-c.progress c.args.lit (link_in c.loop-c.last) (link_in c.loop-c.next) c.args.lit c.loop-c.invariant.0 literal false_at.within in
+    let false_at = stands_false c.args.trail.now c.args.progress.now.passed c.args.lit c.current-level.ensures.kept c.requires.lit in
+    let literal : IsLiteral c.args.lit = c.lower_if_late.ensures.literal in
+    let within : index_of c.args.lit < length c.loop-c.watches.first = has_list c.args.watches.now c.loop-c.watches c.args.trail.now c.loop-c.trail c.lower_if_late.new.progress c.args.lit (link_in c.loop-c.last) (link_in c.loop-c.next) c.args.lit c.loop-c.invariant.0 literal false_at.within in
     subst (λ o. length (followed (length c.loop-c.watches.arena.heads) c.loop-c.watches.arena.heads c.args.lit (link_in c.meet-met.result.next)) < length (followed (length c.loop-c.watches.arena.heads) c.loop-c.watches.arena.heads c.args.lit o)) (sym (sym c.clause.ensures ∙ c.in-Some.is))
-    (kept_shorter c.args.watches.now c.loop-c.watches c.args.trail.now c.loop-c.trail c.loop-c.progress c.args.lit (link_in c.loop-c.last) c.in-Some.c (link_in c.meet-met.result.next) within way come.leads)
-
-pub loop-c-preserved-then-late : goal.loop-c-preserved-then-late
-loop-c-preserved-then-late c =
-    let way = subst (λ o. IsOnItsWay c.args.watches.now c.loop-c.watches c.args.trail.now c.loop-c.trail c.loop-c.progress c.args.lit (link_in c.loop-c.last) o) (sym c.clause.ensures ∙ c.in-Some.is) c.loop-c.invariant.0 in
-    let met = meets c.args.watches.now c.loop-c.watches c.args.trail.now c.loop-c.trail c.loop-c.progress c.args.lit (link_in c.loop-c.last) c.in-Some.c way in
-    let side = subst (λ (a : ArenaState). (h : HeadState) → slice_get a.heads c.in-Some.c ≡ Some h → c.meet-met.result.w ≡ side_of h c.args.lit) c.arena.ensures c.meet-met.ensures.side in
-    let link = subst (λ (a : ArenaState). slice_get (map (link_of c.meet-met.result.w) a.heads) c.in-Some.c ≡ Some (link_in c.meet-met.result.next)) c.arena.ensures c.meet-met.ensures.next in
-    let come = comes c.loop-c.watches c.loop-c.trail.vars c.args.lit c.in-Some.c c.meet-met.result.w (link_in c.meet-met.result.next) met side link in
-    let found = subst (λ (a : ArenaState). slice_get a.heads c.in-Some.c ≡ Some come.leads.head) (sym c.arena-in-Some.ensures) come.leads.is_head in (
-      subst (λ o. IsOnItsWay c.args.watches.now c.loop-c.watches c.args.trail.now c.loop-c.trail c.lower.new.self c.args.lit o (link_in c.meet-met.result.next)) (sym (sym c.clause.ensures ∙ c.in-Some.is))
-          (turn_marks c.args.watches.now c.loop-c.watches c.args.trail.now c.loop-c.trail c.loop-c.progress c.lower.new.self c.args.lit (link_in c.loop-c.last) c.in-Some.c c.meet-met.result.w (link_in c.meet-met.result.next) way come
-          (c.in-Kept.ensures come.leads.head found) c.lower.ensures.passed c.lower.ensures.marked c.lower.ensures.kept),
-      c.lower.ensures.passed ∙ c.loop-c.invariant.1,
-      λ e early found. c.loop-c.invariant.2 e early (subst (λ k. slice_get c.loop-c.trail.entries k ≡ Some e) c.lower.ensures.passed found),
-    )
-
-pub loop-c-preserved-else-late : goal.loop-c-preserved-else-late
-loop-c-preserved-else-late c =
-    let way = subst (λ o. IsOnItsWay c.args.watches.now c.loop-c.watches c.args.trail.now c.loop-c.trail c.loop-c.progress c.args.lit (link_in c.loop-c.last) o) (sym c.clause.ensures ∙ c.in-Some.is) c.loop-c.invariant.0 in
-    let met = meets c.args.watches.now c.loop-c.watches c.args.trail.now c.loop-c.trail c.loop-c.progress c.args.lit (link_in c.loop-c.last) c.in-Some.c way in
-    let side = subst (λ (a : ArenaState). (h : HeadState) → slice_get a.heads c.in-Some.c ≡ Some h → c.meet-met.result.w ≡ side_of h c.args.lit) c.arena.ensures c.meet-met.ensures.side in
-    let link = subst (λ (a : ArenaState). slice_get (map (link_of c.meet-met.result.w) a.heads) c.in-Some.c ≡ Some (link_in c.meet-met.result.next)) c.arena.ensures c.meet-met.ensures.next in
-    let come = comes c.loop-c.watches c.loop-c.trail.vars c.args.lit c.in-Some.c c.meet-met.result.w (link_in c.meet-met.result.next) met side link in
-    let found = subst (λ (a : ArenaState). slice_get a.heads c.in-Some.c ≡ Some come.leads.head) (sym c.arena-in-Some.ensures) come.leads.is_head in (
-      subst (λ o. IsOnItsWay c.args.watches.now c.loop-c.watches c.args.trail.now c.loop-c.trail c.loop-c.progress c.args.lit o (link_in c.meet-met.result.next)) (sym (sym c.clause.ensures ∙ c.in-Some.is))
-          (turn_keeps c.args.watches.now c.loop-c.watches c.args.trail.now c.loop-c.trail c.loop-c.progress c.args.lit (link_in c.loop-c.last) c.in-Some.c c.meet-met.result.w (link_in c.meet-met.result.next) way come
-          (offset_in_time c.loop-c.trail c.loop-c.progress.mark c.loop-c.progress.passed way.entry.level (watched (not c.meet-met.result.w) come.leads.head) c.len-len.ensures.kept
-          (c.loop-c.invariant.2 way.entry (grind (arith, nat_tests, c.if-late.false)) way.found) (c.in-Kept.ensures come.leads.head found))),
-      c.loop-c.invariant.1,
-      c.loop-c.invariant.2,
-    )
+    (kept_shorter c.args.watches.now c.loop-c.watches c.args.trail.now c.loop-c.trail c.lower_if_late.new.progress c.args.lit (link_in c.loop-c.last) c.in-Some.c (link_in c.meet-met.result.next) within way come.leads)
 
 pub lead_on-requires-clause-within : goal.lead_on-requires-clause-within
 lead_on-requires-clause-within c =
-    let false_at = stands_false c.args.trail.now c.args.progress.now.passed c.args.lit c.current-current.ensures.kept c.requires.lit in
-    let literal : IsLiteral c.args.lit = subst IsVariable c.var.ensures.var c.var.ensures.variable in
-    let within : index_of c.args.lit < length c.loop-c.watches.first = has_list c.args.watches.now c.loop-c.watches c.args.trail.now c.loop-c.trail c.loop-c.progress c.args.lit (link_in c.loop-c.last) (link_in c.loop-c.next) c.args.lit c.loop-c.invariant.0 literal false_at.within in
+    let false_at = stands_false c.args.trail.now c.args.progress.now.passed c.args.lit c.current-level.ensures.kept c.requires.lit in
+    let literal : IsLiteral c.args.lit = c.lower_if_late.ensures.literal in
+    let within : index_of c.args.lit < length c.loop-c.watches.first = has_list c.args.watches.now c.loop-c.watches c.args.trail.now c.loop-c.trail c.lower_if_late.new.progress c.args.lit (link_in c.loop-c.last) (link_in c.loop-c.next) c.args.lit c.loop-c.invariant.0 literal false_at.within in
     within
 
 pub lead_on-requires-in-Moves-clause-within : goal.lead_on-requires-in-Moves-clause-within
 lead_on-requires-in-Moves-clause-within c =
-    let false_at = stands_false c.args.trail.now c.args.progress.now.passed c.args.lit c.current-current.ensures.kept c.requires.lit in
-    let literal : IsLiteral c.args.lit = subst IsVariable c.var.ensures.var c.var.ensures.variable in
-    let within : index_of c.args.lit < length c.loop-c.watches.first = has_list c.args.watches.now c.loop-c.watches c.args.trail.now c.loop-c.trail c.loop-c.progress c.args.lit (link_in c.loop-c.last) (link_in c.loop-c.next) c.args.lit c.loop-c.invariant.0 literal false_at.within in
+    let false_at = stands_false c.args.trail.now c.args.progress.now.passed c.args.lit c.current-level.ensures.kept c.requires.lit in
+    let literal : IsLiteral c.args.lit = c.lower_if_late.ensures.literal in
+    let within : index_of c.args.lit < length c.loop-c.watches.first = has_list c.args.watches.now c.loop-c.watches c.args.trail.now c.loop-c.trail c.lower_if_late.new.progress c.args.lit (link_in c.loop-c.last) (link_in c.loop-c.next) c.args.lit c.loop-c.invariant.0 literal false_at.within in
     within
 
 pub lead_on-requires-clause-edge : goal.lead_on-requires-clause-edge
 lead_on-requires-clause-edge c =
-    let false_at = stands_false c.args.trail.now c.args.progress.now.passed c.args.lit c.current-current.ensures.kept c.requires.lit in
-    let literal : IsLiteral c.args.lit = subst IsVariable c.var.ensures.var c.var.ensures.variable in
-    let within : index_of c.args.lit < length c.loop-c.watches.first = has_list c.args.watches.now c.loop-c.watches c.args.trail.now c.loop-c.trail c.loop-c.progress c.args.lit (link_in c.loop-c.last) (link_in c.loop-c.next) c.args.lit c.loop-c.invariant.0 literal false_at.within in
-    way_edge c.args.watches.now c.loop-c.watches c.args.trail.now c.loop-c.trail c.loop-c.progress c.args.lit (link_in c.loop-c.last) (link_in c.loop-c.next) literal within c.loop-c.invariant.0
+    let false_at = stands_false c.args.trail.now c.args.progress.now.passed c.args.lit c.current-level.ensures.kept c.requires.lit in
+    let literal : IsLiteral c.args.lit = c.lower_if_late.ensures.literal in
+    let within : index_of c.args.lit < length c.loop-c.watches.first = has_list c.args.watches.now c.loop-c.watches c.args.trail.now c.loop-c.trail c.lower_if_late.new.progress c.args.lit (link_in c.loop-c.last) (link_in c.loop-c.next) c.args.lit c.loop-c.invariant.0 literal false_at.within in
+    way_edge c.args.watches.now c.loop-c.watches c.args.trail.now c.loop-c.trail c.lower_if_late.new.progress c.args.lit (link_in c.loop-c.last) (link_in c.loop-c.next) literal within c.loop-c.invariant.0
 
 pub lead_on-requires-in-Moves-clause-edge : goal.lead_on-requires-in-Moves-clause-edge
 lead_on-requires-in-Moves-clause-edge c =
-    let false_at = stands_false c.args.trail.now c.args.progress.now.passed c.args.lit c.current-current.ensures.kept c.requires.lit in
-    let literal : IsLiteral c.args.lit = subst IsVariable c.var.ensures.var c.var.ensures.variable in
-    let within : index_of c.args.lit < length c.loop-c.watches.first = has_list c.args.watches.now c.loop-c.watches c.args.trail.now c.loop-c.trail c.loop-c.progress c.args.lit (link_in c.loop-c.last) (link_in c.loop-c.next) c.args.lit c.loop-c.invariant.0 literal false_at.within in
-    way_edge c.args.watches.now c.loop-c.watches c.args.trail.now c.loop-c.trail c.loop-c.progress c.args.lit (link_in c.loop-c.last) (link_in c.loop-c.next) literal within c.loop-c.invariant.0
+    let false_at = stands_false c.args.trail.now c.args.progress.now.passed c.args.lit c.current-level.ensures.kept c.requires.lit in
+    let literal : IsLiteral c.args.lit = c.lower_if_late.ensures.literal in
+    let within : index_of c.args.lit < length c.loop-c.watches.first = has_list c.args.watches.now c.loop-c.watches c.args.trail.now c.loop-c.trail c.lower_if_late.new.progress c.args.lit (link_in c.loop-c.last) (link_in c.loop-c.next) c.args.lit c.loop-c.invariant.0 literal false_at.within in
+    way_edge c.args.watches.now c.loop-c.watches c.args.trail.now c.loop-c.trail c.lower_if_late.new.progress c.args.lit (link_in c.loop-c.last) (link_in c.loop-c.next) literal within c.loop-c.invariant.0
 
 pub loop-c-smaller-in-Dead : goal.loop-c-smaller-in-Dead
 loop-c-smaller-in-Dead c =
-    let way = subst (λ o. IsOnItsWay c.args.watches.now c.loop-c.watches c.args.trail.now c.loop-c.trail c.loop-c.progress c.args.lit (link_in c.loop-c.last) o) (sym c.clause.ensures ∙ c.in-Some.is) c.loop-c.invariant.0 in
-    let met = meets c.args.watches.now c.loop-c.watches c.args.trail.now c.loop-c.trail c.loop-c.progress c.args.lit (link_in c.loop-c.last) c.in-Some.c way in
-    let side = subst (λ (a : ArenaState). (h : HeadState) → slice_get a.heads c.in-Some.c ≡ Some h → c.meet-met.result.w ≡ side_of h c.args.lit) c.arena.ensures c.meet-met.ensures.side in
-    let link = subst (λ (a : ArenaState). slice_get (map (link_of c.meet-met.result.w) a.heads) c.in-Some.c ≡ Some (link_in c.meet-met.result.next)) c.arena.ensures c.meet-met.ensures.next in
-    let come = comes c.loop-c.watches c.loop-c.trail.vars c.args.lit c.in-Some.c c.meet-met.result.w (link_in c.meet-met.result.next) met side link in
+    let way = subst (λ o. IsOnItsWay c.args.watches.now c.loop-c.watches c.args.trail.now c.loop-c.trail c.lower_if_late.new.progress c.args.lit (link_in c.loop-c.last) o) (sym c.clause.ensures ∙ c.in-Some.is) c.loop-c.invariant.0 in
+    let met = meets c.args.watches.now c.loop-c.watches c.args.trail.now c.loop-c.trail c.lower_if_late.new.progress c.args.lit (link_in c.loop-c.last) c.in-Some.c way in
+    let side = subst (λ (a : ArenaState). (h : HeadState) → slice_get a.heads c.in-Some.c ≡ Some h → (side_in c.meet-met.result.here) ≡ side_of h c.args.lit) c.arena.ensures c.meet-met.ensures.side in
+    let link = subst (λ (a : ArenaState). slice_get (map (link_of (side_in c.meet-met.result.here)) a.heads) c.in-Some.c ≡ Some (link_in c.meet-met.result.next)) c.arena.ensures c.meet-met.ensures.next in
+    let come = comes c.loop-c.watches c.loop-c.trail.vars c.args.lit c.in-Some.c (side_in c.meet-met.result.here) (link_in c.meet-met.result.next) met side link in
     let found = subst (λ (a : ArenaState). slice_get a.heads c.in-Some.c ≡ Some come.leads.head) (sym c.arena-in-Some.ensures) come.leads.is_head in
-    let false_at = stands_false c.args.trail.now c.args.progress.now.passed c.args.lit c.current-current.ensures.kept c.requires.lit in
-    let literal : IsLiteral c.args.lit = subst IsVariable c.var.ensures.var c.var.ensures.variable in
-    let within : index_of c.args.lit < length c.loop-c.watches.first = has_list c.args.watches.now c.loop-c.watches c.args.trail.now c.loop-c.trail c.loop-c.progress c.args.lit (link_in c.loop-c.last) (link_in c.loop-c.next) c.args.lit c.loop-c.invariant.0 literal false_at.within in
+    let false_at = stands_false c.args.trail.now c.args.progress.now.passed c.args.lit c.current-level.ensures.kept c.requires.lit in
+    let literal : IsLiteral c.args.lit = c.lower_if_late.ensures.literal in
+    let within : index_of c.args.lit < length c.loop-c.watches.first = has_list c.args.watches.now c.loop-c.watches c.args.trail.now c.loop-c.trail c.lower_if_late.new.progress c.args.lit (link_in c.loop-c.last) (link_in c.loop-c.next) c.args.lit c.loop-c.invariant.0 literal false_at.within in
     let dead : (h : HeadState) → slice_get c.loop-c.watches.arena.heads c.in-Some.c ≡ Some h → h.live ≢ true = λ h at. not_live h.live (c.in-Dead.ensures h (subst (λ (a : ArenaState). slice_get a.heads c.in-Some.c ≡ Some h) (sym c.arena-in-Some.ensures) at)) in
     let state = c.lead_on.ensures.state in
     let on =
-    way_drops c.args.watches.now c.loop-c.watches c.args.trail.now c.loop-c.trail c.loop-c.progress c.args.lit (link_in c.loop-c.last) c.in-Some.c (link_in c.meet-met.result.next) literal within way come.leads dead
+    way_drops c.args.watches.now c.loop-c.watches c.args.trail.now c.loop-c.trail c.lower_if_late.new.progress c.args.lit (link_in c.loop-c.last) c.in-Some.c (link_in c.meet-met.result.next) literal within way come.leads dead
     (λ lists kept rest threaded is at. subst (λ s. IsThreaded s (with_list (index_of c.args.lit) (kept ++ rest) lists)) state (c.lead_on.ensures.threaded lists c.in-Some.c kept rest threaded is at come.leads)) in
     let within_new : index_of c.args.lit < length (leading_on (link_in c.loop-c.last) c.args.lit (link_in c.meet-met.result.next) c.loop-c.watches).first =
     subst (λ n. index_of c.args.lit < n) (sym (length_first_led (link_in c.loop-c.last) c.args.lit (link_in c.meet-met.result.next) c.loop-c.watches)) within in
     let shorter =
-    dropped_shorter c.args.watches.now c.loop-c.watches (leading_on (link_in c.loop-c.last) c.args.lit (link_in c.meet-met.result.next) c.loop-c.watches) c.args.trail.now c.loop-c.trail c.loop-c.progress c.args.lit (link_in c.loop-c.last) c.in-Some.c (link_in c.meet-met.result.next) within within_new way on in
+    dropped_shorter c.args.watches.now c.loop-c.watches (leading_on (link_in c.loop-c.last) c.args.lit (link_in c.meet-met.result.next) c.loop-c.watches) c.args.trail.now c.loop-c.trail c.lower_if_late.new.progress c.args.lit (link_in c.loop-c.last) c.in-Some.c (link_in c.meet-met.result.next) within within_new way on in
     subst (λ (s : WatchState). length (followed (length s.arena.heads) s.arena.heads c.args.lit (link_in c.meet-met.result.next)) < length (followed (length c.loop-c.watches.arena.heads) c.loop-c.watches.arena.heads c.args.lit (link_in c.loop-c.next))) (sym state)
     (subst (λ o. length (followed (length (leading_on (link_in c.loop-c.last) c.args.lit (link_in c.meet-met.result.next) c.loop-c.watches).arena.heads) (leading_on (link_in c.loop-c.last) c.args.lit (link_in c.meet-met.result.next) c.loop-c.watches).arena.heads c.args.lit (link_in c.meet-met.result.next))
     < length (followed (length c.loop-c.watches.arena.heads) c.loop-c.watches.arena.heads c.args.lit o)) (sym (sym c.clause.ensures ∙ c.in-Some.is)) shorter)
@@ -221,23 +169,22 @@ loop-c-smaller-in-Dead c =
 
 pub loop-c-preserved-in-Dead : goal.loop-c-preserved-in-Dead
 loop-c-preserved-in-Dead c =
-    let way = subst (λ o. IsOnItsWay c.args.watches.now c.loop-c.watches c.args.trail.now c.loop-c.trail c.loop-c.progress c.args.lit (link_in c.loop-c.last) o) (sym c.clause.ensures ∙ c.in-Some.is) c.loop-c.invariant.0 in
-    let met = meets c.args.watches.now c.loop-c.watches c.args.trail.now c.loop-c.trail c.loop-c.progress c.args.lit (link_in c.loop-c.last) c.in-Some.c way in
-    let side = subst (λ (a : ArenaState). (h : HeadState) → slice_get a.heads c.in-Some.c ≡ Some h → c.meet-met.result.w ≡ side_of h c.args.lit) c.arena.ensures c.meet-met.ensures.side in
-    let link = subst (λ (a : ArenaState). slice_get (map (link_of c.meet-met.result.w) a.heads) c.in-Some.c ≡ Some (link_in c.meet-met.result.next)) c.arena.ensures c.meet-met.ensures.next in
-    let come = comes c.loop-c.watches c.loop-c.trail.vars c.args.lit c.in-Some.c c.meet-met.result.w (link_in c.meet-met.result.next) met side link in
+    let way = subst (λ o. IsOnItsWay c.args.watches.now c.loop-c.watches c.args.trail.now c.loop-c.trail c.lower_if_late.new.progress c.args.lit (link_in c.loop-c.last) o) (sym c.clause.ensures ∙ c.in-Some.is) c.loop-c.invariant.0 in
+    let met = meets c.args.watches.now c.loop-c.watches c.args.trail.now c.loop-c.trail c.lower_if_late.new.progress c.args.lit (link_in c.loop-c.last) c.in-Some.c way in
+    let side = subst (λ (a : ArenaState). (h : HeadState) → slice_get a.heads c.in-Some.c ≡ Some h → (side_in c.meet-met.result.here) ≡ side_of h c.args.lit) c.arena.ensures c.meet-met.ensures.side in
+    let link = subst (λ (a : ArenaState). slice_get (map (link_of (side_in c.meet-met.result.here)) a.heads) c.in-Some.c ≡ Some (link_in c.meet-met.result.next)) c.arena.ensures c.meet-met.ensures.next in
+    let come = comes c.loop-c.watches c.loop-c.trail.vars c.args.lit c.in-Some.c (side_in c.meet-met.result.here) (link_in c.meet-met.result.next) met side link in
     let found = subst (λ (a : ArenaState). slice_get a.heads c.in-Some.c ≡ Some come.leads.head) (sym c.arena-in-Some.ensures) come.leads.is_head in
-    let false_at = stands_false c.args.trail.now c.args.progress.now.passed c.args.lit c.current-current.ensures.kept c.requires.lit in
-    let literal : IsLiteral c.args.lit = subst IsVariable c.var.ensures.var c.var.ensures.variable in
-    let within : index_of c.args.lit < length c.loop-c.watches.first = has_list c.args.watches.now c.loop-c.watches c.args.trail.now c.loop-c.trail c.loop-c.progress c.args.lit (link_in c.loop-c.last) (link_in c.loop-c.next) c.args.lit c.loop-c.invariant.0 literal false_at.within in
+    let false_at = stands_false c.args.trail.now c.args.progress.now.passed c.args.lit c.current-level.ensures.kept c.requires.lit in
+    let literal : IsLiteral c.args.lit = c.lower_if_late.ensures.literal in
+    let within : index_of c.args.lit < length c.loop-c.watches.first = has_list c.args.watches.now c.loop-c.watches c.args.trail.now c.loop-c.trail c.lower_if_late.new.progress c.args.lit (link_in c.loop-c.last) (link_in c.loop-c.next) c.args.lit c.loop-c.invariant.0 literal false_at.within in
     let dead : (h : HeadState) → slice_get c.loop-c.watches.arena.heads c.in-Some.c ≡ Some h → h.live ≢ true = λ h at. not_live h.live (c.in-Dead.ensures h (subst (λ (a : ArenaState). slice_get a.heads c.in-Some.c ≡ Some h) (sym c.arena-in-Some.ensures) at)) in
     let state = c.lead_on.ensures.state in
     let on =
-    way_drops c.args.watches.now c.loop-c.watches c.args.trail.now c.loop-c.trail c.loop-c.progress c.args.lit (link_in c.loop-c.last) c.in-Some.c (link_in c.meet-met.result.next) literal within way come.leads dead
+    way_drops c.args.watches.now c.loop-c.watches c.args.trail.now c.loop-c.trail c.lower_if_late.new.progress c.args.lit (link_in c.loop-c.last) c.in-Some.c (link_in c.meet-met.result.next) literal within way come.leads dead
     (λ lists kept rest threaded is at. subst (λ s. IsThreaded s (with_list (index_of c.args.lit) (kept ++ rest) lists)) state (c.lead_on.ensures.threaded lists c.in-Some.c kept rest threaded is at come.leads)) in (
-      subst (λ s. IsOnItsWay c.args.watches.now s c.args.trail.now c.loop-c.trail c.loop-c.progress c.args.lit (link_in c.loop-c.last) (link_in c.meet-met.result.next)) (sym state) on.0,
+      subst (λ s. IsOnItsWay c.args.watches.now s c.args.trail.now c.loop-c.trail c.lower_if_late.new.progress c.args.lit (link_in c.loop-c.last) (link_in c.meet-met.result.next)) (sym state) on.0,
       c.loop-c.invariant.1,
-      c.loop-c.invariant.2,
     )
   where
     not_live : (b : Bool) → b ≡ false → b ≢ true
@@ -245,93 +192,93 @@ loop-c-preserved-in-Dead c =
 
 pub rewatch-requires-clause-live : goal.rewatch-requires-clause-live
 rewatch-requires-clause-live c =
-    let way = subst (λ o. IsOnItsWay c.args.watches.now c.loop-c.watches c.args.trail.now c.loop-c.trail c.loop-c.progress c.args.lit (link_in c.loop-c.last) o) (sym c.clause.ensures ∙ c.in-Some.is) c.loop-c.invariant.0 in
-    let met = meets c.args.watches.now c.loop-c.watches c.args.trail.now c.loop-c.trail c.loop-c.progress c.args.lit (link_in c.loop-c.last) c.in-Some.c way in
-    let side = subst (λ (a : ArenaState). (h : HeadState) → slice_get a.heads c.in-Some.c ≡ Some h → c.meet-met.result.w ≡ side_of h c.args.lit) c.arena.ensures c.meet-met.ensures.side in
-    let link = subst (λ (a : ArenaState). slice_get (map (link_of c.meet-met.result.w) a.heads) c.in-Some.c ≡ Some (link_in c.meet-met.result.next)) c.arena.ensures c.meet-met.ensures.next in
-    let come = comes c.loop-c.watches c.loop-c.trail.vars c.args.lit c.in-Some.c c.meet-met.result.w (link_in c.meet-met.result.next) met side link in
+    let way = subst (λ o. IsOnItsWay c.args.watches.now c.loop-c.watches c.args.trail.now c.loop-c.trail c.lower_if_late.new.progress c.args.lit (link_in c.loop-c.last) o) (sym c.clause.ensures ∙ c.in-Some.is) c.loop-c.invariant.0 in
+    let met = meets c.args.watches.now c.loop-c.watches c.args.trail.now c.loop-c.trail c.lower_if_late.new.progress c.args.lit (link_in c.loop-c.last) c.in-Some.c way in
+    let side = subst (λ (a : ArenaState). (h : HeadState) → slice_get a.heads c.in-Some.c ≡ Some h → (side_in c.meet-met.result.here) ≡ side_of h c.args.lit) c.arena.ensures c.meet-met.ensures.side in
+    let link = subst (λ (a : ArenaState). slice_get (map (link_of (side_in c.meet-met.result.here)) a.heads) c.in-Some.c ≡ Some (link_in c.meet-met.result.next)) c.arena.ensures c.meet-met.ensures.next in
+    let come = comes c.loop-c.watches c.loop-c.trail.vars c.args.lit c.in-Some.c (side_in c.meet-met.result.here) (link_in c.meet-met.result.next) met side link in
     let found = subst (λ (a : ArenaState). slice_get a.heads c.in-Some.c ≡ Some come.leads.head) (sym c.arena-in-Some.ensures) come.leads.is_head in
-    let literal : IsLiteral c.args.lit = subst IsVariable c.var.ensures.var c.var.ensures.variable in
+    let literal : IsLiteral c.args.lit = c.lower_if_late.ensures.literal in
     let seen = c.in-Moves.ensures come.leads.head found in
     let moving =
-    turn_moves c.args.watches.now c.loop-c.watches c.args.trail.now c.loop-c.trail c.loop-c.progress c.args.lit (link_in c.loop-c.last) c.in-Some.c c.meet-met.result.w (link_in c.meet-met.result.next) c.in-Moves.n c.len-len.ensures.kept literal way come seen.0 seen.1 in
+    turn_moves c.args.watches.now c.loop-c.watches c.args.trail.now c.loop-c.trail c.lower_if_late.new.progress c.args.lit (link_in c.loop-c.last) c.in-Some.c (side_in c.meet-met.result.here) (link_in c.meet-met.result.next) c.in-Moves.n c.len-len.ensures.kept literal way come seen.0 seen.1 in
     let state = c.lead_on-in-Moves.ensures.state in
-    subst (λ (s : WatchState). IsLive s.arena.heads c.in-Some.c) (sym state) (moving_live c.loop-c.watches c.loop-c.trail.entries c.args.lit (link_in c.loop-c.last) c.in-Some.c (link_in c.meet-met.result.next) c.meet-met.result.w c.in-Moves.n moving)
+    subst (λ (s : WatchState). IsLive s.arena.heads c.in-Some.c) (sym state) (moving_live c.loop-c.watches c.loop-c.trail.entries c.args.lit (link_in c.loop-c.last) c.in-Some.c (link_in c.meet-met.result.next) (side_in c.meet-met.result.here) c.in-Moves.n moving)
 
 pub rewatch-requires-clause-clause : goal.rewatch-requires-clause-clause
 rewatch-requires-clause-clause c =
-    let way = subst (λ o. IsOnItsWay c.args.watches.now c.loop-c.watches c.args.trail.now c.loop-c.trail c.loop-c.progress c.args.lit (link_in c.loop-c.last) o) (sym c.clause.ensures ∙ c.in-Some.is) c.loop-c.invariant.0 in
-    let met = meets c.args.watches.now c.loop-c.watches c.args.trail.now c.loop-c.trail c.loop-c.progress c.args.lit (link_in c.loop-c.last) c.in-Some.c way in
-    let side = subst (λ (a : ArenaState). (h : HeadState) → slice_get a.heads c.in-Some.c ≡ Some h → c.meet-met.result.w ≡ side_of h c.args.lit) c.arena.ensures c.meet-met.ensures.side in
-    let link = subst (λ (a : ArenaState). slice_get (map (link_of c.meet-met.result.w) a.heads) c.in-Some.c ≡ Some (link_in c.meet-met.result.next)) c.arena.ensures c.meet-met.ensures.next in
-    let come = comes c.loop-c.watches c.loop-c.trail.vars c.args.lit c.in-Some.c c.meet-met.result.w (link_in c.meet-met.result.next) met side link in
+    let way = subst (λ o. IsOnItsWay c.args.watches.now c.loop-c.watches c.args.trail.now c.loop-c.trail c.lower_if_late.new.progress c.args.lit (link_in c.loop-c.last) o) (sym c.clause.ensures ∙ c.in-Some.is) c.loop-c.invariant.0 in
+    let met = meets c.args.watches.now c.loop-c.watches c.args.trail.now c.loop-c.trail c.lower_if_late.new.progress c.args.lit (link_in c.loop-c.last) c.in-Some.c way in
+    let side = subst (λ (a : ArenaState). (h : HeadState) → slice_get a.heads c.in-Some.c ≡ Some h → (side_in c.meet-met.result.here) ≡ side_of h c.args.lit) c.arena.ensures c.meet-met.ensures.side in
+    let link = subst (λ (a : ArenaState). slice_get (map (link_of (side_in c.meet-met.result.here)) a.heads) c.in-Some.c ≡ Some (link_in c.meet-met.result.next)) c.arena.ensures c.meet-met.ensures.next in
+    let come = comes c.loop-c.watches c.loop-c.trail.vars c.args.lit c.in-Some.c (side_in c.meet-met.result.here) (link_in c.meet-met.result.next) met side link in
     let found = subst (λ (a : ArenaState). slice_get a.heads c.in-Some.c ≡ Some come.leads.head) (sym c.arena-in-Some.ensures) come.leads.is_head in
-    let literal : IsLiteral c.args.lit = subst IsVariable c.var.ensures.var c.var.ensures.variable in
+    let literal : IsLiteral c.args.lit = c.lower_if_late.ensures.literal in
     let seen = c.in-Moves.ensures come.leads.head found in
     let moving =
-    turn_moves c.args.watches.now c.loop-c.watches c.args.trail.now c.loop-c.trail c.loop-c.progress c.args.lit (link_in c.loop-c.last) c.in-Some.c c.meet-met.result.w (link_in c.meet-met.result.next) c.in-Moves.n c.len-len.ensures.kept literal way come seen.0 seen.1 in
+    turn_moves c.args.watches.now c.loop-c.watches c.args.trail.now c.loop-c.trail c.lower_if_late.new.progress c.args.lit (link_in c.loop-c.last) c.in-Some.c (side_in c.meet-met.result.here) (link_in c.meet-met.result.next) c.in-Moves.n c.len-len.ensures.kept literal way come seen.0 seen.1 in
     let state = c.lead_on-in-Moves.ensures.state in
-    subst (λ s. CanRewatch s c.in-Some.c c.meet-met.result.w c.in-Moves.n) (sym state) (can_rewatch c.loop-c.watches c.loop-c.trail.entries c.args.lit (link_in c.loop-c.last) c.in-Some.c (link_in c.meet-met.result.next) c.meet-met.result.w c.in-Moves.n moving)
+    subst (λ s. CanRewatch s c.in-Some.c (side_in c.meet-met.result.here) c.in-Moves.n) (sym state) (can_rewatch c.loop-c.watches c.loop-c.trail.entries c.args.lit (link_in c.loop-c.last) c.in-Some.c (link_in c.meet-met.result.next) (side_in c.meet-met.result.here) c.in-Moves.n moving)
 
 pub loop-c-smaller-in-Moves : goal.loop-c-smaller-in-Moves
 loop-c-smaller-in-Moves c =
-    let way = subst (λ o. IsOnItsWay c.args.watches.now c.loop-c.watches c.args.trail.now c.loop-c.trail c.loop-c.progress c.args.lit (link_in c.loop-c.last) o) (sym c.clause.ensures ∙ c.in-Some.is) c.loop-c.invariant.0 in
-    let met = meets c.args.watches.now c.loop-c.watches c.args.trail.now c.loop-c.trail c.loop-c.progress c.args.lit (link_in c.loop-c.last) c.in-Some.c way in
-    let side = subst (λ (a : ArenaState). (h : HeadState) → slice_get a.heads c.in-Some.c ≡ Some h → c.meet-met.result.w ≡ side_of h c.args.lit) c.arena.ensures c.meet-met.ensures.side in
-    let link = subst (λ (a : ArenaState). slice_get (map (link_of c.meet-met.result.w) a.heads) c.in-Some.c ≡ Some (link_in c.meet-met.result.next)) c.arena.ensures c.meet-met.ensures.next in
-    let come = comes c.loop-c.watches c.loop-c.trail.vars c.args.lit c.in-Some.c c.meet-met.result.w (link_in c.meet-met.result.next) met side link in
+    let way = subst (λ o. IsOnItsWay c.args.watches.now c.loop-c.watches c.args.trail.now c.loop-c.trail c.lower_if_late.new.progress c.args.lit (link_in c.loop-c.last) o) (sym c.clause.ensures ∙ c.in-Some.is) c.loop-c.invariant.0 in
+    let met = meets c.args.watches.now c.loop-c.watches c.args.trail.now c.loop-c.trail c.lower_if_late.new.progress c.args.lit (link_in c.loop-c.last) c.in-Some.c way in
+    let side = subst (λ (a : ArenaState). (h : HeadState) → slice_get a.heads c.in-Some.c ≡ Some h → (side_in c.meet-met.result.here) ≡ side_of h c.args.lit) c.arena.ensures c.meet-met.ensures.side in
+    let link = subst (λ (a : ArenaState). slice_get (map (link_of (side_in c.meet-met.result.here)) a.heads) c.in-Some.c ≡ Some (link_in c.meet-met.result.next)) c.arena.ensures c.meet-met.ensures.next in
+    let come = comes c.loop-c.watches c.loop-c.trail.vars c.args.lit c.in-Some.c (side_in c.meet-met.result.here) (link_in c.meet-met.result.next) met side link in
     let found = subst (λ (a : ArenaState). slice_get a.heads c.in-Some.c ≡ Some come.leads.head) (sym c.arena-in-Some.ensures) come.leads.is_head in
-    let false_at = stands_false c.args.trail.now c.args.progress.now.passed c.args.lit c.current-current.ensures.kept c.requires.lit in
-    let literal : IsLiteral c.args.lit = subst IsVariable c.var.ensures.var c.var.ensures.variable in
-    let within : index_of c.args.lit < length c.loop-c.watches.first = has_list c.args.watches.now c.loop-c.watches c.args.trail.now c.loop-c.trail c.loop-c.progress c.args.lit (link_in c.loop-c.last) (link_in c.loop-c.next) c.args.lit c.loop-c.invariant.0 literal false_at.within in
+    let false_at = stands_false c.args.trail.now c.args.progress.now.passed c.args.lit c.current-level.ensures.kept c.requires.lit in
+    let literal : IsLiteral c.args.lit = c.lower_if_late.ensures.literal in
+    let within : index_of c.args.lit < length c.loop-c.watches.first = has_list c.args.watches.now c.loop-c.watches c.args.trail.now c.loop-c.trail c.lower_if_late.new.progress c.args.lit (link_in c.loop-c.last) (link_in c.loop-c.next) c.args.lit c.loop-c.invariant.0 literal false_at.within in
     let seen = c.in-Moves.ensures come.leads.head found in
     let moving =
-    turn_moves c.args.watches.now c.loop-c.watches c.args.trail.now c.loop-c.trail c.loop-c.progress c.args.lit (link_in c.loop-c.last) c.in-Some.c c.meet-met.result.w (link_in c.meet-met.result.next) c.in-Moves.n c.len-len.ensures.kept literal way come seen.0 seen.1 in
+    turn_moves c.args.watches.now c.loop-c.watches c.args.trail.now c.loop-c.trail c.lower_if_late.new.progress c.args.lit (link_in c.loop-c.last) c.in-Some.c (side_in c.meet-met.result.here) (link_in c.meet-met.result.next) c.in-Moves.n c.len-len.ensures.kept literal way come seen.0 seen.1 in
     let state = c.lead_on-in-Moves.ensures.state in
-    let attached : AttachedAt c.in-Some.c c.meet-met.result.w (swapped_at (leading_on (link_in c.loop-c.last) c.args.lit (link_in c.meet-met.result.next) c.loop-c.watches) c.in-Some.c c.meet-met.result.w c.in-Moves.n) c.rewatch.new.self =
-    subst (λ s. AttachedAt c.in-Some.c c.meet-met.result.w (swapped_at s c.in-Some.c c.meet-met.result.w c.in-Moves.n) c.rewatch.new.self) state c.rewatch.ensures.state in
+    let attached : AttachedAt c.in-Some.c (side_in c.meet-met.result.here) (swapped_at (leading_on (link_in c.loop-c.last) c.args.lit (link_in c.meet-met.result.next) c.loop-c.watches) c.in-Some.c (side_in c.meet-met.result.here) c.in-Moves.n) c.rewatch.new.self =
+    subst (λ s. AttachedAt c.in-Some.c (side_in c.meet-met.result.here) (swapped_at s c.in-Some.c (side_in c.meet-met.result.here) c.in-Moves.n) c.rewatch.new.self) state c.rewatch.ensures.state in
     let on =
-    way_moves c.args.watches.now c.loop-c.watches c.rewatch.new.self c.args.trail.now c.loop-c.trail c.loop-c.progress c.args.lit (link_in c.loop-c.last) c.in-Some.c (link_in c.meet-met.result.next) c.meet-met.result.w c.in-Moves.n within c.len-len.ensures.consistent way moving
+    way_moves c.args.watches.now c.loop-c.watches c.rewatch.new.self c.args.trail.now c.loop-c.trail c.lower_if_late.new.progress c.args.lit (link_in c.loop-c.last) c.in-Some.c (link_in c.meet-met.result.next) (side_in c.meet-met.result.here) c.in-Moves.n within c.len-len.ensures.consistent way moving
     (λ lists kept rest threaded is at. subst (λ s. IsThreaded s (with_list (index_of c.args.lit) (kept ++ rest) lists)) state (c.lead_on-in-Moves.ensures.threaded lists c.in-Some.c kept rest threaded is at come.leads)) attached
-    (subst (λ s. (lists : Lists) → IsThreaded s lists → IsNotIn lists s c.in-Some.c c.meet-met.result.w → IsThreaded c.rewatch.new.self (with_attached lists (swapped_at s c.in-Some.c c.meet-met.result.w c.in-Moves.n) c.in-Some.c c.meet-met.result.w)) state c.rewatch.ensures.threaded) in
+    (subst (λ s. (lists : Lists) → IsThreaded s lists → IsNotIn lists s c.in-Some.c (side_in c.meet-met.result.here) → IsThreaded c.rewatch.new.self (with_attached lists (swapped_at s c.in-Some.c (side_in c.meet-met.result.here) c.in-Moves.n) c.in-Some.c (side_in c.meet-met.result.here))) state c.rewatch.ensures.threaded) in
     let within_new : index_of c.args.lit < length c.rewatch.new.self.first =
-    has_list c.args.watches.now c.rewatch.new.self c.args.trail.now c.loop-c.trail c.loop-c.progress c.args.lit (link_in c.loop-c.last) (link_in c.meet-met.result.next) c.args.lit on.0 literal false_at.within in
+    has_list c.args.watches.now c.rewatch.new.self c.args.trail.now c.loop-c.trail c.lower_if_late.new.progress c.args.lit (link_in c.loop-c.last) (link_in c.meet-met.result.next) c.args.lit on.0 literal false_at.within in
     subst (λ o. length (followed (length c.rewatch.new.self.arena.heads) c.rewatch.new.self.arena.heads c.args.lit (link_in c.meet-met.result.next)) < length (followed (length c.loop-c.watches.arena.heads) c.loop-c.watches.arena.heads c.args.lit o)) (sym (sym c.clause.ensures ∙ c.in-Some.is))
-    (dropped_shorter c.args.watches.now c.loop-c.watches c.rewatch.new.self c.args.trail.now c.loop-c.trail c.loop-c.progress c.args.lit (link_in c.loop-c.last) c.in-Some.c (link_in c.meet-met.result.next) within within_new way on)
+    (dropped_shorter c.args.watches.now c.loop-c.watches c.rewatch.new.self c.args.trail.now c.loop-c.trail c.lower_if_late.new.progress c.args.lit (link_in c.loop-c.last) c.in-Some.c (link_in c.meet-met.result.next) within within_new way on)
 
 pub loop-c-preserved-in-Moves : goal.loop-c-preserved-in-Moves
 loop-c-preserved-in-Moves c =
-    let way = subst (λ o. IsOnItsWay c.args.watches.now c.loop-c.watches c.args.trail.now c.loop-c.trail c.loop-c.progress c.args.lit (link_in c.loop-c.last) o) (sym c.clause.ensures ∙ c.in-Some.is) c.loop-c.invariant.0 in
-    let met = meets c.args.watches.now c.loop-c.watches c.args.trail.now c.loop-c.trail c.loop-c.progress c.args.lit (link_in c.loop-c.last) c.in-Some.c way in
-    let side = subst (λ (a : ArenaState). (h : HeadState) → slice_get a.heads c.in-Some.c ≡ Some h → c.meet-met.result.w ≡ side_of h c.args.lit) c.arena.ensures c.meet-met.ensures.side in
-    let link = subst (λ (a : ArenaState). slice_get (map (link_of c.meet-met.result.w) a.heads) c.in-Some.c ≡ Some (link_in c.meet-met.result.next)) c.arena.ensures c.meet-met.ensures.next in
-    let come = comes c.loop-c.watches c.loop-c.trail.vars c.args.lit c.in-Some.c c.meet-met.result.w (link_in c.meet-met.result.next) met side link in
+    let way = subst (λ o. IsOnItsWay c.args.watches.now c.loop-c.watches c.args.trail.now c.loop-c.trail c.lower_if_late.new.progress c.args.lit (link_in c.loop-c.last) o) (sym c.clause.ensures ∙ c.in-Some.is) c.loop-c.invariant.0 in
+    let met = meets c.args.watches.now c.loop-c.watches c.args.trail.now c.loop-c.trail c.lower_if_late.new.progress c.args.lit (link_in c.loop-c.last) c.in-Some.c way in
+    let side = subst (λ (a : ArenaState). (h : HeadState) → slice_get a.heads c.in-Some.c ≡ Some h → (side_in c.meet-met.result.here) ≡ side_of h c.args.lit) c.arena.ensures c.meet-met.ensures.side in
+    let link = subst (λ (a : ArenaState). slice_get (map (link_of (side_in c.meet-met.result.here)) a.heads) c.in-Some.c ≡ Some (link_in c.meet-met.result.next)) c.arena.ensures c.meet-met.ensures.next in
+    let come = comes c.loop-c.watches c.loop-c.trail.vars c.args.lit c.in-Some.c (side_in c.meet-met.result.here) (link_in c.meet-met.result.next) met side link in
     let found = subst (λ (a : ArenaState). slice_get a.heads c.in-Some.c ≡ Some come.leads.head) (sym c.arena-in-Some.ensures) come.leads.is_head in
-    let false_at = stands_false c.args.trail.now c.args.progress.now.passed c.args.lit c.current-current.ensures.kept c.requires.lit in
-    let literal : IsLiteral c.args.lit = subst IsVariable c.var.ensures.var c.var.ensures.variable in
-    let within : index_of c.args.lit < length c.loop-c.watches.first = has_list c.args.watches.now c.loop-c.watches c.args.trail.now c.loop-c.trail c.loop-c.progress c.args.lit (link_in c.loop-c.last) (link_in c.loop-c.next) c.args.lit c.loop-c.invariant.0 literal false_at.within in
+    let false_at = stands_false c.args.trail.now c.args.progress.now.passed c.args.lit c.current-level.ensures.kept c.requires.lit in
+    let literal : IsLiteral c.args.lit = c.lower_if_late.ensures.literal in
+    let within : index_of c.args.lit < length c.loop-c.watches.first = has_list c.args.watches.now c.loop-c.watches c.args.trail.now c.loop-c.trail c.lower_if_late.new.progress c.args.lit (link_in c.loop-c.last) (link_in c.loop-c.next) c.args.lit c.loop-c.invariant.0 literal false_at.within in
     let seen = c.in-Moves.ensures come.leads.head found in
     let moving =
-    turn_moves c.args.watches.now c.loop-c.watches c.args.trail.now c.loop-c.trail c.loop-c.progress c.args.lit (link_in c.loop-c.last) c.in-Some.c c.meet-met.result.w (link_in c.meet-met.result.next) c.in-Moves.n c.len-len.ensures.kept literal way come seen.0 seen.1 in
+    turn_moves c.args.watches.now c.loop-c.watches c.args.trail.now c.loop-c.trail c.lower_if_late.new.progress c.args.lit (link_in c.loop-c.last) c.in-Some.c (side_in c.meet-met.result.here) (link_in c.meet-met.result.next) c.in-Moves.n c.len-len.ensures.kept literal way come seen.0 seen.1 in
     let state = c.lead_on-in-Moves.ensures.state in
-    let attached : AttachedAt c.in-Some.c c.meet-met.result.w (swapped_at (leading_on (link_in c.loop-c.last) c.args.lit (link_in c.meet-met.result.next) c.loop-c.watches) c.in-Some.c c.meet-met.result.w c.in-Moves.n) c.rewatch.new.self =
-    subst (λ s. AttachedAt c.in-Some.c c.meet-met.result.w (swapped_at s c.in-Some.c c.meet-met.result.w c.in-Moves.n) c.rewatch.new.self) state c.rewatch.ensures.state in
+    let attached : AttachedAt c.in-Some.c (side_in c.meet-met.result.here) (swapped_at (leading_on (link_in c.loop-c.last) c.args.lit (link_in c.meet-met.result.next) c.loop-c.watches) c.in-Some.c (side_in c.meet-met.result.here) c.in-Moves.n) c.rewatch.new.self =
+    subst (λ s. AttachedAt c.in-Some.c (side_in c.meet-met.result.here) (swapped_at s c.in-Some.c (side_in c.meet-met.result.here) c.in-Moves.n) c.rewatch.new.self) state c.rewatch.ensures.state in
     let on =
-    way_moves c.args.watches.now c.loop-c.watches c.rewatch.new.self c.args.trail.now c.loop-c.trail c.loop-c.progress c.args.lit (link_in c.loop-c.last) c.in-Some.c (link_in c.meet-met.result.next) c.meet-met.result.w c.in-Moves.n within c.len-len.ensures.consistent way moving
+    way_moves c.args.watches.now c.loop-c.watches c.rewatch.new.self c.args.trail.now c.loop-c.trail c.lower_if_late.new.progress c.args.lit (link_in c.loop-c.last) c.in-Some.c (link_in c.meet-met.result.next) (side_in c.meet-met.result.here) c.in-Moves.n within c.len-len.ensures.consistent way moving
     (λ lists kept rest threaded is at. subst (λ s. IsThreaded s (with_list (index_of c.args.lit) (kept ++ rest) lists)) state (c.lead_on-in-Moves.ensures.threaded lists c.in-Some.c kept rest threaded is at come.leads)) attached
-    (subst (λ s. (lists : Lists) → IsThreaded s lists → IsNotIn lists s c.in-Some.c c.meet-met.result.w → IsThreaded c.rewatch.new.self (with_attached lists (swapped_at s c.in-Some.c c.meet-met.result.w c.in-Moves.n) c.in-Some.c c.meet-met.result.w)) state c.rewatch.ensures.threaded) in
-    (on.0, c.loop-c.invariant.1, c.loop-c.invariant.2)
+    (subst (λ s. (lists : Lists) → IsThreaded s lists → IsNotIn lists s c.in-Some.c (side_in c.meet-met.result.here) → IsThreaded c.rewatch.new.self (with_attached lists (swapped_at s c.in-Some.c (side_in c.meet-met.result.here) c.in-Moves.n) c.in-Some.c (side_in c.meet-met.result.here))) state c.rewatch.ensures.threaded) in
+    (on.0, c.loop-c.invariant.1)
 
 pub force-requires-clause-within : goal.force-requires-clause-within
 force-requires-clause-within c =
-    let way = subst (λ o. IsOnItsWay c.args.watches.now c.loop-c.watches c.args.trail.now c.loop-c.trail c.loop-c.progress c.args.lit (link_in c.loop-c.last) o) (sym c.clause.ensures ∙ c.in-Some.is) c.loop-c.invariant.0 in
-    let met = meets c.args.watches.now c.loop-c.watches c.args.trail.now c.loop-c.trail c.loop-c.progress c.args.lit (link_in c.loop-c.last) c.in-Some.c way in
-    let side = subst (λ (a : ArenaState). (h : HeadState) → slice_get a.heads c.in-Some.c ≡ Some h → c.meet-met.result.w ≡ side_of h c.args.lit) c.arena.ensures c.meet-met.ensures.side in
-    let link = subst (λ (a : ArenaState). slice_get (map (link_of c.meet-met.result.w) a.heads) c.in-Some.c ≡ Some (link_in c.meet-met.result.next)) c.arena.ensures c.meet-met.ensures.next in
-    let come = comes c.loop-c.watches c.loop-c.trail.vars c.args.lit c.in-Some.c c.meet-met.result.w (link_in c.meet-met.result.next) met side link in
+    let way = subst (λ o. IsOnItsWay c.args.watches.now c.loop-c.watches c.args.trail.now c.loop-c.trail c.lower_if_late.new.progress c.args.lit (link_in c.loop-c.last) o) (sym c.clause.ensures ∙ c.in-Some.is) c.loop-c.invariant.0 in
+    let met = meets c.args.watches.now c.loop-c.watches c.args.trail.now c.loop-c.trail c.lower_if_late.new.progress c.args.lit (link_in c.loop-c.last) c.in-Some.c way in
+    let side = subst (λ (a : ArenaState). (h : HeadState) → slice_get a.heads c.in-Some.c ≡ Some h → (side_in c.meet-met.result.here) ≡ side_of h c.args.lit) c.arena.ensures c.meet-met.ensures.side in
+    let link = subst (λ (a : ArenaState). slice_get (map (link_of (side_in c.meet-met.result.here)) a.heads) c.in-Some.c ≡ Some (link_in c.meet-met.result.next)) c.arena.ensures c.meet-met.ensures.next in
+    let come = comes c.loop-c.watches c.loop-c.trail.vars c.args.lit c.in-Some.c (side_in c.meet-met.result.here) (link_in c.meet-met.result.next) met side link in
     let found = subst (λ (a : ArenaState). slice_get a.heads c.in-Some.c ≡ Some come.leads.head) (sym c.arena-in-Some.ensures) come.leads.is_head in
     let seen = c.in-Forces.ensures come.leads.head found in
-    let bounds = variable_bounds c.loop-c.trail.vars (variable_of (watched (not c.meet-met.result.w) come.leads.head)) (within_at c.loop-c.trail.vars come.leads.head.lits (place_of (not c.meet-met.result.w)) come.within (place_inside (not c.meet-met.result.w) come.leads.head come.leads.watching)) in
+    let bounds = variable_bounds c.loop-c.trail.vars (variable_of (watched (not (side_in c.meet-met.result.here)) come.leads.head)) (within_at c.loop-c.trail.vars come.leads.head.lits (place_of (not (side_in c.meet-met.result.here))) come.within (place_inside (not (side_in c.meet-met.result.here)) come.leads.head come.leads.watching)) in
     subst (λ l. variable_of l ≤ c.loop-c.trail.vars) (sym seen.1) bounds.1
   where
     place_inside : (b : Bool) (h : HeadState) → IsWatching h → place_of b < length h.lits
@@ -340,76 +287,43 @@ force-requires-clause-within c =
 
 pub force-requires-clause-unset : goal.force-requires-clause-unset
 force-requires-clause-unset c =
-    let way = subst (λ o. IsOnItsWay c.args.watches.now c.loop-c.watches c.args.trail.now c.loop-c.trail c.loop-c.progress c.args.lit (link_in c.loop-c.last) o) (sym c.clause.ensures ∙ c.in-Some.is) c.loop-c.invariant.0 in
-    let met = meets c.args.watches.now c.loop-c.watches c.args.trail.now c.loop-c.trail c.loop-c.progress c.args.lit (link_in c.loop-c.last) c.in-Some.c way in
-    let side = subst (λ (a : ArenaState). (h : HeadState) → slice_get a.heads c.in-Some.c ≡ Some h → c.meet-met.result.w ≡ side_of h c.args.lit) c.arena.ensures c.meet-met.ensures.side in
-    let link = subst (λ (a : ArenaState). slice_get (map (link_of c.meet-met.result.w) a.heads) c.in-Some.c ≡ Some (link_in c.meet-met.result.next)) c.arena.ensures c.meet-met.ensures.next in
-    let come = comes c.loop-c.watches c.loop-c.trail.vars c.args.lit c.in-Some.c c.meet-met.result.w (link_in c.meet-met.result.next) met side link in
+    let way = subst (λ o. IsOnItsWay c.args.watches.now c.loop-c.watches c.args.trail.now c.loop-c.trail c.lower_if_late.new.progress c.args.lit (link_in c.loop-c.last) o) (sym c.clause.ensures ∙ c.in-Some.is) c.loop-c.invariant.0 in
+    let met = meets c.args.watches.now c.loop-c.watches c.args.trail.now c.loop-c.trail c.lower_if_late.new.progress c.args.lit (link_in c.loop-c.last) c.in-Some.c way in
+    let side = subst (λ (a : ArenaState). (h : HeadState) → slice_get a.heads c.in-Some.c ≡ Some h → (side_in c.meet-met.result.here) ≡ side_of h c.args.lit) c.arena.ensures c.meet-met.ensures.side in
+    let link = subst (λ (a : ArenaState). slice_get (map (link_of (side_in c.meet-met.result.here)) a.heads) c.in-Some.c ≡ Some (link_in c.meet-met.result.next)) c.arena.ensures c.meet-met.ensures.next in
+    let come = comes c.loop-c.watches c.loop-c.trail.vars c.args.lit c.in-Some.c (side_in c.meet-met.result.here) (link_in c.meet-met.result.next) met side link in
     let found = subst (λ (a : ArenaState). slice_get a.heads c.in-Some.c ≡ Some come.leads.head) (sym c.arena-in-Some.ensures) come.leads.is_head in
     let seen = c.in-Forces.ensures come.leads.head found in
     seen.2
 
-pub loop-c-preserved-then-late-2 : goal.loop-c-preserved-then-late-2
-loop-c-preserved-then-late-2 c =
-    let way = subst (λ o. IsOnItsWay c.args.watches.now c.loop-c.watches c.args.trail.now c.loop-c.trail c.loop-c.progress c.args.lit (link_in c.loop-c.last) o) (sym c.clause.ensures ∙ c.in-Some.is) c.loop-c.invariant.0 in
-    let met = meets c.args.watches.now c.loop-c.watches c.args.trail.now c.loop-c.trail c.loop-c.progress c.args.lit (link_in c.loop-c.last) c.in-Some.c way in
-    let side = subst (λ (a : ArenaState). (h : HeadState) → slice_get a.heads c.in-Some.c ≡ Some h → c.meet-met.result.w ≡ side_of h c.args.lit) c.arena.ensures c.meet-met.ensures.side in
-    let link = subst (λ (a : ArenaState). slice_get (map (link_of c.meet-met.result.w) a.heads) c.in-Some.c ≡ Some (link_in c.meet-met.result.next)) c.arena.ensures c.meet-met.ensures.next in
-    let come = comes c.loop-c.watches c.loop-c.trail.vars c.args.lit c.in-Some.c c.meet-met.result.w (link_in c.meet-met.result.next) met side link in
-    let found = subst (λ (a : ArenaState). slice_get a.heads c.in-Some.c ≡ Some come.leads.head) (sym c.arena-in-Some.ensures) come.leads.is_head in
-    let seen = c.in-Forces.ensures come.leads.head found in
-    let forces =
-    turn_forces c.args.watches.now c.loop-c.watches c.args.trail.now c.loop-c.trail c.loop-c.progress c.args.lit (link_in c.loop-c.last) c.in-Some.c c.meet-met.result.w (link_in c.meet-met.result.next) c.in-Forces.other way come
-    (way_false c.args.watches.now c.loop-c.watches c.args.trail.now c.loop-c.trail c.loop-c.progress c.args.lit (link_in c.loop-c.last) (Some c.in-Some.c) way) seen.0 seen.1 seen.3 in
-    let more : TrailState = forced c.loop-c.trail c.in-Forces.other c.in-Some.c in
-    let here : HasCome c.loop-c.watches more.vars c.args.lit c.in-Some.c c.meet-met.result.w (link_in c.meet-met.result.next) = record { leads = come.leads; side = come.side; watches = come.watches; within = come.within } in
-    let later : (e : Entry) → nat_lt c.known_level.result c.current-current.result ≡ false → slice_get more.entries c.loop-c.progress.passed ≡ Some e → more.current ≤ e.level =
-    λ e early found.
-    let same : way.entry ≡ e = same_entry way.entry e (sym (get_in_front c.loop-c.trail.entries (record { lit = c.in-Forces.other; level = c.loop-c.trail.current; reason = Some c.in-Some.c } ∷ []) c.loop-c.progress.passed way.entry way.found) ∙ found) in
-    subst (λ (x : Entry). c.loop-c.trail.current ≤ x.level) same (c.loop-c.invariant.2 way.entry early way.found) in
-    let is_true : Has more.entries (watched (not c.meet-met.result.w) come.leads.head) =
-    subst (Has more.entries) seen.1 (forced_true c.loop-c.trail.entries (record { lit = c.in-Forces.other; level = c.loop-c.trail.current; reason = Some c.in-Some.c })) in
-    let on =
-    turn_marks c.args.watches.now c.loop-c.watches c.args.trail.now more c.loop-c.progress c.lower-then-late-2.new.self c.args.lit (link_in c.loop-c.last) c.in-Some.c c.meet-met.result.w (link_in c.meet-met.result.next) forces here is_true
-    c.lower-then-late-2.ensures.passed c.lower-then-late-2.ensures.marked c.lower-then-late-2.ensures.kept in (
-      subst (λ t. IsOnItsWay c.args.watches.now c.loop-c.watches c.args.trail.now t c.lower-then-late-2.new.self c.args.lit (link_in c.loop-c.next) (link_in c.meet-met.result.next)) (sym c.force.ensures)
-          (subst (λ o. IsOnItsWay c.args.watches.now c.loop-c.watches c.args.trail.now more c.lower-then-late-2.new.self c.args.lit o (link_in c.meet-met.result.next)) (sym (sym c.clause.ensures ∙ c.in-Some.is)) on),
-      c.lower-then-late-2.ensures.passed ∙ c.loop-c.invariant.1,
-      λ e early found.
-          subst (λ (t : TrailState). t.current ≤ e.level) (sym c.force.ensures)
-          (later e early (subst (λ k. slice_get more.entries k ≡ Some e) c.lower-then-late-2.ensures.passed (subst (λ (t : TrailState). slice_get t.entries c.lower-then-late-2.new.self.passed ≡ Some e) c.force.ensures found))),
-    )
-  where
-    same_entry : (a b : Entry) → Some a ≡ Some b → a ≡ b
-    same_entry a b e = cc
-
 pub loop-c-preserved : goal.loop-c-preserved
 loop-c-preserved c =
-    let way = subst (λ o. IsOnItsWay c.args.watches.now c.loop-c.watches c.args.trail.now c.loop-c.trail c.loop-c.progress c.args.lit (link_in c.loop-c.last) o) (sym c.clause.ensures ∙ c.in-Some.is) c.loop-c.invariant.0 in
-    let met = meets c.args.watches.now c.loop-c.watches c.args.trail.now c.loop-c.trail c.loop-c.progress c.args.lit (link_in c.loop-c.last) c.in-Some.c way in
-    let side = subst (λ (a : ArenaState). (h : HeadState) → slice_get a.heads c.in-Some.c ≡ Some h → c.meet-met.result.w ≡ side_of h c.args.lit) c.arena.ensures c.meet-met.ensures.side in
-    let link = subst (λ (a : ArenaState). slice_get (map (link_of c.meet-met.result.w) a.heads) c.in-Some.c ≡ Some (link_in c.meet-met.result.next)) c.arena.ensures c.meet-met.ensures.next in
-    let come = comes c.loop-c.watches c.loop-c.trail.vars c.args.lit c.in-Some.c c.meet-met.result.w (link_in c.meet-met.result.next) met side link in
+    let way = subst (λ o. IsOnItsWay c.args.watches.now c.loop-c.watches c.args.trail.now c.loop-c.trail c.lower_if_late.new.progress c.args.lit (link_in c.loop-c.last) o) (sym c.clause.ensures ∙ c.in-Some.is) c.loop-c.invariant.0 in
+    let met = meets c.args.watches.now c.loop-c.watches c.args.trail.now c.loop-c.trail c.lower_if_late.new.progress c.args.lit (link_in c.loop-c.last) c.in-Some.c way in
+    let side = subst (λ (a : ArenaState). (h : HeadState) → slice_get a.heads c.in-Some.c ≡ Some h → (side_in c.meet-met.result.here) ≡ side_of h c.args.lit) c.arena.ensures c.meet-met.ensures.side in
+    let link = subst (λ (a : ArenaState). slice_get (map (link_of (side_in c.meet-met.result.here)) a.heads) c.in-Some.c ≡ Some (link_in c.meet-met.result.next)) c.arena.ensures c.meet-met.ensures.next in
+    let come = comes c.loop-c.watches c.loop-c.trail.vars c.args.lit c.in-Some.c (side_in c.meet-met.result.here) (link_in c.meet-met.result.next) met side link in
     let found = subst (λ (a : ArenaState). slice_get a.heads c.in-Some.c ≡ Some come.leads.head) (sym c.arena-in-Some.ensures) come.leads.is_head in
     let seen = c.in-Forces.ensures come.leads.head found in
     let forces =
-    turn_forces c.args.watches.now c.loop-c.watches c.args.trail.now c.loop-c.trail c.loop-c.progress c.args.lit (link_in c.loop-c.last) c.in-Some.c c.meet-met.result.w (link_in c.meet-met.result.next) c.in-Forces.other way come
-    (way_false c.args.watches.now c.loop-c.watches c.args.trail.now c.loop-c.trail c.loop-c.progress c.args.lit (link_in c.loop-c.last) (Some c.in-Some.c) way) seen.0 seen.1 seen.3 in
+    turn_forces c.args.watches.now c.loop-c.watches c.args.trail.now c.loop-c.trail c.lower_if_late.new.progress c.args.lit (link_in c.loop-c.last) c.in-Some.c (side_in c.meet-met.result.here) (link_in c.meet-met.result.next) c.in-Forces.other way come
+    (way_false c.args.watches.now c.loop-c.watches c.args.trail.now c.loop-c.trail c.lower_if_late.new.progress c.args.lit (link_in c.loop-c.last) (Some c.in-Some.c) way) seen.0 seen.1 seen.3 in
     let more : TrailState = forced c.loop-c.trail c.in-Forces.other c.in-Some.c in
-    let here : HasCome c.loop-c.watches more.vars c.args.lit c.in-Some.c c.meet-met.result.w (link_in c.meet-met.result.next) = record { leads = come.leads; side = come.side; watches = come.watches; within = come.within } in
-    let later : (e : Entry) → nat_lt c.known_level.result c.current-current.result ≡ false → slice_get more.entries c.loop-c.progress.passed ≡ Some e → more.current ≤ e.level =
-    λ e early found.
-    let same : way.entry ≡ e = same_entry way.entry e (sym (get_in_front c.loop-c.trail.entries (record { lit = c.in-Forces.other; level = c.loop-c.trail.current; reason = Some c.in-Some.c } ∷ []) c.loop-c.progress.passed way.entry way.found) ∙ found) in
-    subst (λ (x : Entry). c.loop-c.trail.current ≤ x.level) same (c.loop-c.invariant.2 way.entry early way.found) in
-    let offset : IsOffset more.entries c.loop-c.progress.mark c.loop-c.progress.passed forces.entry.level (watched (not c.meet-met.result.w) come.leads.head) =
-    subst (IsOffset more.entries c.loop-c.progress.mark c.loop-c.progress.passed forces.entry.level) seen.1
-    (offset_forced c.loop-c.trail.entries (record { lit = c.in-Forces.other; level = c.loop-c.trail.current; reason = Some c.in-Some.c }) c.loop-c.progress.mark c.loop-c.progress.passed forces.entry.level (later forces.entry (grind (arith, nat_tests, c.if-late-2.false)) forces.found)) in
+    let here : HasCome c.loop-c.watches more.vars c.args.lit c.in-Some.c (side_in c.meet-met.result.here) (link_in c.meet-met.result.next) = record { leads = come.leads; side = come.side; watches = come.watches; within = come.within } in
+    let later : (e : Entry) → slice_get more.entries c.lower_if_late.new.progress.passed ≡ Some e → (more.current ≤ e.level) ⊎ IsMarked c.lower_if_late.new.progress.mark c.lower_if_late.new.progress.passed =
+    λ e found.
+    let same : way.entry ≡ e = same_entry way.entry e (sym (get_in_front c.loop-c.trail.entries (record { lit = c.in-Forces.other; level = c.loop-c.trail.current; reason = Some c.in-Some.c } ∷ []) c.lower_if_late.new.progress.passed way.entry way.found) ∙ found) in
+    subst (λ (x : Entry). (c.loop-c.trail.current ≤ x.level) ⊎ IsMarked c.lower_if_late.new.progress.mark c.lower_if_late.new.progress.passed) same (c.loop-c.invariant.1 way.entry way.found) in
+    let offset : IsOffset more.entries c.lower_if_late.new.progress.mark c.lower_if_late.new.progress.passed forces.entry.level (watched (not (side_in c.meet-met.result.here)) come.leads.head) =
+    subst (IsOffset more.entries c.lower_if_late.new.progress.mark c.lower_if_late.new.progress.passed forces.entry.level) seen.1
+    (offset_forced c.loop-c.trail.entries (record { lit = c.in-Forces.other; level = c.loop-c.trail.current; reason = Some c.in-Some.c }) c.lower_if_late.new.progress.mark c.lower_if_late.new.progress.passed forces.entry.level (later forces.entry forces.found)) in
     let on =
-    turn_keeps c.args.watches.now c.loop-c.watches c.args.trail.now more c.loop-c.progress c.args.lit (link_in c.loop-c.last) c.in-Some.c c.meet-met.result.w (link_in c.meet-met.result.next) forces here offset in (
-      subst (λ t. IsOnItsWay c.args.watches.now c.loop-c.watches c.args.trail.now t c.loop-c.progress c.args.lit (link_in c.loop-c.next) (link_in c.meet-met.result.next)) (sym c.force.ensures)
-          (subst (λ o. IsOnItsWay c.args.watches.now c.loop-c.watches c.args.trail.now more c.loop-c.progress c.args.lit o (link_in c.meet-met.result.next)) (sym (sym c.clause.ensures ∙ c.in-Some.is)) on),
-      c.loop-c.invariant.1,
-      λ e early found. subst (λ (t : TrailState). t.current ≤ e.level) (sym c.force.ensures) (later e early (subst (λ (t : TrailState). slice_get t.entries c.loop-c.progress.passed ≡ Some e) c.force.ensures found)),
+    turn_keeps c.args.watches.now c.loop-c.watches c.args.trail.now more c.lower_if_late.new.progress c.args.lit (link_in c.loop-c.last) c.in-Some.c (side_in c.meet-met.result.here) (link_in c.meet-met.result.next) forces here offset in (
+      subst (λ t. IsOnItsWay c.args.watches.now c.loop-c.watches c.args.trail.now t c.lower_if_late.new.progress c.args.lit (link_in c.meet-met.result.here) (link_in c.meet-met.result.next)) (sym c.force.ensures)
+          (subst (λ o. IsOnItsWay c.args.watches.now c.loop-c.watches c.args.trail.now more c.lower_if_late.new.progress c.args.lit o (link_in c.meet-met.result.next)) (sym c.meet-met.ensures.clause) on),
+      λ e found.
+          subst (λ (t : TrailState). (t.current ≤ e.level) ⊎ IsMarked c.lower_if_late.new.progress.mark c.lower_if_late.new.progress.passed) (sym c.force.ensures)
+          (later e (subst (λ (t : TrailState). slice_get t.entries c.lower_if_late.new.progress.passed ≡ Some e) c.force.ensures found)),
     )
   where
     same_entry : (a b : Entry) → Some a ≡ Some b → a ≡ b
@@ -417,33 +331,33 @@ loop-c-preserved c =
 
 pub returns-in-Falsified-clause-conflict : goal.returns-in-Falsified-clause-conflict
 returns-in-Falsified-clause-conflict c =
-    let way = subst (λ o. IsOnItsWay c.args.watches.now c.loop-c.watches c.args.trail.now c.loop-c.trail c.loop-c.progress c.args.lit (link_in c.loop-c.last) o) (sym c.clause.ensures ∙ c.in-Some.is) c.loop-c.invariant.0 in
-    let met = meets c.args.watches.now c.loop-c.watches c.args.trail.now c.loop-c.trail c.loop-c.progress c.args.lit (link_in c.loop-c.last) c.in-Some.c way in
-    let side = subst (λ (a : ArenaState). (h : HeadState) → slice_get a.heads c.in-Some.c ≡ Some h → c.meet-met.result.w ≡ side_of h c.args.lit) c.arena.ensures c.meet-met.ensures.side in
-    let link = subst (λ (a : ArenaState). slice_get (map (link_of c.meet-met.result.w) a.heads) c.in-Some.c ≡ Some (link_in c.meet-met.result.next)) c.arena.ensures c.meet-met.ensures.next in
-    let come = comes c.loop-c.watches c.loop-c.trail.vars c.args.lit c.in-Some.c c.meet-met.result.w (link_in c.meet-met.result.next) met side link in
+    let way = subst (λ o. IsOnItsWay c.args.watches.now c.loop-c.watches c.args.trail.now c.loop-c.trail c.lower_if_late.new.progress c.args.lit (link_in c.loop-c.last) o) (sym c.clause.ensures ∙ c.in-Some.is) c.loop-c.invariant.0 in
+    let met = meets c.args.watches.now c.loop-c.watches c.args.trail.now c.loop-c.trail c.lower_if_late.new.progress c.args.lit (link_in c.loop-c.last) c.in-Some.c way in
+    let side = subst (λ (a : ArenaState). (h : HeadState) → slice_get a.heads c.in-Some.c ≡ Some h → (side_in c.meet-met.result.here) ≡ side_of h c.args.lit) c.arena.ensures c.meet-met.ensures.side in
+    let link = subst (λ (a : ArenaState). slice_get (map (link_of (side_in c.meet-met.result.here)) a.heads) c.in-Some.c ≡ Some (link_in c.meet-met.result.next)) c.arena.ensures c.meet-met.ensures.next in
+    let come = comes c.loop-c.watches c.loop-c.trail.vars c.args.lit c.in-Some.c (side_in c.meet-met.result.here) (link_in c.meet-met.result.next) met side link in
     let found = subst (λ (a : ArenaState). slice_get a.heads c.in-Some.c ≡ Some come.leads.head) (sym c.arena-in-Some.ensures) come.leads.is_head in
     let seen = c.in-Falsified.ensures come.leads.head found in
-    let is_false = way_false c.args.watches.now c.loop-c.watches c.args.trail.now c.loop-c.trail c.loop-c.progress c.args.lit (link_in c.loop-c.last) (Some c.in-Some.c) way in
-    conflict_at c.loop-c.watches.arena.heads c.loop-c.trail c.in-Some.c come.leads.head c.meet-met.result.w come.leads.is_head seen.0 (subst (HasNegated c.loop-c.trail.entries) (sym come.watches) is_false) seen.1 seen.2
+    let is_false = way_false c.args.watches.now c.loop-c.watches c.args.trail.now c.loop-c.trail c.lower_if_late.new.progress c.args.lit (link_in c.loop-c.last) (Some c.in-Some.c) way in
+    conflict_at c.loop-c.watches.arena.heads c.loop-c.trail c.in-Some.c come.leads.head (side_in c.meet-met.result.here) come.leads.is_head seen.0 (subst (HasNegated c.loop-c.trail.entries) (sym come.watches) is_false) seen.1 seen.2
 
 pub overflow_add-progress : goal.overflow_add-progress
 overflow_add-progress c =
-    let kept = c.current-current.ensures.kept in
+    let kept = c.current-level.ensures.kept in
     let false_at = stands_false c.args.trail.now c.args.progress.now.passed c.args.lit kept c.requires.lit in
-    omega (arith, slice_get_within c.args.trail.now.entries c.args.progress.now.passed false_at.entry false_at.found, kept.most, kept.vars_fit, c.loop-c.invariant.1)
+    omega (arith, slice_get_within c.args.trail.now.entries c.args.progress.now.passed false_at.entry false_at.found, kept.most, kept.vars_fit, c.lower_if_late.ensures.passed)
 
 pub returns-clause-kept : goal.returns-clause-kept
 returns-clause-kept c =
-    way_ends c.args.watches.now c.loop-c.watches c.args.trail.now c.loop-c.trail c.loop-c.progress c.args.lit (link_in c.loop-c.last)
-    (subst (λ o. IsOnItsWay c.args.watches.now c.loop-c.watches c.args.trail.now c.loop-c.trail c.loop-c.progress c.args.lit (link_in c.loop-c.last) o) (sym c.clause.ensures ∙ c.in_default.is) c.loop-c.invariant.0)
+    way_ends c.args.watches.now c.loop-c.watches c.args.trail.now c.loop-c.trail c.lower_if_late.new.progress c.args.lit (link_in c.loop-c.last)
+    (subst (λ o. IsOnItsWay c.args.watches.now c.loop-c.watches c.args.trail.now c.loop-c.trail c.lower_if_late.new.progress c.args.lit (link_in c.loop-c.last) o) (sym c.clause.ensures ∙ c.in_default.is) c.loop-c.invariant.0)
 
 pub returns-in-Falsified-clause-reach : goal.returns-in-Falsified-clause-reach
 returns-in-Falsified-clause-reach c =
     let way = c.loop-c.invariant.0 in
-    omega (arith, slice_get_within c.loop-c.trail.entries c.loop-c.progress.passed way.entry way.found)
+    omega (arith, slice_get_within c.loop-c.trail.entries c.lower_if_late.new.progress.passed way.entry way.found)
 
 pub returns-clause-reach : goal.returns-clause-reach
 returns-clause-reach c =
     let way = c.loop-c.invariant.0 in
-    omega (arith, slice_get_within c.loop-c.trail.entries c.loop-c.progress.passed way.entry way.found)
+    omega (arith, slice_get_within c.loop-c.trail.entries c.lower_if_late.new.progress.passed way.entry way.found)

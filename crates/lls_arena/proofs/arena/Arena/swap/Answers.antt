@@ -6,7 +6,7 @@ use Rattle.lls_arena.specs.Arena.{ArenaState, place_of, swapped}
 use Rattle.lls_arena.specs.declared.edges.Edges.{Edges}
 use Rattle.lls_arena.specs.Links.{EdgeTableState, no_pair, with_lit}
 use Rattle.lls_arena.specs.Parts.{AreWatched, DifferWithin, head_at, spans_in}
-use Rattle.lls_arena.proofs.Heads.{literal_inside, live_inside, same_arena, same_length, span_at, watched_at}
+use Rattle.lls_arena.proofs.Heads.{literal_inside, literal_read, live_inside, same_arena, same_length, span_at, watched_at}
 use Rattle.lls_arena.proofs.Pieces.{AreAllWatched-changed, AreWatched-swapped, DifferWithin-swapped, drop-outside, head_at-swapped, heads_in-changed, slice_range-swapped, with_lit_links}
 use Rattle.lls_arena.proofs.Told.{SayWhereTo-set}
 use Rattle.lls_arena.proofs.Rows.{length-spans_in, row_with_span, with_span}
@@ -32,8 +32,8 @@ overflow_add-here c =
     let first : s.start + place_of c.args.w < s.end = literal_inside c.args.self.now a.lits.items a.edges.pairs spans c.args.c (place_of c.args.w) s view parts.watched lt at_span c.requires.first in
     omega (arith, first, at.ends, parts.tail_begins, c.place.ensures)
 
-pub overflow_add-start : goal.overflow_add-start
-overflow_add-start c =
+pub overflow_add-there : goal.overflow_add-there
+overflow_add-there c =
     let a = c.self.inside in
     let spans = spans_in a.spans.items a.lives.items a.ids.items in
     let parts = c.self.invariant.0 in
@@ -81,8 +81,8 @@ index-lit-requires c =
     let lt : c.args.c < length spans = live_inside c.args.self.now a.lits.items a.edges.pairs spans c.args.c view parts.watched c.requires.live in
     let at_span = row_with_span a.spans.items a.lives.items a.ids.items c.args.c c.index.result.now lt c.index.ensures in
     let at = span_at spans a.tail c.args.c s parts.in_order lt at_span in
-    let first : s.start + place_of c.args.w < s.end = literal_inside c.args.self.now a.lits.items a.edges.pairs spans c.args.c (place_of c.args.w) s view parts.watched lt at_span c.requires.first in
-    omega (arith, first, at.ends, parts.tail_begins, c.place.ensures, c.swap.ensures.len)
+    let second : s.start + c.args.n < s.end = literal_inside c.args.self.now a.lits.items a.edges.pairs spans c.args.c c.args.n s view parts.watched lt at_span c.requires.second in
+    omega (arith, second, at.ends, parts.tail_begins)
 
 pub watch-requires-clause-within : goal.watch-requires-clause-within
 watch-requires-clause-within c =
@@ -124,8 +124,9 @@ invariant_of-self c =
     let swaps : SwappedAt a.lits.items lits (s.start + place_of c.args.w) (s.start + c.args.n) = subst (λ p. SwappedAt a.lits.items lits (s.start + p) (s.start + c.args.n)) c.place.ensures c.swap.ensures.by_index in
     let differ : DifferWithin a.lits.items lits s.start s.end = DifferWithin-swapped a.lits.items lits s.start s.end (place_of c.args.w) c.args.n swaps same first second in
     let known : c.args.c < length a.edges.pairs = omega (arith, lt, same_length a.lits.items a.edges.pairs spans parts.watched) in
-    let came : c.index-lit.result.now ≡ get_or lits (s.start + place_of c.args.w) (pos 0) =
-    sym (get_or_default lits (s.start + c.place.result) (pos 0) c.index-lit.result.now (omega (arith, first, at.ends, parts.tail_begins, c.place.ensures, same)) ∙ sym c.index-lit.ensures) ∙ ap (λ p. get_or lits (s.start + p) (pos 0)) c.place.ensures in
+    let read : c.index-lit.result.now ≡ get_or a.lits.items (s.start + c.args.n) (pos 0) =
+    sym (get_or_default a.lits.items (s.start + c.args.n) (pos 0) c.index-lit.result.now (omega (arith, second, at.ends, parts.tail_begins)) ∙ sym c.index-lit.ensures) in
+    let came : c.index-lit.result.now ≡ get_or lits (s.start + place_of c.args.w) (pos 0) = read ∙ sym (swaps.0 (pos 0)) in
     let was : AreWatched a.lits.items e s = subst (λ (x : Edges). AreWatched a.lits.items x s) (sym at_edges) (subst (AreWatched a.lits.items (get_or a.edges.pairs c.args.c e)) (sym at_span) (watched_at a.lits.items a.edges.pairs spans c.args.c e s parts.watched lt)) in
     let watches : AreWatched lits new s = (AreWatched-swapped a.lits.items lits e s c.args.w c.args.n c.index-lit.result.now swaps c.requires.beside came was) in
     let links : new.first.next ≡ e.first.next = (with_lit_links c.args.w c.index-lit.result.now e).0 in (
@@ -148,8 +149,8 @@ invariant_of-self c =
       c.self.invariant.3,
     )
 
-pub returns : goal.returns
-returns c =
+pub returns-clause-state : goal.returns-clause-state
+returns-clause-state c =
     let a = c.self.inside in
     let spans = spans_in a.spans.items a.lives.items a.ids.items in
     let parts = c.self.invariant.0 in
@@ -176,3 +177,18 @@ returns c =
     let tails : drop a.tail lits ≡ drop a.tail a.lits.items = drop-outside a.lits.items lits s.start s.end a.tail differ at.ends in
     rw (← c.self.view_is, pairs)
     (same_arena _ _ _ _ a.spare_heads a.spare_lits a.planned (heads_in-changed a.lits.items lits (swapped (place_of c.args.w) c.args.n) e new s a.tail differ parts.tail_begins a.edges.pairs spans 0 c.args.c says parts.in_order parts.watched lt at_edges at_span) tails)
+
+pub returns-clause-came : goal.returns-clause-came
+returns-clause-came c =
+    let a = c.self.inside in
+    let spans = spans_in a.spans.items a.lives.items a.ids.items in
+    let parts = c.self.invariant.0 in
+    let view = ap (λ (x : ArenaState). x.heads) c.self.view_is in
+    let s = with_span a.lives.items a.ids.items c.args.c c.index.result.now in
+    let lt : c.args.c < length spans = live_inside c.args.self.now a.lits.items a.edges.pairs spans c.args.c view parts.watched c.requires.live in
+    let at_span = row_with_span a.spans.items a.lives.items a.ids.items c.args.c c.index.result.now lt c.index.ensures in
+    let at = span_at spans a.tail c.args.c s parts.in_order lt at_span in
+    let second : s.start + c.args.n < s.end = literal_inside c.args.self.now a.lits.items a.edges.pairs spans c.args.c c.args.n s view parts.watched lt at_span c.requires.second in
+    let read : c.index-lit.result.now ≡ get_or a.lits.items (s.start + c.args.n) (pos 0) =
+    sym (get_or_default a.lits.items (s.start + c.args.n) (pos 0) c.index-lit.result.now (omega (arith, second, at.ends, parts.tail_begins)) ∙ sym c.index-lit.ensures) in
+    literal_read c.args.self.now a.lits.items a.edges.pairs spans c.args.c c.args.n s c.index-lit.result.now view parts.watched lt at_span second (omega (arith, at.ends, parts.tail_begins)) read

@@ -9,13 +9,13 @@ use Rattle.lls_order.proofs.order.Order.raise.Goals as goal
 pub invariant_of-self : goal.invariant_of-self
 invariant_of-self c =
     let m = c.self.inside in
-    let v = c.number-number.result in
+    let v = c.args.var in
     let new = c.raise.new.previous in
     let after = c.raise.new.next in
     let raised = set m.activities.items (v - 1) (m.top + 1) in
-    let some : 0 < v = omega (arith, c.number-number.ensures.variable.0) in
+    let some : 0 < v = omega (arith, c.raise.ensures.variable.0) in
     let most : c.args.var ≤ m.vars = rw (ap (λ (s : OrderState). s.vars) c.self.view_is) c.requires.within in
-    let v_in : v ≤ m.vars = omega (arith, most, c.number-number.ensures.number) in
+    let v_in : v ≤ m.vars = most in
     let room : m.top < MOST_ACTIVITY = rw (ap (λ (s : OrderState). s.top) c.self.view_is) c.requires.room in
     let is : c.raise.new.activities ≡ raised = c.raise.ensures.activities ∙ ap (λ xs. set xs (v - 1) (m.top + 1)) c.deref_mut.ensures.value in
     let vars : length c.deref_mut.result.now ≡ m.vars = ap length c.deref_mut.ensures.value ∙ c.self.invariant.activity_each in
