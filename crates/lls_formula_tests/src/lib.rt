@@ -44,3 +44,5 @@ mod prooflog_spent;
 mod text;
 #[cfg(test)]
 mod transition;
+#[cfg(test)]
+mod trim;

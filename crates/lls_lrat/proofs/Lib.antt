@@ -5,6 +5,7 @@ pub mod Found
 pub mod Lefts
 pub mod Entries
 pub mod Walked
+pub mod Looking
 pub mod Groups
 pub mod Lacking
 pub mod Occurring

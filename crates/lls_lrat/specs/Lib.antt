@@ -5,6 +5,7 @@ pub mod Hinted
 pub mod Left
 pub mod Entered
 pub mod Walked
+pub mod Looked
 pub mod Grouped
 pub mod Checking
 pub mod Verdict

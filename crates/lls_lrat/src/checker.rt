@@ -1,5 +1,6 @@
 // The checker of proof steps.
-ghost use Rattle.std.specs.Prelude.{◌≡◌, ◌≤◌, ◌+◌, ◌*◌, [], true, false, Some, None, Ok, Err, IfOk, OnOk, OnErr, if◌then◌else◌};
+ghost use Rattle.std.specs.Prelude.{◌≡◌, ◌≤◌, ◌+◌, ◌*◌, [], true, false, take, length, Some, None, Ok, Err, IfOk, IfSome, OnOk, OnErr, if◌then◌else◌};
+ghost use Rattle.std.specs.Option.{option_map};
 ghost use Rattle.lls_lit.specs.Formula.{is_within, IsUnsatisfiable};
 ghost use Rattle.lls_prooflog.specs.Range.{IsInRange};
 ghost use Rattle.lls_prooflog.specs.Steps.{numbered};
@@ -56,6 +57,7 @@ impl<'f> Model for Checker<'f> {
 
 impl<'f> Checker<'f> {
     ghost use Rattle.lls_lrat.specs.Checking.{stepped, progress_of, literals_of};
+    ghost use Rattle.lls_lrat.specs.Looked.{looked_at};
 
     /// A checker at the start of a proof.
     pub fn new(alloc: Global, formula: &'f Formula) -> Result<Checker<'f>, Memory>
@@ -88,8 +90,8 @@ impl<'f> Checker<'f> {
         self.take(step.lend())
     }
 
-    // The same without a copy of the step.
-    pub(crate) fn take(&mut self, step: StepRef) -> Result<Progress, Refusal>
+    /// The same without a copy of the step.
+    pub fn take(&mut self, step: StepRef) -> Result<Progress, Refusal>
         requires { IsInRange (step_of_ref step) }
         ensures stepped { GivesWrapped Refusal.Fault (λ _. self.new) result (stepped self.old (step_of_ref step.entry)) }
         ensures progress { IfOk result (λ p. p ≡ progress_of self.new.done) }
@@ -100,7 +102,10 @@ impl<'f> Checker<'f> {
             return Ok(Progress::Done);
         }
         match step {
-            StepRef::Add(addition) => self.add(addition.id, addition.lits, addition.hints),
+            StepRef::Add(addition) => {
+                self.add(addition.id, addition.lits, addition.hints)?;
+                Ok(self.progress())
+            }
             StepRef::Del(ids) => {
                 self.live.delete(ids);
                 Ok(Progress::Going)
@@ -119,7 +124,8 @@ impl<'f> Checker<'f> {
 
     // How far the proof has come.
     pub(crate) fn progress(&self) -> Progress
-        ensures { result ≡ progress_of self.now.done }
+        ensures progress { result ≡ progress_of self.now.done }
+        ensures sound { result ≡ Progress.Done → IsUnsatisfiable self.now.formula }
     {
         if self.done {
             Progress::Done
@@ -150,26 +156,27 @@ impl<'f> Checker<'f> {
         }
     }
 
-    // The step that adds a clause, where the empty clause wasn't added yet.
-    fn add(&mut self, id: u64, lits: &[Lit], hints: HintsRef) -> Result<Progress, Refusal>
+    /// The step that adds a clause, where the empty clause wasn't added yet. It tells along how many of the hints, at the least, unit
+    /// propagation leads to a conflict: None where the clause is good by its pivot alone.
+    pub fn add(&mut self, id: u64, lits: &[Lit], hints: HintsRef) -> Result<Option<usize>, Refusal>
         requires { self.old.done ≡ false }
         ensures stepped { GivesWrapped Refusal.Fault (λ _. self.new) result
             (stepped self.old (Add id lits.now (hints_of hints.entry))) }
-        ensures progress { IfOk result (λ p. p ≡ progress_of self.new.done) }
+        ensures looked { IfOk result (λ count.
+            option_map (λ n. take n (hints_of hints.entry)) count ≡ looked_at self.old.live lits.now (hints_of hints.entry)) }
+        ensures within { IfOk result (λ count. IfSome count (λ n. n ≤ length (hints_of hints.entry))) }
         ensures err { OnErr result (self.new ≡ self.old) }
-        ensures sound { result ≡ Ok Progress.Done → IsUnsatisfiable self.new.formula }
     {
         if self.live.find(id).is_some() {
             return Err(StepFault::IdLive(id).into());
         }
         assume(self.alloc, &mut self.assumed, lits)?;
-        check_hints(self.alloc, &mut self.live, &mut self.assumed, lits, hints)?;
+        let looked = check_hints(self.alloc, &mut self.live, &mut self.assumed, lits, hints)?;
         self.live.push(id, lits)?;
         if lits.is_empty() {
             self.done = true;
-            return Ok(Progress::Done);
         }
-        Ok(Progress::Going)
+        Ok(looked)
     }
 }
 

@@ -1,7 +1,8 @@
 // Additions that unit propagation alone doesn't give: each live clause that holds the negation of the first literal, the pivot, needs a
 // group of hints, by which unit propagation gives the resolvent with it.
-ghost use Rattle.std.specs.Prelude.{◌≡◌, ◌≤◌, ◌+◌, ◌∷◌, ◌++◌, true, Ok, Err, IfOk, OnOk, Some, [], length, drop, vec_len};
+ghost use Rattle.std.specs.Prelude.{◌≡◌, ◌≤◌, ◌+◌, ◌∷◌, ◌++◌, true, Ok, Err, IfOk, OnOk, IfSome, Some, [], length, take, drop, vec_len};
 ghost use Rattle.std.specs.List.{list_any};
+ghost use Rattle.std.specs.Option.{option_map};
 ghost use Rattle.std.specs.List.Sorted.{IsPermutation};
 ghost use Rattle.lls_lit.specs.Literal.{variable_of, negation};
 ghost use Rattle.lls_lit.specs.Formula.{is_within};
@@ -11,6 +12,7 @@ ghost use Rattle.lls_prooflog.specs.Rat.{groups_of, others, has_true, group_faul
 ghost use Rattle.lls_prooflog.specs.Pieces.{Begins};
 ghost use Rattle.lls_lrat.specs.Hinted.{are_within};
 ghost use Rattle.lls_lrat.specs.Grouped.{begins_group, is_negative, ids_of_groups, IsNextGroup, TellsFault};
+ghost use Rattle.lls_lrat.specs.Looked.{looked_at};
 
 use crate::assumed::Assumed;
 use crate::given::holds;
@@ -23,25 +25,32 @@ use lls_lit::Lit;
 use lls_prooflog::{HintsRef, StepFault};
 use std::alloc::Global;
 
-/// Whether the hints show a clause: by unit propagation, or by its pivot. Its literals are taken as false at the start.
+/// Whether the hints show a clause: by unit propagation along so many of them, or by its pivot. Its literals are taken as false at the start.
 pub(crate) fn check_hints(
     alloc: Global,
     live: &mut LiveClauses,
     assumed: &mut Assumed,
     lits: &[Lit],
     hints: HintsRef,
-) -> Result<(), Refusal>
+) -> Result<Option<usize>, Refusal>
     requires assumed { assumed.old.lits ≡ lits.now }
     requires lits { is_within assumed.old.vars lits.now ≡ true }
     requires within { are_within assumed.old.vars live.old.all ≡ true }
     ensures exact { TellsFault result
         (walk_on live.old.all (rat_fault live.old.all lits.now (groups_of (hints_of hints.entry))) lits.now (hints_of hints.entry)) }
+    ensures looked { IfOk result (λ count.
+        option_map (λ n. take n (hints_of hints.entry)) count ≡ looked_at live.old.all lits.now (hints_of hints.entry)) }
+    ensures within { IfOk result (λ count. IfSome count (λ n. n ≤ length (hints_of hints.entry))) }
     ensures live { live.new ≡ live.old }
     ensures vars { assumed.new.vars ≡ assumed.old.vars }
 {
-    match follow_hints(live, assumed, hints, 0)? {
-        WalkEnd::Conflict(_) => Ok(()),
-        WalkEnd::Open(place) => check_pivot(alloc, live, assumed, lits, hints, place),
+    let end = follow_hints(live, assumed, hints, 0)?;
+    match end {
+        WalkEnd::Conflict(count) => Ok(Some(count)),
+        WalkEnd::Open(place) => {
+            check_pivot(alloc, live, assumed, lits, hints, place)?;
+            Ok(None)
+        }
     }
 }
 

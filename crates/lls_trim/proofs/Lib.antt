@@ -1,0 +1,9 @@
+pub mod Walks
+pub mod Founded
+pub mod Readings
+pub mod Marks
+pub mod Renumbered
+pub mod Buffers
+pub mod Laws
+pub mod Used
+pub mod Theorem

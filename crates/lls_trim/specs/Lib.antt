@@ -1,0 +1,9 @@
+pub mod FaultText
+pub mod Placed
+pub mod Inferences
+pub mod Needed
+pub mod Trimmed
+pub mod Kept
+pub mod Buffers
+pub mod Recording
+pub mod Marking

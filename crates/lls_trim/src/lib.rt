@@ -1,0 +1,17 @@
+//! Trimmed proofs: of an accepted LRAT proof, the additions that the empty clause rests on.
+#![tactic(auto)]
+
+mod error;
+mod inferences;
+mod log;
+mod marking;
+mod names;
+mod recorder;
+mod renumbering;
+mod source;
+mod text;
+mod trimming;
+
+pub use error::TrimError;
+pub use log::trim;
+pub use text::trim_bytes;
