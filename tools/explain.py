@@ -20,8 +20,9 @@ import words as spoken
 WRAPPER = ("help", "posed", "quiet", "unproved", "version")
 LABELS = {"text": "RULE"}
 # what the values may be that aren't one of a few
+A_RULE = "a rule is written as B3/S23, 23/3 or B2-a/S12"
 MEANINGS = {
-    "rule": "a rule is written as B3/S23, 23/3 or B2-a/S12",
+    **dict.fromkeys(spoken.RULES, A_RULE),
     "period": "P or P,DX,DY without blanks, P from 1 to 63, DX and DY from -64 to 64",
     "live": "T:LOW-HIGH with commas between, T from 0 to 63, LOW and HIGH from 0 to 8192 or left out, as 0:1-,2:-7",
     "differ": "A,B, two generations from 0 to 63",
@@ -29,6 +30,8 @@ MEANINGS = {
 CELL = re.compile(rb"(?:[01*]|-?[A-Za-z][A-Za-z0-9]{0,31})'?")
 # the most bytes of a file that are looked at for its kind and its rows; no search file has more
 LOOK = 1_048_576
+# the most cells of a search file
+MOST_CELLS = 8192
 WIDTH = 100
 
 
@@ -56,7 +59,7 @@ class Line:
         return [(kind, word) for kind, (_, word) in zip(self.names, self.operands) if kind not in spoken.VALUES]
 
     def outputs(self):
-        return [] if self.command not in spoken.WRITERS else self.files() if self.command == "make" else self.files()[-1:]
+        return [(kind, name) for kind, name in self.files() if kind in spoken.OUTPUTS.get(self.command, [])]
 
     def inputs(self):
         return [file for file in self.files() if file not in self.outputs()]
@@ -184,13 +187,13 @@ RULE_FAULTS = {
     "RepeatedDigit": "this digit stands twice on its side",
     "RepeatedLetter": "this letter stands twice behind its digit",
     "NoLetters": "letters have to follow the dash",
-    "Stray": MEANINGS["rule"],
+    "Stray": A_RULE,
 }
 
 
 def bad_rule(line, fault, place, column):
     word = line.word(place)
-    text = line.value("rule") if word.startswith("--") else word
+    text = line.value(option_of(word)[2:]) if word.startswith("--") else word
     bytes_of = os.fsencode(text)
     why = RULE_FAULTS.get(fault)
     if fault == "BadLetter":
@@ -199,13 +202,33 @@ def bad_rule(line, fault, place, column):
         allowed = f"none but the letters {letters}" if letters else "no letters"
         why = f"behind {digits[-1].decode()} stand {allowed}" if digits else "a letter stands behind a digit"
     if column == len(bytes_of) + 1:
-        why = f"something is missing at its end; {MEANINGS['rule']}"
+        why = f"something is missing at its end; {A_RULE}"
     return f"the rule {shown(text)}, column {column}: {why}{marked(bytes_of, column)}"
 
 
 def same_name(line, place):
     does = "writes both" if line.command == "make" else "reads"
     return f"{shown(line.word(place))} is the file that {line.command} {does}: the proof needs another name"
+
+
+def neighbourhood(nine):
+    """A neighbourhood by its number, as its rows from top to bottom."""
+    bits = f"{nine:09b}"
+    return f"the neighbourhood {bits[:3]}/{bits[3:6]}/{bits[6:]}"
+
+
+def ends_of(line):
+    return [line.value(name) or spoken.LIFE for name in ("low", "high")]
+
+
+def rules_cross(line, nine):
+    low, high = ends_of(line)
+    return f"the low rule {shown(low)} gives 1 at {neighbourhood(nine)}, and the high one {shown(high)} gives 0: no rule is between"
+
+
+def loose_background(line, nine):
+    low, high = ends_of(line)
+    return f"the rules {shown(low)} and {shown(high)} differ at {neighbourhood(nine)}, so the background isn't settled"
 
 
 WORD_FAULTS = {
@@ -218,6 +241,8 @@ WORD_FAULTS = {
     "Operands": operands,
     "BadValue": bad_value,
     "SameName": same_name,
+    "RulesCross": rules_cross,
+    "LooseBackground": loose_background,
 }
 
 
@@ -344,7 +369,7 @@ def is_at_fault(name, fault, numbers):
         "TooWide": bool(numbers) and numbers[0] in widths,
         "TooMany": len(generations) > 64,
         "TooHigh": any(len(generation) > 64 for generation in generations),
-        "TooManyCells": sum(widths) > 8192,
+        "TooManyCells": sum(widths) > MOST_CELLS,
     }.get(fault, True)
 
 
@@ -384,7 +409,7 @@ def rows_fault(name, fault, numbers):
         "TooWide": "a row of {name} has {0} cells, and 64 are the most",
         "TooMany": "{name} has more than 64 generations; blank lines separate them",
         "TooHigh": "a generation of {name} has more than 64 rows; a blank line ends it",
-        "TooManyCells": "{name} has {0} cells or more, and 8192 are the most",
+        "TooManyCells": f"{{name}} has {{0}} cells or more, and {MOST_CELLS} are the most",
     }[fault].format(*numbers, name=name)
 
 
@@ -446,6 +471,8 @@ def demand_fault(line, name, fault, numbers):
         return f"--live {line.value('live')}: for generation {numbers[0]} the low end is above the high end, or above the number of cells"
     if fault == "PeriodTooLong":
         return f"--period {line.value('period')} asks for {numbers[0] + 1} generations or more, and {has}"
+    if line.command == "least":
+        return f"to count the live cells of {name} takes {numbers[0]} variables, with those of --live, and 1000000 are the most"
     return f"--live {line.value('live')} needs {numbers[0]} variables for counting, and 1000000 are the most; lower numbers need fewer"
 
 
@@ -466,6 +493,8 @@ def of_content(line, fault, numbers, is_limit=False):
         return other_kind(line, kind, name) or formula_fault(name, fault, numbers)
     if fault in ROWS and second == "pattern" and not is_rle and not is_at_fault(name, fault, numbers):
         kind, name = second, pattern
+    if "low" in line.options and fault == "TooManyCells" and numbers[0] <= MOST_CELLS:
+        return f"{name} has {numbers[0]} cells, and with an open rule 2048 are the most"
     return other_kind(line, kind, name) or rows_fault(name, fault, numbers)
 
 

@@ -1,14 +1,16 @@
 # Completion of lls's words in bash: `. tools/lls.bash`, or a link to it in ~/.local/share/bash-completion/completions/lls.
 # It serves `lls` and `./lls`.
 
-_lls_problem='--rule --edge --symmetry --period --live --differ'
+_lls_demands='--edge --symmetry --period --live --differ'
 
 # The options that a command takes.
 _lls_options() {
     case $1 in
-    check | cnf) echo "$_lls_problem --formula" ;;
-    judge) echo "$_lls_problem --as" ;;
-    search) echo "$_lls_problem --budget --keep --as --formula" ;;
+    check | cnf) echo "--rule $_lls_demands --formula" ;;
+    opencheck) echo "--low --high $_lls_demands --formula" ;;
+    judge) echo "--rule $_lls_demands --as" ;;
+    search | least) echo "--rule $_lls_demands --budget --keep --as --formula" ;;
+    open) echo "--low --high $_lls_demands --budget --keep --as --formula" ;;
     sat) echo '--budget --keep' ;;
     esac
 }
@@ -21,7 +23,7 @@ _lls_values() {
     --keep) echo 'all half' ;;
     --as) echo 'rows rle' ;;
     --formula) echo '1 2' ;;
-    --rule) echo 'B3/S23 B36/S23 B2/S B368/S245' ;;
+    --rule | --low | --high) echo 'B3/S23 B36/S23 B2/S B368/S245' ;;
     esac
 }
 
@@ -36,7 +38,7 @@ _lls_reply() {
 }
 
 _lls() {
-    local current=${COMP_WORDS[COMP_CWORD]} previous=${COMP_WORDS[COMP_CWORD - 1]} commands='check cnf judge lrat make rule sat search'
+    local current=${COMP_WORDS[COMP_CWORD]} previous=${COMP_WORDS[COMP_CWORD - 1]} commands='check cnf judge least lrat make open opencheck rule sat search'
     local first=1 words=()
     [ "${COMP_WORDS[1]-}" != --quiet ] || first=2
     [[ "${COMP_WORDS[first]-}" != --unproved && "${COMP_WORDS[first]-}" != --posed ]] || first=$((first + 1))

@@ -5,7 +5,8 @@
 
 A FILE is a history (rows of 0 and 1, an empty line between generations), a search file, patterns in RLE, one behind the other, or a
 picture in plaintext (.cells), Life 1.05 or Life 1.06.
-With no FILE the standard input is read, so `lls search .. | show.py` works; its answers `no pattern` and `undecided` are handed on.
+With no FILE the standard input is read, so `lls search .. | show.py` works; its answers `no pattern` and `undecided` are handed on, and
+so is the line that `lls least` and `lls open` print above a pattern.
 
 In the terminal two rows share a line. A file with cells that aren't known is drawn one row a line and two columns a cell: `??`
 is an unknown cell, a name stands for itself, and a mark as in search files says that the rule needn't hold into the cell.
@@ -27,10 +28,17 @@ from pictures import BadPicture, is_picture, pictures_of
 
 CELL = re.compile(r"(?:[01*]|-?[A-Za-z][A-Za-z0-9]{0,31})'?")
 ANSWERS = ("no pattern", "undecided")
+HEADLINE = re.compile(r"(?:least|at most) [0-9]+|B\S*/S\S*")
 
 
 class BadInput(Exception):
     """A text that can't be drawn, with why."""
+
+
+def cut_headline(text):
+    """Returns the line above a pattern that `least` or `open` found, or none, in a list, and what stands below."""
+    line, _, below = text.partition("\n")
+    return ([line], below) if HEADLINE.fullmatch(line) else ([], text)
 
 
 def read_generations(text):
@@ -254,11 +262,12 @@ def main():
         if len(texts) == 1 and texts[0].strip() in ANSWERS:
             print(texts[0].strip())
             return
+        headlines, texts = zip(*map(cut_headline, texts))
         files = [read_generations(text) for text in texts]
         if words.about:
             if not all(map(is_known, files)):
                 raise BadInput("--about is for generations that are known; this one has unknown or tied cells")
-            print("\n".join(line for generations in files for line in about(generations)))
+            print("\n".join(line for headline, generations in zip(headlines, files) for line in headline + about(generations)))
             return
         if words.svg:
             write(words.svg, animation(files) if words.animate else strips(files))
@@ -268,8 +277,8 @@ def main():
     except BadInput as fault:
         sys.exit(f"show.py: {fault}")
     columns = words.width or shutil.get_terminal_size().columns
-    for generations in files:
-        print("\n".join(drawn(generations, columns)))
+    for headline, generations in zip(headlines, files):
+        print("\n".join(headline + drawn(generations, columns)))
 
 
 if __name__ == "__main__":

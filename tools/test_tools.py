@@ -92,8 +92,13 @@ class Show(unittest.TestCase):
         for answer in ("no pattern\n", "undecided\n"):
             self.assertEqual(self.shown(answer), answer)
 
+    def test_lines_above_a_pattern_are_handed_on(self):
+        for line in ("least 1", "at most 12", "B2-a3/S", "B/S"):
+            self.assertEqual(self.shown(f"{line}\n1\n"), f"{line}\n0\n┌─┐\n│▀│\n└─┘\n")
+        self.assertEqual(self.shown("least 1\n1\n", "--about"), "least 1\ngeneration 0: 1 live in a box of 1 by 1 at column 0, row 0\n")
+
     def test_faults(self):
-        for text in ("", "0 2\n", "x = 1, y = 1\no\n", "accepted; done\n"):
+        for text in ("", "least 1\n", "0 2\n", "x = 1, y = 1\no\n", "accepted; done\n"):
             status, out, err = ran("tools/show.py", text=text)
             self.assertEqual((status, out), (1, ""))
             self.assertRegex(err, r"^show\.py: .+\n$")
@@ -294,6 +299,7 @@ class Building(unittest.TestCase):
         os.utime(path, (2**31, 2**31))
         self.write("q.lls", "# a ship\n#! --period 4,1,1 --live=0:1- --rule B2-a/S12\n* *\n")
         self.write("form.lls", "#! --formula 1 --edge open\n* *\n")
+        self.write("loose.lls", "#! --low B3/S2 --high=B3/S23\n* *\n")
         taken = ["--period", "4,1,1", "--live", "0:1-", "--rule", "B2-a/S12"]
         for words, ran_with in [
             (["search", "q.lls", "p"], ["search", "q.lls", "p", *taken]),
@@ -301,6 +307,7 @@ class Building(unittest.TestCase):
             (["search", "--budget", "9", "q.lls", "p", "--live=0:1-"], ["search", "--budget", "9", "q.lls", "p", "--live=0:1-", *taken[:2], *taken[4:]]),
             (["check", "form.lls", "p"], ["check", "form.lls", "p", "--formula", "1", "--edge", "open"]),
             (["judge", "form.lls", "p"], ["judge", "form.lls", "p", "--edge", "open"]),
+            (["open", "loose.lls", "p"], ["open", "loose.lls", "p", "--low", "B3/S2", "--high", "B3/S23"]),
         ]:
             said = f"lls: {' '.join(ran_with)}\n"
             self.assertEqual(self.lls("exit 9", "--posed", *words), (3, "\n".join(ran_with) + "\n", said), words)
@@ -358,6 +365,10 @@ class Completion(unittest.TestCase):
         self.assertEqual(self.replies("check", "a.lls", "--edge", "="), ["closed", "open"])
         self.assertEqual(self.replies("check", "a.lls", "--symmetry", "D2"), ["D2-", "D2\\|", "D2\\\\", "D2/"])
         self.assertEqual(self.replies("check", "exa"), [])
+        self.assertEqual(self.replies("op"), ["open", "opencheck"])
+        self.assertEqual(self.replies("opencheck", "a.lls", "--h"), ["--high"])
+        self.assertEqual(self.replies("opencheck", "a.lls", "--b"), [])
+        self.assertEqual(self.replies("open", "a.lls", "--low", "B36"), ["B36/S23", "B368/S245"])
 
     def test_options_are_those_of_the_usage(self):
         for command in commands_of_usage():

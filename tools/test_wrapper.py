@@ -33,17 +33,17 @@ exit "${ENDS-0}"
 WORDS = [
     ("serch q.lls p", "UnknownCommand", "no command 'serch'; is it search?"),
     ("SAT f p", "UnknownCommand", "no command 'SAT'; is it sat?"),
-    ("fly", "UnknownCommand", "no command 'fly'; one of check search judge cnf sat lrat rule make"),
-    ("q.lls p", "UnknownCommand", "'q.lls' stands where the command has to, which is one of check search judge cnf sat lrat rule make"),
-    ("--edge=open check q.lls p", "UnknownCommand", "'--edge=open' stands where the command has to, which is one of check search judge cnf sat lrat rule make"),
+    ("fly", "UnknownCommand", "no command 'fly'; one of check search judge cnf sat lrat rule make least open opencheck"),
+    ("q.lls p", "UnknownCommand", "'q.lls' stands where the command has to, which is one of check search judge cnf sat lrat rule make least open opencheck"),
+    ("--edge=open check q.lls p", "UnknownCommand", "'--edge=open' stands where the command has to, which is one of check search judge cnf sat lrat rule make least open opencheck"),
     ("check q.lls ''", "BadWord 3", "word 3 is empty"),
     ("check q.lls p -rule B3/S23", "BadWord 4", "'-rule' has one dash, and options have two; is it --rule?"),
     ("lrat f -", "BadWord 3", "'-' is no option; a file whose name begins with - is written ./-name"),
     ("lrat f -p", "BadWord 3", "'-p' is no option; a file whose name begins with - is written ./-p"),
     ("search q.lls p --simmetry C2", "UnknownOption 4", "no option '--simmetry'; is it --symmetry?"),
     ("cnf q.lls --fast=1", "UnknownOption 3", "no option '--fast'; cnf takes --rule --edge --symmetry --period --live --differ --formula"),
-    ("check q.lls p --budget 9", "UnknownOption 4", "check doesn't take --budget, which is for search, sat"),
-    ("sat f p --edge open", "UnknownOption 4", "sat doesn't take --edge, which is for check, search, judge, cnf"),
+    ("check q.lls p --budget 9", "UnknownOption 4", "check doesn't take --budget, which is for search, sat, least, open"),
+    ("sat f p --edge open", "UnknownOption 4", "sat doesn't take --edge, which is for check, search, judge, cnf, least, open, opencheck"),
     ("rule B3/S23 --fast", "UnknownOption 3", "rule takes no options"),
     ("search q.lls p --quiet", "UnknownOption 4", "--quiet is the wrapper's, and stands before the command"),
     ("cnf --rule B3/S23 q.lls --rule=B3/S2", "RepeatedOption 5", "--rule stands twice, as word 2 and as word 5"),
@@ -80,6 +80,26 @@ WORDS = [
     ("make 1 8 p p", "SameName 5", "'p' is the file that make writes both: the proof needs another name"),
     ("rule B3", "Stray 2 3", "the rule 'B3', column 3: something is missing at its end; a rule is written as B3/S23, 23/3 or B2-a/S12\n    B3\n      ^"),
     ("search q.lls q.lls", "SameName 3", "'q.lls' is the file that search reads: the proof needs another name"),
+    ("least q.lls q.lls", "SameName 3", "'q.lls' is the file that least reads: the proof needs another name"),
+    ("open q.lls p --rule B3/S2", "UnknownOption 4", "open doesn't take --rule, which is for check, search, judge, cnf, least"),
+    ("least q.lls p --low B3/S2", "UnknownOption 4", "least doesn't take --low, which is for open, opencheck"),
+    ("open q.lls p --low= --high B3/S2", "MissingValue 4", "'--low=' has no value: a rule is written as B3/S23, 23/3 or B2-a/S12"),
+    ("open q.lls p --high B2-/S", "NoLetters 4 3", "the rule 'B2-/S', column 3: letters have to follow the dash\n    B2-/S\n      ^"),
+    (
+        "open q.lls p --high B3/S2",
+        "RulesCross 23",
+        "the low rule 'B3/S23' gives 1 at the neighbourhood 000/010/111, and the high one 'B3/S2' gives 0: no rule is between",
+    ),
+    (
+        "opencheck q.lls q.lls --low B3/S238",
+        "RulesCross 511",
+        "the low rule 'B3/S238' gives 1 at the neighbourhood 111/111/111, and the high one 'B3/S23' gives 0: no rule is between",
+    ),
+    (
+        "open q.lls p --high=B03/S23",
+        "LooseBackground 0",
+        "the rules 'B3/S23' and 'B03/S23' differ at the neighbourhood 000/000/000, so the background isn't settled",
+    ),
 ]
 
 # Files that are there, and words, faults of what they say, and explanations.
@@ -181,6 +201,14 @@ CONTENT = [
         "--live 0:1-300 needs 1232896 variables for counting, and 1000000 are the most; lower numbers need fewer",
     ),
     ("cnf larger.lls", "limit: TooManyCells 8256", "larger.lls has 8256 cells or more, and 8192 are the most"),
+    (
+        "least large.lls new",
+        "limit: Counters 16777216",
+        "to count the live cells of large.lls takes 16777216 variables, with those of --live, and 1000000 are the most",
+    ),
+    ("open large.lls new", "limit: TooManyCells 4096", "large.lls has 4096 cells, and with an open rule 2048 are the most"),
+    ("opencheck larger.lls p", "limit: TooManyCells 8256", "larger.lls has 8256 cells or more, and 8192 are the most"),
+    ("open q.lls folder", "outside: CreateFailed", "'folder' is a folder"),
     ("search q.lls folder", "outside: CreateFailed", "'folder' is a folder"),
     ("search q.lls new", "outside: WriteFailed", "'new' could be written only in part: is the disk full?"),
     ("judge q.lls open.rle --as=rle", "content: NoEnd", "open.rle ends without the ! of a picture's end"),
@@ -287,7 +315,7 @@ class Explanations(Case):
         self.assertEqual(self.lls("--quiet", *given, PATH=search_path), (2, b"", before + said))
 
     def test_no_words(self):
-        why = "the first word is the command, one of check search judge cnf sat lrat rule make; ./lls --help says what each does"
+        why = "the first word is the command, one of check search judge cnf sat lrat rule make least open opencheck; ./lls --help says what each does"
         self.assertEqual(explain.explanation(2, "lls: words: NoCommand", []), why)
 
     def test_usage(self):
@@ -312,7 +340,7 @@ class Explanations(Case):
     def test_words_that_are_no_text(self):
         said = "lls: words: UnknownCommand"
         found = self.lls(b"\xff\x1b[2J", SAYS=said, ENDS="2")
-        self.assertEqual(found[2], f"{said}\nlls: no command '??[2J'; one of check search judge cnf sat lrat rule make\n")
+        self.assertEqual(found[2], f"{said}\nlls: no command '??[2J'; one of check search judge cnf sat lrat rule make least open opencheck\n")
 
     def test_nothing_is_said_where_there_is_nothing_to_say(self):
         for said, status in [

@@ -17,20 +17,30 @@ import sys
 
 import ending
 
-PROBLEM = ["rule", "edge", "symmetry", "period", "live", "differ"]
+DEMANDS = ["edge", "symmetry", "period", "live", "differ"]
+PROBLEM = ["rule"] + DEMANDS
 FORMED = PROBLEM + ["formula"]
+# a problem whose rule is left open between two
+OPEN = ["low", "high"] + DEMANDS + ["formula"]
+EFFORT = ["budget", "keep"]
 COMMANDS = {
     "check": (["search", "proof"], FORMED),
-    "search": (["search", "proof"], FORMED + ["budget", "keep", "as"]),
+    "search": (["search", "proof"], FORMED + EFFORT + ["as"]),
     "judge": (["search", "pattern"], PROBLEM + ["as"]),
     "cnf": (["search"], FORMED),
-    "sat": (["formula", "proof"], ["budget", "keep"]),
+    "sat": (["formula", "proof"], EFFORT),
     "lrat": (["formula", "proof"], []),
     "rule": (["text"], []),
     "make": (["seed", "size", "search", "proof"], []),
+    "least": (["search", "proof"], FORMED + EFFORT + ["as"]),
+    "open": (["search", "proof"], OPEN + EFFORT + ["as"]),
+    "opencheck": (["search", "proof"], OPEN),
 }
-# the commands that write a proof, which may not have the name of the file before it
-WRITERS = {"search", "sat", "make"}
+# the operands that are written, none of which may have the name of a file before it
+OUTPUTS = {"search": ["proof"], "sat": ["proof"], "make": ["search", "proof"], "least": ["proof"], "open": ["proof"]}
+# the options whose values are rule texts
+RULES = ("rule", "low", "high")
+LIFE = "B3/S23"
 # the numbers that may be said
 RANGES = {"budget": (0, 10_000_000), "seed": (0, 2**64 - 1), "size": (1, 64)}
 # the operands that are no names of files
@@ -146,9 +156,32 @@ def rule_sides(text):
     return sides
 
 
+def live_nines(text):
+    """The neighbourhoods of a rule text without a fault at which a cell lives on, as numbers."""
+    # only a rule that is left open needs the classes' neighbourhoods
+    import open_formula
+
+    sides = dict(zip(open_formula.SIDES, rule_sides(text)))
+    found = set()
+    for (side, count, letter), nines in open_formula.CLASSES.items():
+        if (str(count), letter) in sides[side]:
+            found |= {sum(256 >> k for k, bit in enumerate(nine) if bit) for nine in nines}
+    return found
+
+
+def between(low, high):
+    """Tests whether two rules leave something between them, and at the neighbourhoods of nine equal cells nothing."""
+    low, high = live_nines(low), live_nines(high)
+    if low - high:
+        raise Fault(f"RulesCross {min(low - high)}")
+    for nine in (0, 511):
+        if (nine in low) != (nine in high):
+            raise Fault(f"LooseBackground {nine}")
+
+
 def value(place, option, text):
     """What the value of an option or an operand says."""
-    if option == "rule":
+    if option in RULES:
         fault = rule_fault(text)
         if fault:
             raise Fault(f"{fault[0]} {place} {fault[1]}")
@@ -209,8 +242,13 @@ def job(words):
     values = {name: value(place, name, text) for name, (place, text) in given.items()}
     for name, (place, text) in zip(names, operands):
         values[name] = value(place, VALUES[name], text) if name in VALUES else text
-    if words[0] in WRITERS and operands[-2][1] == operands[-1][1]:
-        raise Fault(f"SameName {operands[-1][0]}")
+    before = []
+    for name, (place, text) in zip(names, operands):
+        if name in OUTPUTS.get(words[0], []) and text in before:
+            raise Fault(f"SameName {place}")
+        before += [text] if name not in VALUES else []
+    if "low" in options:
+        between(values.get("low", LIFE), values.get("high", LIFE))
     return words[0], values
 
 
@@ -224,6 +262,8 @@ def answer(words):
 
 GOOD = {
     "rule": ["B3/S23", "b36s23", "23/3", "B2-a/S12", "B3/S2-i34q", "/", "B/S", "B0123478/S01234678"],
+    "low": ["B3/S23", "B/S", "23/3", "B3-j/S2", "B3k/S23-a", "B03/S238"],
+    "high": ["B3/S23", "B36s23", "B3/S023", "B03/S23", "B3/S238", "B3/S2-i34q", "B2a3/S12345", "B013/S0238"],
     "period": ["1", "63", "4,1,-1", "04,-64,64", "2,0,0", "00000000000000000007"],
     "live": ["0:1-2", "0:-", "63:-8192", "0:1-,2:-7", "1:3-2"],
     "differ": ["0,1", "63,0", "5,5"],
@@ -234,6 +274,8 @@ GOOD = {
 }
 BAD = {
     "rule": ["B9/S", "B1k/S", "B33/S", "B2aa/S", "B2-/S", "B3", "3", "B3/23", "B2-3/S", "Ba/S", "B3S2/3", "23/3/", "B3//S", "2--a/3", "8c/"],
+    "low": ["B9/S", "B3", "B2aa/S", "B3/S2-"],
+    "high": ["B3/S23/", "Ba/S", "8c/", "3"],
     "period": ["0", "64", "4,1", "4,1,1,1", "4,65,0", "4,0,-65", "4,+1,0", "4,,1", "4,--1,0", "000000000000000000004", "x"],
     "live": ["0", "0:", "0:1", "1-2", ":1-2", "64:1-2", "0:8193-", "0:1-2-3", "0:1:2", "0:1-2,", ",0:1-2", "0:000000000000000000001-"],
     "differ": ["0", "0,64", "0,1,2", "0,-1", ","],
@@ -260,9 +302,10 @@ def some_operand(choose, name):
 
 def some_line(choose):
     """A random command line: of a right one, perhaps with a few words changed."""
-    command = choose.choice(list(COMMANDS))
+    command = choose.choice([*COMMANDS, "open", "opencheck"])
     names, options = COMMANDS[command]
-    chosen = [name for name in options if choose.random() < 0.35]
+    # two rules have faults together, behind all others
+    chosen = [name for name in options if choose.random() < (0.7 if name in ("low", "high") else 0.15 if "low" in options else 0.35)]
     if choose.random() < 0.1:
         chosen.append(choose.choice(list(GOOD)))
     operands = [some_operand(choose, name) for name in names]

@@ -13,12 +13,14 @@ use Rattle.lls_words.specs.declared.job.Job.TheVariants as jobs
 use Rattle.lls_words.specs.Command.{command_of}
 use Rattle.lls_words.specs.Scan.{Operand, Given, scan}
 use Rattle.lls_words.specs.Values.{seed_in, size_in}
-use Rattle.lls_words.specs.Job.{defaults, job_of, job_of_command, job_with, names_apart, rule_at, settled, value_or}
+use Rattle.lls_words.specs.Job.{checked_ends, defaults, job_of, job_of_command, job_with, names_apart, rule_at, settled, value_or}
 
 abbrev pub IsApart : Job → Type 0
 IsApart (jobs.Search search_file proof rule demands form budget keep_all rle) = search_file ≢ proof
 IsApart (jobs.Sat formula proof budget keep_all) = formula ≢ proof
 IsApart (jobs.Make seed size search_file proof) = search_file ≢ proof
+IsApart (jobs.Least search_file proof rule demands form budget keep_all rle) = search_file ≢ proof
+IsApart (jobs.Loose search_file proof low high demands form budget keep_all rle) = search_file ≢ proof
 IsApart job = Unit {0}
 
 abbrev pub AreApart : Result Job WordsError → Type 0
@@ -70,6 +72,19 @@ apart_with commands.Make (a ∷ b ∷ c ∷ []) givens = tt
 apart_with commands.Make (a ∷ b ∷ c ∷ d ∷ []) givens =
     through (value_or a.place (seed_in a.word)) _ (λ seed. through (value_or b.place (size_in b.word)) _ (λ size. different c d _ (λ differ. differ)))
 apart_with commands.Make (a ∷ b ∷ c ∷ d ∷ more ∷ rest) givens = tt
+apart_with commands.Least [] givens = tt
+apart_with commands.Least (a ∷ []) givens = tt
+apart_with commands.Least (a ∷ b ∷ []) givens = through (settled defaults givens) _ (λ s. different a b _ (λ differ. differ))
+apart_with commands.Least (a ∷ b ∷ more ∷ rest) givens = tt
+apart_with commands.Open [] givens = tt
+apart_with commands.Open (a ∷ []) givens = tt
+apart_with commands.Open (a ∷ b ∷ []) givens =
+    through (settled defaults givens) _ (λ s. different a b _ (λ differ. through (checked_ends s.low s.high) _ (λ ends. differ)))
+apart_with commands.Open (a ∷ b ∷ more ∷ rest) givens = tt
+apart_with commands.OpenCheck [] givens = tt
+apart_with commands.OpenCheck (a ∷ []) givens = tt
+apart_with commands.OpenCheck (a ∷ b ∷ []) givens = through (settled defaults givens) _ (λ s. through (checked_ends s.low s.high) _ (λ ends. tt))
+apart_with commands.OpenCheck (a ∷ b ∷ more ∷ rest) givens = tt
 
 apart_command : (command : Option Command) (words : List (List ℕ)) → AreApart (job_of_command command words)
 apart_command None words = tt

@@ -40,6 +40,8 @@ words_status-is (words.BadValue place) = tt
 words_status-is (words.BadRule place fault) = tt
 words_status-is (words.Operands expected found) = tt
 words_status-is (words.SameName place) = tt
+words_status-is (words.RulesCross nine) = tt
+words_status-is (words.LooseBackground nine) = tt
 
 -- words are refused with their own status, or for want of memory
 words_status-cases : (error : WordsError) → (words_status error ≡ statuses.Words) ⊎ (words_status error ≡ statuses.Memory)
@@ -54,6 +56,8 @@ words_status-cases (words.BadValue place) = inl refl
 words_status-cases (words.BadRule place fault) = inl refl
 words_status-cases (words.Operands expected found) = inl refl
 words_status-cases (words.SameName place) = inl refl
+words_status-cases (words.RulesCross nine) = inl refl
+words_status-cases (words.LooseBackground nine) = inl refl
 
 -- the status of a fault of a search file, of demands or of a formula's file
 abbrev IsPosedStatus : Status → Type 0

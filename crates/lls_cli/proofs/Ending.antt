@@ -61,6 +61,9 @@ LeavesShelf-refl (jobs.Lrat one two) shelf = tt
 LeavesShelf-refl (jobs.Search one two rule demands form budget keep_all rle) shelf = tt
 LeavesShelf-refl (jobs.Sat one two budget keep_all) shelf = tt
 LeavesShelf-refl (jobs.Make seed size one two) shelf = tt
+LeavesShelf-refl (jobs.Least one two rule demands form budget keep_all rle) shelf = tt
+LeavesShelf-refl (jobs.Loose one two low high demands form budget keep_all rle) shelf = tt
+LeavesShelf-refl (jobs.LooseCheck one two low high demands form) shelf = tt
 
 -- want of memory while the words are read
 words_lack : (job : Result Job WordsError) (shelf : ShelfMoment) (out err_before err_after : SinkMoment) (status : Status) → shelf.faults < 2 ^ 64
@@ -160,6 +163,8 @@ words_ended (words.BadValue place) job shelf out err_before err_after status fit
 words_ended (words.BadRule place fault) job shelf out err_before err_after status fits read said = rw (read (λ is. cc)) (words_refused (words.BadRule place fault) shelf out err_before err_after status fits said)
 words_ended (words.Operands expected found) job shelf out err_before err_after status fits read said = rw (read (λ is. cc)) (words_refused (words.Operands expected found) shelf out err_before err_after status fits said)
 words_ended (words.SameName place) job shelf out err_before err_after status fits read said = rw (read (λ is. cc)) (words_refused (words.SameName place) shelf out err_before err_after status fits said)
+words_ended (words.RulesCross nine) job shelf out err_before err_after status fits read said = rw (read (λ is. cc)) (words_refused (words.RulesCross nine) shelf out err_before err_after status fits said)
+words_ended (words.LooseBackground nine) job shelf out err_before err_after status fits read said = rw (read (λ is. cc)) (words_refused (words.LooseBackground nine) shelf out err_before err_after status fits said)
 
 -- the shelf is left alone by a job and by the answer to its question
 leaves_both : (job : Job) (question : Question) (files : Option Files) (before mid after : ShelfMoment)
@@ -176,6 +181,9 @@ leaves_both (jobs.Lrat one two) question files before mid after asked first seco
 leaves_both (jobs.Search one two rule demands form budget keep_all rle) question files before mid after asked first second = tt
 leaves_both (jobs.Sat one two budget keep_all) question files before mid after asked first second = tt
 leaves_both (jobs.Make seed size one two) question files before mid after asked first second = tt
+leaves_both (jobs.Least one two rule demands form budget keep_all rle) question files before mid after asked first second = tt
+leaves_both (jobs.Loose one two low high demands form budget keep_all rle) question files before mid after asked first second = tt
+leaves_both (jobs.LooseCheck one two low high demands form) question files before mid after asked first second = tt
 
 WroteFile-after : (file : Option AnswerFile) (before mid after : ShelfMoment) → KeepsFiles before mid → mid.faults ≡ before.faults → WroteFile file mid after → WroteFile file before after
 WroteFile-after None before mid after kept same wrote = record {
@@ -320,6 +328,9 @@ leaves_shelf (jobs.Lrat one two) before after inputs = tt
 leaves_shelf (jobs.Search one two rule demands form budget keep_all rle) before after inputs = tt
 leaves_shelf (jobs.Sat one two budget keep_all) before after inputs = tt
 leaves_shelf (jobs.Make seed size one two) before after inputs = absurd inputs
+leaves_shelf (jobs.Least one two rule demands form budget keep_all rle) before after inputs = tt
+leaves_shelf (jobs.Loose one two low high demands form budget keep_all rle) before after inputs = tt
+leaves_shelf (jobs.LooseCheck one two low high demands form) before after inputs = tt
 
 -- the inputs of a job came to an answer, and it was given
 pub read_answered : (job : Job) (answer : Answer) (before mid after : ShelfMoment) (out_before out_after err_before err_after : SinkMoment) (status : Status) → HasInputs job

@@ -4,7 +4,7 @@ use Rattle.std.specs.FinMap as map
 use Rattle.std.proofs.lemmas.Bool.Decides.{nat_tests}
 use Rattle.std.specs.Option.{option_map}
 use Rattle.std.proofs.lemmas.List.{length-append, length-take-le, take_all}
-use Rattle.lls_base.specs.Shelf.{Contents, OpensAsTold, ReadsFront, after_open, known_files, known_rest, known_target}
+use Rattle.lls_base.specs.Shelf.{Contents, Files, OpensAsTold, ReadsFront, after_open, known_files, known_rest, known_target}
 use Rattle.lls_base.proofs.Rest.{IsFront, IsFront-more}
 use Rattle.lls_lit.specs.Formula.{Cnf}
 use Rattle.lls_lrat.specs.declared.checker.Progress.{Progress}
@@ -12,9 +12,12 @@ use Rattle.lls_lrat.specs.declared.error.CheckError.{CheckError}
 use Rattle.lls_lrat.specs.declared.error.CheckError.TheVariants as errors
 use Rattle.lls_lrat.specs.Feeding.{Feeding, FeedState, begun, fed, piece_answer}
 use Rattle.lls_lrat.proofs.Feedings.{fed_fed}
+use Rattle.lls_cli.specs.Answer.{IsAnswer}
+use Rattle.lls_cli.specs.declared.answer.Answer.{Answer}
+use Rattle.lls_cli.specs.Questions.{Question}
 use Rattle.lls_cli.specs.declared.fault.Fault.{Fault}
 use Rattle.lls_cli.specs.declared.fault.Fault.TheVariants as faults
-use Rattle.lls_cli.specs.Fed.{FedRest, IsFed, fed_with}
+use Rattle.lls_cli.specs.Fed.{FedRest, IsFed, fed_with, ProofComesTo}
 use Rattle.lls_cli.specs.Moment.{ShelfMoment}
 use Rattle.lls_cli.specs.Question.{IsInput, input_from, proof_limit}
 use Rattle.lls_cli.specs.Steps.{Reads}
@@ -94,3 +97,9 @@ not_fed before opened after name formula feed fault told there output faults rea
   err = Stops-from fault _ before opened after faults
       (Stops-along fault _ _ opened after (λ long. too_long before.told name feed fault there (rw told at long)) read.err);
 }
+
+-- an answer to what some bytes ask that is one to what they ask otherwise
+pub comes_along : (asks others : List ℕ → Question) (files : Option Files) (name : List ℕ) → ((bytes : List ℕ) (answer : Answer) → IsAnswer (asks bytes) answer → IsAnswer (others bytes) answer)
+    → (read : Result Answer Fault) → ProofComesTo asks files name read → ProofComesTo others files name read
+comes_along asks others files name along (Ok answer) comes = (comes.0, comes.1, along comes.0 answer comes.2)
+comes_along asks others files name along (Err fault) comes = comes

@@ -6,7 +6,6 @@ use Rattle.std.specs.Option.{option_map}
 use Rattle.lls_base.specs.Results.{and_then}
 use Rattle.lls_base.specs.Shelf.{Files}
 use Rattle.lls_base.proofs.FileMaps.{get-insert_same}
-use Rattle.lls_lit.specs.Formula.{Cnf}
 use Rattle.lls_words.specs.declared.error.WordsError.{WordsError}
 use Rattle.lls_words.specs.declared.job.Job.{Job}
 use Rattle.lls_words.specs.declared.job.Job.TheVariants as jobs
@@ -18,33 +17,28 @@ use Rattle.lls_cli.specs.declared.answer.Answer.{Answer}
 use Rattle.lls_cli.specs.declared.fault.Fault.{Fault}
 use Rattle.lls_cli.specs.declared.status.Status.{Status}
 use Rattle.lls_cli.specs.declared.status.Status.TheVariants as statuses
-use Rattle.lls_cli.specs.Question.{asked_with, effort_of, default_effort, problem_in, formula_in, pattern_in, Asks}
-use Rattle.lls_cli.specs.Evidence.{HasProof, HasSpentLog}
+use Rattle.lls_cli.specs.Question.{asked_with, opened_with, effort_of, default_effort, problem_in, roomy_problem_in, small_problem_in, formula_in, pattern_in, Asks}
 use Rattle.lls_cli.specs.Answer.{Answers, Holds}
 use Rattle.lls_cli.specs.Moment.{ShelfMoment, Moment, files_at}
 use Rattle.lls_cli.specs.Ends.{WroteFile, LeavesPart, End, refused, lacked, input_failed, ahead_failed, answered, file_failed, output_failed, IsEndBehind, Ends, ahead_of, IsEnd}
-use Rattle.lls_cli.specs.Claims.{OfQuestion, IsAnswered, log_at, search_file_at, outputs_of, outputs_of_words, ChangesOnly, OfFile, Leaves}
+use Rattle.lls_cli.specs.Claims.{search_file_at, outputs_of, outputs_of_words, ChangesOnly}
 use Rattle.lls_cli.proofs.Behind.{answer_of, WroteAhead}
-use Rattle.lls_cli.proofs.Consequences.{ahead_part, meant, of_this}
+use Rattle.lls_cli.proofs.Consequences.{ahead_part}
 use Rattle.lls_cli.proofs.Changes.{Same, changes_both, changes_none, inserted, part_changes, wrote_none, wrote_some}
-use Rattle.lls_cli.proofs.Evidences.{Evidence, Has, IsLogged, evidence, searched}
+use Rattle.lls_cli.proofs.Outputs.{Writes, WritesAtMost, writes, written_at}
 
 -- a result of two parts is Ok by both
 pub and_then-both : {A B E : Type 0} (part : Result A E) (more : A → Result B E) (value : B) → Ok value ≡ and_then part more → (x : A) × (Ok value ≡ more x)
 and_then-both (Ok x) more value is = (x, is)
 and_then-both (Err fault) more value is = absurd cc
 
--- the files that may have changed at a status: the one of the log, and the one that is written ahead
-abbrev log_outputs : Option (Cnf × Effort) → Status → List (List ℕ)
-log_outputs None status = []
-log_outputs (Some search) status = log_at status search.1.proof
-
+-- the files that may have changed at a status: the one that is written ahead, and the one of the answer
 abbrev ahead_outputs : Option AnswerFile → Status → List (List ℕ)
 ahead_outputs None status = []
 ahead_outputs (Some file) status = search_file_at status file.name
 
 abbrev pub outputs_asked : Question → Status → List (List ℕ)
-outputs_asked question status = ahead_outputs (ahead_of question) status ++ log_outputs (searched question) status
+outputs_asked question status = ahead_outputs (ahead_of question) status ++ written_at question status
 
 -- they are those of the job that asks
 pub asked_outputs : (job : Job) (files : Option Files) (question : Question) (status : Status) → Asks job files (Ok question) → outputs_asked question status ≡ outputs_of job status
@@ -83,25 +77,25 @@ asked_outputs (jobs.Rule rule) files question status asked =
 asked_outputs (jobs.Make seed size one two) files question status asked =
     let is : question ≡ questions.Make seed size one (default_effort two) = cc in
     ap (λ q. outputs_asked q status) is
+asked_outputs (jobs.Least one two rule demands form budget keep_all rle) files question status asked =
+    let effort = effort_of budget keep_all two in
+    let first = and_then-both (and_then asked.input (roomy_problem_in rule demands)) (λ problem. Ok (questions.Least (asked_with form problem) effort rle)) question asked.made in
+    let is : question ≡ questions.Least (asked_with form first.0) effort rle = cc in
+    ap (λ q. outputs_asked q status) is
+asked_outputs (jobs.Loose one two low high demands form budget keep_all rle) files question status asked =
+    let effort = effort_of budget keep_all two in
+    let first = and_then-both (and_then asked.input (small_problem_in low demands)) (λ problem. Ok (questions.Loose (opened_with high form problem) effort rle)) question asked.made in
+    let is : question ≡ questions.Loose (opened_with high form first.0) effort rle = cc in
+    ap (λ q. outputs_asked q status) is
+asked_outputs (jobs.LooseCheck one two low high demands form) files question status asked =
+    let first = and_then-both (and_then asked.first (small_problem_in low demands)) (λ problem. and_then asked.second (λ proof. Ok (questions.LooseCheck (opened_with high form problem) proof))) question asked.made in
+    let second = and_then-both asked.second (λ proof. Ok (questions.LooseCheck (opened_with high form first.0) proof)) question first.1 in
+    let is : question ≡ questions.LooseCheck (opened_with high form first.0) second.0 = cc in
+    ap (λ q. outputs_asked q status) is
 
--- a status at which the file of a log may have changed, and one at which a made problem's may
-abbrev MayLog : Status → Type 0
-MayLog status = (name : List ℕ) → log_at status name ≡ name ∷ []
-
+-- a status at which the file of a made problem may have changed
 abbrev MayWriteAhead : Option AnswerFile → Status → Type 0
 MayWriteAhead ahead status = (file : AnswerFile) → ahead ≡ Some file → search_file_at status file.name ≡ file.name ∷ []
-
-may_log : (status : Status) → IsLogged status → MayLog status
-may_log statuses.NoPattern logged name = refl
-may_log statuses.Undecided logged name = refl
-may_log statuses.Done logged name = absurd logged
-may_log statuses.Refused logged name = absurd logged
-may_log statuses.Words logged name = absurd logged
-may_log statuses.Content logged name = absurd logged
-may_log statuses.Outside logged name = absurd logged
-may_log statuses.Memory logged name = absurd logged
-may_log statuses.Limit logged name = absurd logged
-may_log statuses.Pattern logged name = absurd logged
 
 -- the statuses of a made problem's answers
 making_writes : (seed size : ℕ) (name : List ℕ) (effort : Effort) (status : Status) (other : List ℕ) → Holds (questions.Make seed size name effort) status → search_file_at status other ≡ other ∷ []
@@ -125,6 +119,9 @@ holds_writes (questions.Search asked effort rle) status holds file is = absurd c
 holds_writes (questions.Decide formula effort) status holds file is = absurd cc
 holds_writes (questions.Encode asked) status holds file is = absurd cc
 holds_writes (questions.Print rule) status holds file is = absurd cc
+holds_writes (questions.Least asked effort rle) status holds file is = absurd cc
+holds_writes (questions.Loose asked effort rle) status holds file is = absurd cc
+holds_writes (questions.LooseCheck asked bytes) status holds file is = absurd cc
 
 -- the file that is written ahead changes alone
 ahead_changes : (ahead : Option AnswerFile) (status : Status) (before mid : ShelfMoment) → MayWriteAhead ahead status → WroteAhead ahead before mid
@@ -134,24 +131,30 @@ ahead_changes (Some file) status before mid may wrote =
     subst (λ names. ChangesOnly names (files_at before) (files_at mid)) (sym (may file refl))
     (inserted file.name file.bytes (files_at before) (files_at mid) (wrote_some (Some file) file before mid refl wrote))
 
--- and so does the file of an answer
-evidence_changes : (search : Option (Cnf × Effort)) (answer : Answer) (status : Status) (mid after : ShelfMoment) → Evidence search answer → (IsLogged answer.status → MayLog status)
-    → WroteFile answer.file mid after → ChangesOnly (log_outputs search status) (files_at mid) (files_at after)
-evidence_changes None answer status mid after leaves may wrote = wrote_none answer.file mid after leaves.none wrote
-evidence_changes (Some search) answer status mid after (inl leaves) may wrote =
-    changes_none (log_at status search.1.proof) (files_at mid) (files_at after) (wrote_none answer.file mid after leaves.none wrote)
-evidence_changes (Some search) answer status mid after (inr has) may wrote =
-    subst (λ names. ChangesOnly names (files_at mid) (files_at after)) (ap (λ name. name ∷ []) has.named ∙ sym (may has.logged search.1.proof))
+-- and so does the file of an answer, at its status and where something fails
+answer_changes : (question : Question) (answer : Answer) (mid after : ShelfMoment) → WritesAtMost question answer → WroteFile answer.file mid after
+    → ChangesOnly (written_at question answer.status) (files_at mid) (files_at after)
+answer_changes question answer mid after (inl none) wrote =
+    changes_none (written_at question answer.status) (files_at mid) (files_at after) (wrote_none answer.file mid after none wrote)
+answer_changes question answer mid after (inr has) wrote =
+    subst (λ names. ChangesOnly names (files_at mid) (files_at after)) (sym has.at_status)
     (inserted has.file.name has.file.bytes (files_at mid) (files_at after) (wrote_some answer.file has.file mid after has.file_is wrote))
 
-part_evidence : (search : Option (Cnf × Effort)) (answer : Answer) (fault : Fault) (file : AnswerFile) (mid after : Option Files) → Evidence search answer → answer.file ≡ Some file
-    → LeavesPart fault file mid after → ChangesOnly (log_outputs search statuses.Outside) mid after
-part_evidence None answer fault file mid after leaves is part = absurd (let none = leaves.none in cc)
-part_evidence (Some search) answer fault file mid after (inl leaves) is part = absurd (let none = leaves.none in cc)
-part_evidence (Some search) answer fault file mid after (inr has) is part =
+failing_changes : (question : Question) (answer : Answer) (mid after : ShelfMoment) → WritesAtMost question answer → WroteFile answer.file mid after
+    → ChangesOnly (written_at question statuses.Outside) (files_at mid) (files_at after)
+failing_changes question answer mid after (inl none) wrote =
+    changes_none (written_at question statuses.Outside) (files_at mid) (files_at after) (wrote_none answer.file mid after none wrote)
+failing_changes question answer mid after (inr has) wrote =
+    subst (λ names. ChangesOnly names (files_at mid) (files_at after)) (sym has.at_failure)
+    (inserted has.file.name has.file.bytes (files_at mid) (files_at after) (wrote_some answer.file has.file mid after has.file_is wrote))
+
+part_of_answer : (question : Question) (answer : Answer) (fault : Fault) (file : AnswerFile) (mid after : Option Files) → WritesAtMost question answer → answer.file ≡ Some file
+    → LeavesPart fault file mid after → ChangesOnly (written_at question statuses.Outside) mid after
+part_of_answer question answer fault file mid after (inl none) is part = absurd cc
+part_of_answer question answer fault file mid after (inr has) is part =
     let some = has.file_is in
     let same : file ≡ has.file = cc in
-    subst (λ names. ChangesOnly names mid after) (ap (λ (f : AnswerFile). f.name ∷ []) same ∙ ap (λ name. name ∷ []) has.named) (part_changes fault file mid after part)
+    subst (λ names. ChangesOnly names mid after) (ap (λ (f : AnswerFile). f.name ∷ []) same ∙ sym has.at_failure) (part_changes fault file mid after part)
 
 -- only what the question may write has changed, so only what the job may
 of_asked : (job : Job) (question : Question) (status ended : Status) (before after : Moment) → Asks job (files_at before.shelf) (Ok question) → ended ≡ status
@@ -159,9 +162,6 @@ of_asked : (job : Job) (question : Question) (status ended : Status) (before aft
 of_asked job question status ended before after asked is changes =
     subst (λ names. ChangesOnly names (files_at before.shelf) (files_at after.shelf))
     (asked_outputs job (files_at before.shelf) question status asked ∙ ap (outputs_of job) (sym is)) changes
-
-always : (status : Status) → status ≡ statuses.Outside → MayLog status
-always status is name = ap (λ s. log_at s name) is
 
 -- want of memory leaves the file of a made problem as it was, or whole
 lacking_changes : (job : Job) (question : Question) (before after : Moment) (status : Status) → Asks job (files_at before.shelf) (Ok question) → Ends question before after status lacked
@@ -172,18 +172,18 @@ lacking_changes job question before after status asked ended = by_ahead (ahead_o
   by_ahead None is lacks = changes_none (outputs_of job status) _ _ lacks.shelf.files
   by_ahead (Some file) is (inl lacks) = changes_none (outputs_of job status) _ _ lacks.shelf.files
   by_ahead (Some file) is (inr behind) =
-      let both : ChangesOnly (ahead_outputs (Some file) statuses.Memory ++ log_outputs (searched question) statuses.Memory) (files_at before.shelf) (files_at after.shelf) =
-      changes_both (file.name ∷ []) (log_outputs (searched question) statuses.Memory) (files_at before.shelf) (files_at behind.0) (files_at after.shelf)
+      let both : ChangesOnly (ahead_outputs (Some file) statuses.Memory ++ written_at question statuses.Memory) (files_at before.shelf) (files_at after.shelf) =
+      changes_both (file.name ∷ []) (written_at question statuses.Memory) (files_at before.shelf) (files_at behind.0) (files_at after.shelf)
       (inserted file.name file.bytes (files_at before.shelf) (files_at behind.0) (wrote_some (Some file) file before.shelf behind.0 refl behind.1))
-      (changes_none (log_outputs (searched question) statuses.Memory) (files_at behind.0) (files_at after.shelf) behind.2.shelf.files) in
+      (changes_none (written_at question statuses.Memory) (files_at behind.0) (files_at after.shelf) behind.2.shelf.files) in
       of_asked job question statuses.Memory status before after asked behind.2.status_is
-      (subst (λ ahead. ChangesOnly (ahead_outputs ahead statuses.Memory ++ log_outputs (searched question) statuses.Memory) (files_at before.shelf) (files_at after.shelf)) (sym is) both)
+      (subst (λ ahead. ChangesOnly (ahead_outputs ahead statuses.Memory ++ written_at question statuses.Memory) (files_at before.shelf) (files_at after.shelf)) (sym is) both)
 
 failed_ahead_changes : (job : Job) (question : Question) (fault : Fault) (before after : Moment) (status : Status) → Asks job (files_at before.shelf) (Ok question)
     → Ends question before after status (ahead_failed fault) → ChangesOnly (outputs_of job status) (files_at before.shelf) (files_at after.shelf)
 failed_ahead_changes job question fault before after status asked ended =
     let failed = ahead_part question before after status fault ended in
-    let names = log_outputs (searched question) statuses.Outside in
+    let names = written_at question statuses.Outside in
     let first : ChangesOnly (ahead_outputs (Some failed.file) statuses.Outside) (files_at before.shelf) (files_at after.shelf) =
     part_changes fault failed.file (files_at before.shelf) (files_at after.shelf) failed.part in
     of_asked job question statuses.Outside status before after asked failed.status_is
@@ -204,24 +204,24 @@ changes_only (Ok job) before after status (answered answer, ended) =
     let given = answer_of job (files_at before.shelf) before after status (answered answer) tt ended.1 in
     let right = given.ended.0 in
     of_asked job question answer.status status before after ended.1.1 given.ended.1.status_is
-    (changes_both (ahead_outputs (ahead_of question) answer.status) (log_outputs (searched question) answer.status) (files_at before.shelf) (files_at given.mid) (files_at after.shelf)
+    (changes_both (ahead_outputs (ahead_of question) answer.status) (written_at question answer.status) (files_at before.shelf) (files_at given.mid) (files_at after.shelf)
     (ahead_changes (ahead_of question) answer.status before.shelf given.mid (holds_writes question answer.status right.holds) given.wrote)
-    (evidence_changes (searched question) answer answer.status given.mid after.shelf (evidence question answer right.answers) (may_log answer.status) given.ended.1.shelf))
+    (answer_changes question answer given.mid after.shelf (writes question answer right.answers) given.ended.1.shelf))
 changes_only (Ok job) before after status (file_failed answer fault, ended) =
     let question = ended.1.0 in
     let given = answer_of job (files_at before.shelf) before after status (file_failed answer fault) tt ended.1 in
     let failed = given.ended.1 in
     of_asked job question statuses.Outside status before after ended.1.1 failed.status_is
-    (changes_both (ahead_outputs (ahead_of question) statuses.Outside) (log_outputs (searched question) statuses.Outside) (files_at before.shelf) (files_at given.mid) (files_at after.shelf)
+    (changes_both (ahead_outputs (ahead_of question) statuses.Outside) (written_at question statuses.Outside) (files_at before.shelf) (files_at given.mid) (files_at after.shelf)
     (ahead_changes (ahead_of question) statuses.Outside before.shelf given.mid (λ file is. refl) given.wrote)
-    (part_evidence (searched question) answer fault failed.file (files_at given.mid) (files_at after.shelf) (evidence question answer given.ended.0.answers) failed.file_is failed.part))
+    (part_of_answer question answer fault failed.file (files_at given.mid) (files_at after.shelf) (writes question answer given.ended.0.answers) failed.file_is failed.part))
 changes_only (Ok job) before after status (output_failed answer, ended) =
     let question = ended.1.0 in
     let given = answer_of job (files_at before.shelf) before after status (output_failed answer) tt ended.1 in
     of_asked job question statuses.Outside status before after ended.1.1 given.ended.1.status_is
-    (changes_both (ahead_outputs (ahead_of question) statuses.Outside) (log_outputs (searched question) statuses.Outside) (files_at before.shelf) (files_at given.mid) (files_at after.shelf)
+    (changes_both (ahead_outputs (ahead_of question) statuses.Outside) (written_at question statuses.Outside) (files_at before.shelf) (files_at given.mid) (files_at after.shelf)
     (ahead_changes (ahead_of question) statuses.Outside before.shelf given.mid (λ file is. refl) given.wrote)
-    (evidence_changes (searched question) answer statuses.Outside given.mid after.shelf (evidence question answer given.ended.0.answers) (λ logged name. refl) given.ended.1.shelf))
+    (failing_changes question answer given.mid after.shelf (writes question answer given.ended.0.answers) given.ended.1.shelf))
 changes_only (Err error) before after status (refused fault, ended) = ap files_at ended.1
 changes_only (Err error) before after status (lacked, ended) = ap files_at ended.0
 changes_only (Err error) before after status (input_failed fault, ended) = absurd ended
@@ -230,73 +230,10 @@ changes_only (Err error) before after status (answered answer, ended) = absurd e
 changes_only (Err error) before after status (file_failed answer fault, ended) = absurd ended
 changes_only (Err error) before after status (output_failed answer, ended) = absurd ended
 
-of_inserted : (Fact : AnswerFile → Type 0) (file : AnswerFile) (files : Option Files) → Fact file → OfFile Fact file.name (option_map (λ known. map.insert known file.name file.bytes) files)
-of_inserted Fact file None fact = tt
-of_inserted Fact file (Some files) fact = (file.bytes, get-insert_same files file.name file.bytes, fact)
-
--- a file that was written whole stands there
-of_written : (Fact : AnswerFile → Type 0) (written : Option AnswerFile) (file : AnswerFile) (name : List ℕ) (before after : ShelfMoment) → written ≡ Some file → file.name ≡ name → Fact file
-    → WroteFile written before after → OfFile Fact name (files_at after)
-of_written Fact written file name before after is named fact wrote =
-    subst (λ n. OfFile Fact n (files_at after)) named (subst (OfFile Fact file.name) (sym (wrote_some written file before after is wrote)) (of_inserted Fact file (files_at before) fact))
-
--- a name that isn't that of a search's file
-abbrev NotOf : Option (Cnf × Effort) → List ℕ → Type 0
-NotOf None other = Unit {0}
-NotOf (Some search) other = other ≢ search.1.proof
-
--- an answer leaves all files but its search's
-pub answer_leaves : (question : Question) (answer : Answer) (mid after : ShelfMoment) (other : List ℕ) → Answers question answer → NotOf (searched question) other → WroteFile answer.file mid after
-    → Same other (files_at mid) (files_at after)
-answer_leaves question answer mid after other right apart wrote = by_evidence (searched question) (evidence question answer right) apart where
-  by_evidence : (search : Option (Cnf × Effort)) → Evidence search answer → NotOf search other → Same other (files_at mid) (files_at after)
-  by_evidence None leaves apart = ap (option_map (λ files. map.get files other)) (wrote_none answer.file mid after leaves.none wrote)
-  by_evidence (Some search) (inl leaves) apart = ap (option_map (λ files. map.get files other)) (wrote_none answer.file mid after leaves.none wrote)
-  by_evidence (Some search) (inr has) apart =
-      inserted has.file.name has.file.bytes (files_at mid) (files_at after) (wrote_some answer.file has.file mid after has.file_is wrote) other
-      (All-cons (λ changed. other ≢ changed) has.file.name [] (λ same. apart (same ∙ has.named)) (All-nil (λ changed. other ≢ changed)))
-
--- what the status of an answer says of its search's file
-abbrev Left : Status → Option (Cnf × Effort) → Option Files → Type 0
-Left status None files = ⊥
-Left status (Some search) files = OfFile (Has status search.0 search.1) search.1.proof files
-
-evidence_left : (search : Option (Cnf × Effort)) (answer : Answer) (mid after : ShelfMoment) → Evidence search answer → IsLogged answer.status → WroteFile answer.file mid after
-    → Left answer.status search (files_at after)
-evidence_left None answer mid after leaves logged wrote = absurd (leaves.unlogged logged)
-evidence_left (Some search) answer mid after (inl leaves) logged wrote = absurd (leaves.unlogged logged)
-evidence_left (Some search) answer mid after (inr has) logged wrote =
-    of_written (Has answer.status search.0 search.1) answer.file has.file search.1.proof mid after has.file_is has.named has.has wrote
-
-left_evidence : (status : Status) (question : Question) (files : Option Files) → Left status (searched question) files → Leaves (Has status) files question
-left_evidence status (questions.Search asked effort rle) files left = left
-left_evidence status (questions.Decide formula effort) files left = left
-left_evidence status (questions.Make seed size name effort) files left = left
-left_evidence status (questions.Check asked bytes) files left = left
-left_evidence status (questions.Refute formula bytes) files left = left
-left_evidence status (questions.Judge problem history) files left = left
-left_evidence status (questions.Encode asked) files left = left
-left_evidence status (questions.Print rule) files left = left
-
-leaves_at : (job : Result Job WordsError) (before after : Moment) (status : Status) → (end : End) × IsEnd job before after status end → IsAnswered status → IsLogged status
-    → OfQuestion (Leaves (Has status) (files_at after.shelf)) job (files_at before.shelf)
-leaves_at job before after status ended is logged =
-    let given = meant job before after status ended is in
-    of_this (Leaves (Has status) (files_at after.shelf)) given.question job (files_at before.shelf) given.asked
-    (left_evidence status given.question (files_at after.shelf)
-    (subst (λ s. Left s (searched given.question) (files_at after.shelf)) (sym given.status_is)
-    (evidence_left (searched given.question) given.answer given.mid after.shelf (evidence given.question given.answer given.right.answers) (subst IsLogged given.status_is logged) given.wrote)))
-
--- where a search found that there is nothing, its file has an accepted proof
-pub leaves_proof : (job : Result Job WordsError) (before after : Moment) (status : Status) → (end : End) × IsEnd job before after status end → status ≡ statuses.NoPattern
-    → OfQuestion (Leaves HasProof (files_at after.shelf)) job (files_at before.shelf)
-leaves_proof job before after status ended is =
-    subst (λ s. OfQuestion (Leaves (Has s) (files_at after.shelf)) job (files_at before.shelf)) is
-    (leaves_at job before after status ended (subst IsAnswered (sym is) tt) (subst IsLogged (sym is) tt))
-
--- where it is undecided, its file has the log of a spent budget
-pub leaves_log : (job : Result Job WordsError) (before after : Moment) (status : Status) → (end : End) × IsEnd job before after status end → status ≡ statuses.Undecided
-    → OfQuestion (Leaves HasSpentLog (files_at after.shelf)) job (files_at before.shelf)
-leaves_log job before after status ended is =
-    subst (λ s. OfQuestion (Leaves (Has s) (files_at after.shelf)) job (files_at before.shelf)) is
-    (leaves_at job before after status ended (subst IsAnswered (sym is) tt) (subst IsLogged (sym is) tt))
+-- an answer leaves all files but its own
+pub answer_leaves : (question : Question) (answer : Answer) (mid after : ShelfMoment) (other : List ℕ) → WritesAtMost question answer
+    → ((name : List ℕ) → written_at question statuses.Outside ≡ name ∷ [] → other ≢ name) → WroteFile answer.file mid after → Same other (files_at mid) (files_at after)
+answer_leaves question answer mid after other (inl none) apart wrote = ap (option_map (λ files. map.get files other)) (wrote_none answer.file mid after none wrote)
+answer_leaves question answer mid after other (inr has) apart wrote =
+    inserted has.file.name has.file.bytes (files_at mid) (files_at after) (wrote_some answer.file has.file mid after has.file_is wrote) other
+    (All-cons (λ changed. other ≢ changed) has.file.name [] (apart has.file.name has.at_failure) (All-nil (λ changed. other ≢ changed)))

@@ -8,12 +8,15 @@ pub mod Written
 pub mod RightAnswers
 pub mod Made
 pub mod Changes
-pub mod Evidences
+pub mod Outputs
+pub mod Lefts
 pub mod Files
 pub mod Stands
 pub mod Complete
 pub mod Deliveries
 pub mod Searches
+pub mod FewestAnswers
+pub mod OpenAnswers
 pub mod Makings
 pub mod Apart
 pub mod Published

@@ -67,10 +67,14 @@ unless-ok : {X : Type 0} (fault : Option DemandError) (result : Result X DemandE
 unless-ok None result x is = is
 unless-ok (Some fault) result x is = absurd cc
 
-pub made_rule : (posed : PosedFile) (rule : List Bool) (demands : Demands) (problem : PosedProblem) → problem_made posed rule demands ≡ Ok problem → problem.rule ≡ rule
-made_rule posed rule demands problem is =
+-- a problem is made of just these
+pub made_is : (posed : PosedFile) (rule : List Bool) (demands : Demands) (problem : PosedProblem) → problem_made posed rule demands ≡ Ok problem
+    → problem ≡ record { posed = posed; rule = rule; demands = demands }
+made_is posed rule demands problem is =
     let made : Ok (record { posed = posed; rule = rule; demands = demands }) ≡ Ok problem =
     unless-ok (counter_fault posed demands) _ problem (unless-ok (period_fault posed demands) _ problem (unless-ok (bound_fault posed demands) _ problem
     (unless-ok (generation_fault posed demands) _ problem (unless-ok (square_fault posed demands) _ problem is)))) in
-    let same : problem ≡ record { posed = posed; rule = rule; demands = demands } = cc in
-    ap (λ (p : PosedProblem). p.rule) same
+    cc
+
+pub made_rule : (posed : PosedFile) (rule : List Bool) (demands : Demands) (problem : PosedProblem) → problem_made posed rule demands ≡ Ok problem → problem.rule ≡ rule
+made_rule posed rule demands problem is = ap (λ (p : PosedProblem). p.rule) (made_is posed rule demands problem is)

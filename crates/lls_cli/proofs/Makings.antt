@@ -17,7 +17,7 @@ use Rattle.lls_cli.specs.declared.answer_file.AnswerFile.{AnswerFile}
 use Rattle.lls_cli.specs.declared.answer.Answer.{Answer}
 use Rattle.lls_cli.specs.declared.status.Status.TheVariants as statuses
 use Rattle.lls_cli.specs.Making.{summary_of, summary_text}
-use Rattle.lls_cli.specs.Answer.{IsAnswer, shown, summed_behind, solved, unsolved}
+use Rattle.lls_cli.specs.Answer.{IsAnswer, shown, shown_behind, solved, unsolved}
 use Rattle.lls_cli.proofs.Searches.{log_of, short_of}
 
 -- a made problem has two generations
@@ -42,9 +42,9 @@ solved_answer seed size name effort pair formula answer is made_of solution give
 
 pub unsolved_answer : (seed size : ℕ) (name : List ℕ) (effort : Effort) (pair : Made) (formula : Cnf) (steps : List Step) (file : AnswerFile) (answer : Answer) → pair ≡ made seed size
     → formula ≡ formula_of pair.problem Rows → file ≡ record { name = effort.proof; bytes = log_text steps } → KeepsAll effort.keep_all steps → IsExhausted formula effort.budget steps
-    → answer ≡ summed_behind file statuses.Undecided (summary_of pair formula (codes "undecided")) → IsAnswer (questions.Make seed size name effort) answer
+    → answer ≡ shown_behind file statuses.Undecided (summary_of pair formula (codes "undecided")) → IsAnswer (questions.Make seed size name effort) answer
 unsolved_answer seed size name effort pair formula steps file answer is made_of named kept exhausted given =
     let its : formula ≡ formula_of (made_problem seed size) Rows = made_of ∙ ap (λ (m : Made). formula_of m.problem Rows) is in
     let spent : IsExhausted (formula_of (made_problem seed size) Rows) effort.budget steps = subst (λ (f : Cnf). IsExhausted f effort.budget steps) its exhausted in
-    subst (IsAnswer (questions.Make seed size name effort)) (sym (given ∙ ap (summed_behind file statuses.Undecided) (summary-made seed size pair formula (codes "undecided") is made_of)))
+    subst (IsAnswer (questions.Make seed size name effort)) (sym (given ∙ ap (shown_behind file statuses.Undecided) (summary-made seed size pair formula (codes "undecided") is made_of)))
     (record { answers = unsolved file (log_of (formula_of (made_problem seed size) Rows) effort steps file named kept spent); holds = short_of (formula_of (made_problem seed size) Rows) effort steps kept spent })

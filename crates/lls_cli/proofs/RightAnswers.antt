@@ -8,14 +8,16 @@ use Rattle.lls_problem.specs.Problem.{PosedProblem}
 use Rattle.lls_problem.specs.Judgement.{IsJudgement}
 use Rattle.lls_problem.specs.Solution.{IsSolution, IsAbsent}
 use Rattle.lls_problem.proofs.Plane.{plane_law}
+use Rattle.lls_open.specs.Between.{IsOpenlyAbsent}
 use Rattle.lls_cli.specs.Questions.{Question}
 use Rattle.lls_cli.specs.Questions as questions
 use Rattle.lls_cli.specs.declared.answer.Answer.{Answer}
 use Rattle.lls_cli.specs.declared.asked.Asked.{Asked}
+use Rattle.lls_cli.specs.declared.asked.OpenAsked.{OpenAsked}
 use Rattle.lls_cli.specs.declared.status.Status.{Status}
 use Rattle.lls_cli.specs.declared.status.Status.TheVariants as statuses
 use Rattle.lls_cli.specs.Answer.{judge_answer, Holds, IsAnswer}
-use Rattle.lls_cli.specs.Question.{formula_asked}
+use Rattle.lls_cli.specs.Question.{formula_asked, formula_opened}
 use Rattle.lls_cli.specs.Moment.{ShelfMoment}
 use Rattle.lls_cli.specs.Steps.{LeavesAlone, LeavesPrinting}
 
@@ -37,6 +39,25 @@ pub checked_answer : (asked : Asked) (proof : List ℕ) (answer : Answer) → (I
     → IsAnswer (questions.Refute (formula_asked asked) proof) answer → IsAnswer (questions.Check asked proof) answer
 checked_answer asked proof answer absent right =
     record { answers = right.answers; holds = holds_checked asked proof answer.status absent right.holds }
+
+-- and what refutes that of an open rule checks it
+holds_loose_checked : (asked : OpenAsked) (proof : List ℕ) (status : Status) → (IsUnsatisfiable (formula_opened asked) → IsOpenlyAbsent asked.problem asked.high)
+    → Holds (questions.Refute (formula_opened asked) proof) status → Holds (questions.LooseCheck asked proof) status
+holds_loose_checked asked proof statuses.Done absent holds = (holds.0, absent holds.1)
+holds_loose_checked asked proof statuses.Refused absent holds = holds
+holds_loose_checked asked proof statuses.Words absent holds = holds
+holds_loose_checked asked proof statuses.Content absent holds = holds
+holds_loose_checked asked proof statuses.Outside absent holds = holds
+holds_loose_checked asked proof statuses.Memory absent holds = holds
+holds_loose_checked asked proof statuses.Limit absent holds = holds
+holds_loose_checked asked proof statuses.Pattern absent holds = holds
+holds_loose_checked asked proof statuses.NoPattern absent holds = holds
+holds_loose_checked asked proof statuses.Undecided absent holds = holds
+
+pub loose_checked_answer : (asked : OpenAsked) (proof : List ℕ) (answer : Answer) → (IsUnsatisfiable (formula_opened asked) → IsOpenlyAbsent asked.problem asked.high)
+    → IsAnswer (questions.Refute (formula_opened asked) proof) answer → IsAnswer (questions.LooseCheck asked proof) answer
+loose_checked_answer asked proof answer absent right =
+    record { answers = right.answers; holds = holds_loose_checked asked proof answer.status absent right.holds }
 
 holds_judged : (problem : PosedProblem) (history : History) (judgement : Judgement) → (judgement ≡ judgements.Meets → IsSolution problem history)
     → (judgement ≢ judgements.Meets → IsSolution problem history → ⊥) → Holds (questions.Judge problem history) (judge_answer judgement).status
@@ -71,6 +92,9 @@ leaves_printing (questions.Search asked effort rle) answer before after right al
 leaves_printing (questions.Decide formula effort) answer before after right alone = tt
 leaves_printing (questions.Encode asked) answer before after right alone = tt
 leaves_printing (questions.Make seed size name effort) answer before after right alone = tt
+leaves_printing (questions.Least asked effort rle) answer before after right alone = tt
+leaves_printing (questions.Loose asked effort rle) answer before after right alone = tt
+leaves_printing (questions.LooseCheck asked proof) answer before after right alone = tt
 
 -- nor does a run that gives no answer touch the shelf
 pub leaves_printing-refl : (question : Question) (shelf : ShelfMoment) → LeavesPrinting question shelf shelf
@@ -82,3 +106,6 @@ leaves_printing-refl (questions.Search asked effort rle) shelf = tt
 leaves_printing-refl (questions.Decide formula effort) shelf = tt
 leaves_printing-refl (questions.Encode asked) shelf = tt
 leaves_printing-refl (questions.Make seed size name effort) shelf = tt
+leaves_printing-refl (questions.Least asked effort rle) shelf = tt
+leaves_printing-refl (questions.Loose asked effort rle) shelf = tt
+leaves_printing-refl (questions.LooseCheck asked proof) shelf = tt

@@ -9,7 +9,7 @@ use Rattle.lls_problem.proofs.Plane.{plane_law}
 use Rattle.lls_encode.specs.Formula.{formula_of}
 use Rattle.lls_prooflog.specs.declared.step.Step.{Step}
 use Rattle.lls_prooflog.specs.Log.{log_text}
-use Rattle.lls_prooflog.specs.Spent.{is_addition}
+use Rattle.lls_prooflog.specs.Spent.{IsSpent, is_addition}
 use Rattle.lls_counting.proofs.Logs.{budgets_decide, kept_budgets_decide}
 use Rattle.lls_solver.specs.Searching.{IsModel, IsRefutation, IsExhausted, KeepsAll, additions}
 use Rattle.lls_lrat.specs.Verdict.{Accepted, verdict}
@@ -22,8 +22,9 @@ use Rattle.lls_cli.specs.declared.status.Status.TheVariants as statuses
 use Rattle.lls_cli.specs.Question.{formula_asked}
 use Rattle.lls_cli.specs.Evidence.{HasProof, HasSpentLog}
 use Rattle.lls_cli.specs.ModelText.{model_text}
+use Rattle.lls_cli.specs.Shown.{ShowsNone}
 use Rattle.lls_cli.specs.PatternText.{pattern_text}
-use Rattle.lls_cli.specs.Answer.{IsAnswer, IsShort, shown, said_behind, none_behind, satisfied, unsatisfied, unknown, found, absent, undecided}
+use Rattle.lls_cli.specs.Answer.{IsAnswer, IsShort, shown, said_behind, satisfied, unsatisfied, unknown, found, absent, undecided}
 
 -- steps with one more behind them
 one_more : (learnt : List Step) (last : Step) (steps : List Step) (budget : ℕ) → steps ≡ learnt ++ last ∷ [] → additions learnt ≤ budget → additions steps ≤ budget + 1
@@ -33,14 +34,17 @@ one_more learnt last steps budget ends within =
     omega (arith, split, few, within)
 
 -- a spent budget needn't decide
-pub short_of : (formula : Cnf) (effort : Effort) (steps : List Step) → KeepsAll effort.keep_all steps → IsExhausted formula effort.budget steps → IsShort formula effort
-short_of formula effort steps kept exhausted = record {
-  deleting = budgets_decide formula steps effort.budget exhausted.spent;
-  keeping = λ keeps. kept_budgets_decide formula steps effort.budget exhausted.spent (kept keeps);
+pub short_by : (formula : Cnf) (effort : Effort) (steps : List Step) → KeepsAll effort.keep_all steps → IsSpent formula steps effort.budget → IsShort formula effort
+short_by formula effort steps kept spent = record {
+  deleting = budgets_decide formula steps effort.budget spent;
+  keeping = λ keeps. kept_budgets_decide formula steps effort.budget spent (kept keeps);
 }
 
+pub short_of : (formula : Cnf) (effort : Effort) (steps : List Step) → KeepsAll effort.keep_all steps → IsExhausted formula effort.budget steps → IsShort formula effort
+short_of formula effort steps kept exhausted = short_by formula effort steps kept exhausted.spent
+
 -- the file of a refutation has a proof
-proof_of : (formula : Cnf) (effort : Effort) (steps : List Step) (file : AnswerFile) → file ≡ record { name = effort.proof; bytes = log_text steps } → KeepsAll effort.keep_all steps → IsRefutation formula effort.budget steps
+pub proof_of : (formula : Cnf) (effort : Effort) (steps : List Step) (file : AnswerFile) → file ≡ record { name = effort.proof; bytes = log_text steps } → KeepsAll effort.keep_all steps → IsRefutation formula effort.budget steps
     → verdict formula file.bytes ≡ Accepted → HasProof formula effort file
 proof_of formula effort steps file is kept refutation accepted = record {
   steps = steps;
@@ -49,13 +53,18 @@ proof_of formula effort steps file is kept refutation accepted = record {
   accepted = accepted;
 }
 
-pub log_of : (formula : Cnf) (effort : Effort) (steps : List Step) (file : AnswerFile) → file ≡ record { name = effort.proof; bytes = log_text steps } → KeepsAll effort.keep_all steps → IsExhausted formula effort.budget steps
+-- and the file of a spent log has that log
+pub log_by : (formula : Cnf) (effort : Effort) (steps : List Step) (file : AnswerFile) → file ≡ record { name = effort.proof; bytes = log_text steps } → KeepsAll effort.keep_all steps → IsSpent formula steps effort.budget
     → HasSpentLog formula effort file
-log_of formula effort steps file is kept exhausted = record {
+log_by formula effort steps file is kept spent = record {
   steps = steps;
   log = record { file_is = is; all_kept = kept };
-  spent = exhausted.spent;
+  spent = spent;
 }
+
+pub log_of : (formula : Cnf) (effort : Effort) (steps : List Step) (file : AnswerFile) → file ≡ record { name = effort.proof; bytes = log_text steps } → KeepsAll effort.keep_all steps → IsExhausted formula effort.budget steps
+    → HasSpentLog formula effort file
+log_of formula effort steps file is kept exhausted = log_by formula effort steps file is kept exhausted.spent
 
 pub satisfied_answer : (formula : Cnf) (effort : Effort) (values : List Bool) (answer : Answer) → IsModel formula values → answer ≡ shown statuses.Pattern (model_text values)
     → IsAnswer (questions.Decide formula effort) answer
@@ -80,12 +89,12 @@ found_answer asked effort rle history answer solution is =
     let law = plane_law asked.problem history solution in
     subst (IsAnswer (questions.Search asked effort rle)) (sym is) (record { answers = found history solution law; holds = (history, solution, law) })
 
-pub absent_answer : (asked : Asked) (effort : Effort) (rle : Bool) (steps : List Step) (file : AnswerFile) (answer : Answer) → file ≡ record { name = effort.proof; bytes = log_text steps }
-    → KeepsAll effort.keep_all steps → IsRefutation (formula_asked asked) effort.budget steps → verdict (formula_asked asked) file.bytes ≡ Accepted → IsAbsent asked.problem
-    → answer ≡ none_behind file → IsAnswer (questions.Search asked effort rle) answer
-absent_answer asked effort rle steps file answer named kept refutation accepted none is =
-    subst (IsAnswer (questions.Search asked effort rle)) (sym is)
-    (record { answers = absent file (proof_of (formula_asked asked) effort steps file named kept refutation accepted); holds = none })
+-- an absence that is shown by a refutation
+pub absent_answer : (asked : Asked) (effort : Effort) (rle : Bool) (steps : List Step) (answer : Answer) → KeepsAll effort.keep_all steps → IsRefutation (formula_asked asked) effort.budget steps
+    → ShowsNone asked effort.proof steps answer → IsAnswer (questions.Search asked effort rle) answer
+absent_answer asked effort rle steps answer kept refutation shows =
+    subst (IsAnswer (questions.Search asked effort rle)) (sym shows.by.answer_is)
+    (record { answers = absent shows.by.file (proof_of (formula_asked asked) effort steps shows.by.file shows.by.file_is kept refutation shows.by.accepted); holds = shows.absent })
 
 pub undecided_answer : (asked : Asked) (effort : Effort) (rle : Bool) (steps : List Step) (file : AnswerFile) (answer : Answer) → file ≡ record { name = effort.proof; bytes = log_text steps }
     → KeepsAll effort.keep_all steps → IsExhausted (formula_asked asked) effort.budget steps → answer ≡ said_behind file statuses.Undecided (codes "undecided")

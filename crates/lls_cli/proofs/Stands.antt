@@ -2,6 +2,7 @@
 use Rattle.std.proofs.Common.{◌≡◌, ◌≢◌, ℕ, List, Option, None, Some, Result, Ok, Err, refl, ap, sym, ◌∙◌}
 use Rattle.std.specs.FinMap as map
 use Rattle.std.specs.Option.{option_map}
+use Rattle.lls_base.specs.Results.{and_then}
 use Rattle.lls_base.specs.Shelf.{Files}
 use Rattle.lls_base.proofs.FileMaps.{get-insert_same}
 use Rattle.lls_words.specs.declared.error.WordsError.{WordsError}
@@ -14,7 +15,7 @@ use Rattle.lls_cli.specs.declared.answer_file.AnswerFile.{AnswerFile}
 use Rattle.lls_cli.specs.declared.answer.Answer.{Answer}
 use Rattle.lls_cli.specs.declared.status.Status.{Status}
 use Rattle.lls_cli.specs.declared.status.Status.TheVariants as statuses
-use Rattle.lls_cli.specs.Question.{default_effort, Asks}
+use Rattle.lls_cli.specs.Question.{asked_with, default_effort, effort_of, roomy_problem_in, Asks}
 use Rattle.lls_cli.specs.Answer.{Answers}
 use Rattle.lls_cli.specs.Making.{made_file}
 use Rattle.lls_cli.specs.Moment.{ShelfMoment, Moment, files_at}
@@ -24,7 +25,8 @@ use Rattle.lls_cli.proofs.Apart.{AreApart, IsApart}
 use Rattle.lls_cli.proofs.Behind.{WroteAhead}
 use Rattle.lls_cli.proofs.Consequences.{IsAsked, meant, of_this}
 use Rattle.lls_cli.proofs.Changes.{Same, wrote_some}
-use Rattle.lls_cli.proofs.Files.{outputs_asked, asked_outputs, answer_leaves}
+use Rattle.lls_cli.proofs.Files.{and_then-both, outputs_asked, asked_outputs, answer_leaves}
+use Rattle.lls_cli.proofs.Outputs.{writes}
 
 -- the files that a question writes have different names
 abbrev NamesApart : Question → Type 0
@@ -47,6 +49,12 @@ made_apart job files seed size name effort apart asked = by_job job apart asked 
   by_job (jobs.Cnf one rule demands form) apart asked same = absurd cc
   by_job (jobs.Lrat one two) apart asked same = absurd cc
   by_job (jobs.Rule rule) apart asked same = absurd cc
+  by_job (jobs.Least one two rule demands form budget keep_all rle) apart asked same =
+      let first = and_then-both (and_then asked.input (roomy_problem_in rule demands)) (λ problem. Ok (questions.Least (asked_with form problem) (effort_of budget keep_all two) rle)) (questions.Make seed size name effort) asked.made in
+      let other = first.1 in
+      absurd cc
+  by_job (jobs.Loose one two low high demands form budget keep_all rle) apart asked same = absurd cc
+  by_job (jobs.LooseCheck one two low high demands form) apart asked same = absurd cc
 
 names_apart : (job : Result Job WordsError) (files : Option Files) (question : Question) → AreApart job → IsAsked job files question → NamesApart question
 names_apart (Ok job) files (questions.Make seed size name effort) apart asked = made_apart job files seed size name effort apart asked
@@ -57,6 +65,9 @@ names_apart (Ok job) files (questions.Search of effort rle) apart asked = tt
 names_apart (Ok job) files (questions.Decide formula effort) apart asked = tt
 names_apart (Ok job) files (questions.Encode of) apart asked = tt
 names_apart (Ok job) files (questions.Print rule) apart asked = tt
+names_apart (Ok job) files (questions.Least of effort rle) apart asked = tt
+names_apart (Ok job) files (questions.Loose of effort rle) apart asked = tt
+names_apart (Ok job) files (questions.LooseCheck of bytes) apart asked = tt
 names_apart (Err error) files question apart asked = absurd asked
 
 nothing_ahead : (files : Option Files) → HasWhole files None
@@ -79,7 +90,8 @@ stands_in : (question : Question) (answer : Answer) (before mid after : ShelfMom
 stands_in (questions.Make seed size name effort) answer before mid after apart right ahead wrote =
     let file = made_file seed size name in
     stands_from file (files_at before) (files_at mid) (files_at after) (wrote_some (Some file) file before mid refl ahead)
-    (answer_leaves (questions.Make seed size name effort) answer mid after name right apart wrote)
+    (answer_leaves (questions.Make seed size name effort) answer mid after name (writes (questions.Make seed size name effort) answer right)
+    (λ other is. let same : effort.proof ≡ other = cc in λ equal. apart (equal ∙ sym same)) wrote)
 stands_in (questions.Check asked bytes) answer before mid after apart right ahead wrote = nothing_ahead (files_at after)
 stands_in (questions.Refute formula bytes) answer before mid after apart right ahead wrote = nothing_ahead (files_at after)
 stands_in (questions.Judge problem history) answer before mid after apart right ahead wrote = nothing_ahead (files_at after)
@@ -87,6 +99,9 @@ stands_in (questions.Search asked effort rle) answer before mid after apart righ
 stands_in (questions.Decide formula effort) answer before mid after apart right ahead wrote = nothing_ahead (files_at after)
 stands_in (questions.Encode asked) answer before mid after apart right ahead wrote = nothing_ahead (files_at after)
 stands_in (questions.Print rule) answer before mid after apart right ahead wrote = nothing_ahead (files_at after)
+stands_in (questions.Least asked effort rle) answer before mid after apart right ahead wrote = nothing_ahead (files_at after)
+stands_in (questions.Loose asked effort rle) answer before mid after apart right ahead wrote = nothing_ahead (files_at after)
+stands_in (questions.LooseCheck asked bytes) answer before mid after apart right ahead wrote = nothing_ahead (files_at after)
 
 pub stands : (job : Result Job WordsError) (before after : Moment) (status : Status) → AreApart job → (end : End) × IsEnd job before after status end → IsAnswered status
     → OfQuestion (λ question. HasWhole (files_at after.shelf) (ahead_of question)) job (files_at before.shelf)

@@ -26,6 +26,12 @@ Stops-along (faults.NotPlain t y x) One Two before after along stops = (along st
 Stops-along (faults.Rle error) One Two before after along stops = (along stops.0, stops.1)
 Stops-along (faults.TooLong limit) One Two before after along stops = (along stops.0, stops.1)
 
+-- what one reading says another says too
+pub Reads-along : {X : Type 0} (One Two : Result X Fault → Type 0) (result : Result X Fault) (before after : ShelfMoment) → ((r : Result X Fault) → One r → Two r) → Reads One result before after → Reads Two result before after
+Reads-along One Two (Ok x) before after along read = record { kept = read.kept; counts = read.counts; ok = (along (Ok x) read.ok.0, read.ok.1); err = tt }
+Reads-along One Two (Err fault) before after along read =
+    record { kept = read.kept; counts = read.counts; ok = tt; err = Stops-along fault (λ f. One (Err f)) (λ f. Two (Err f)) before after (along (Err fault)) read.err }
+
 -- as many calls had failed before another moment
 pub Stops-from : (fault : Fault) (Says : Fault → Type 0) (before opened after : ShelfMoment) → opened.faults ≡ before.faults → Stops fault Says opened after → Stops fault Says before after
 Stops-from faults.Memory Says before opened after same stops = tt

@@ -13,6 +13,8 @@ use Rattle.lls_lit.specs.Formula.{Cnf, IsUnsatisfiable}
 use Rattle.lls_cnf.specs.DimacsText.{dimacs_text}
 use Rattle.lls_gen.specs.Made.{made_problem}
 use Rattle.lls_encode.specs.Formula.{formula_of}
+use Rattle.lls_least.specs.Fewer.{live_cells}
+use Rattle.lls_open.specs.Between.{with_rule, IsOpenSolution, IsOpenlyAbsent}
 use Rattle.lls_lrat.specs.declared.error.CheckError.{CheckError}
 use Rattle.lls_lrat.specs.FaultText.{check_error_text}
 use Rattle.lls_lrat.specs.Verdict.{Accepted, verdict, answer_of}
@@ -22,14 +24,17 @@ use Rattle.lls_cli.specs.declared.effort.Effort.{Effort}
 use Rattle.lls_cli.specs.declared.answer_file.AnswerFile.{AnswerFile}
 use Rattle.lls_cli.specs.declared.answer.Answer.{Answer}
 use Rattle.lls_cli.specs.declared.asked.Asked.{Asked}
+use Rattle.lls_cli.specs.declared.asked.OpenAsked.{OpenAsked}
 use Rattle.lls_cli.specs.declared.status.Status.{Status}
 use Rattle.lls_cli.specs.declared.status.Status.TheVariants as statuses
 use Rattle.lls_problem.specs.Texts.{judgement_text}
-use Rattle.lls_cli.specs.Question.{formula_asked}
+use Rattle.lls_cli.specs.Question.{formula_asked, formula_opened}
 use Rattle.lls_cli.specs.Absence.{no_pattern}
 use Rattle.lls_cli.specs.Evidence.{HasProof, HasSpentLog}
 use Rattle.lls_cli.specs.ModelText.{model_text}
 use Rattle.lls_cli.specs.PatternText.{pattern_text}
+use Rattle.lls_cli.specs.Fewest.{asked_fewer, IsAbove, IsLookedAt, IsOfFewest, least_text, at_most_text}
+use Rattle.lls_cli.specs.Opened.{opened_text}
 use Rattle.lls_cli.specs.Making.{summary_text}
 
 -- a status and a text, and no file
@@ -39,6 +44,10 @@ shown status text = record { status = status; text = text; file = None }
 -- a status and a line, and no file
 abbrev pub said : Status → List ℕ → Answer
 said status text = shown status (text ++ codes "\n")
+
+-- a status and a text, behind a file
+abbrev pub shown_behind : AnswerFile → Status → List ℕ → Answer
+shown_behind file status text = record (shown status text) { file = Some file }
 
 -- a status and a line, behind a file
 abbrev pub said_behind : AnswerFile → Status → List ℕ → Answer
@@ -75,18 +84,42 @@ pub data IsFinding (asked : Asked) (effort : Effort) (rle : Bool) : Answer → T
   undecided : (file : AnswerFile) → HasSpentLog (formula_asked asked) effort file
       → IsFinding asked effort rle (said_behind file statuses.Undecided (codes "undecided"))
 
--- a status and a summary, behind a file
-abbrev pub summed_behind : AnswerFile → Status → List ℕ → Answer
-summed_behind file status text = record (shown status text) { file = Some file }
+-- how the search for the fewest live cells ends: with a solution that has none in generation 0, of which nothing has to be shown; with one and the
+-- proof that none has fewer; with the proof that there is none; or with the spent log of what was looked at last
+pub data IsFewest (asked : Asked) (effort : Effort) (rle : Bool) : Answer → Type 0 where
+  none_live : (history : History) → IsOfFewest asked history → live_cells history ≡ 0
+      → IsFewest asked effort rle (shown statuses.Pattern (least_text rle asked.problem.rule history))
+  fewest : (history : History) (n : ℕ) (file : AnswerFile) → IsOfFewest asked history → IsAbove asked history n → HasProof (formula_asked (asked_fewer asked n)) effort file
+      → IsFewest asked effort rle (shown_behind file statuses.Pattern (least_text rle asked.problem.rule history))
+  no_solution : (file : AnswerFile) → HasProof (formula_asked asked) effort file
+      → IsFewest asked effort rle (none_behind file)
+  at_most : (history : History) (n : ℕ) (file : AnswerFile) → IsAbove asked history n → HasSpentLog (formula_asked (asked_fewer asked n)) effort file
+      → IsFewest asked effort rle (shown_behind file statuses.Undecided (at_most_text rle asked.problem.rule history))
+  unsettled : (file : AnswerFile) → HasSpentLog (formula_asked asked) effort file
+      → IsFewest asked effort rle (said_behind file statuses.Undecided (codes "undecided"))
+
+-- a rule between the two, and a history that is a solution by it and keeps it on the whole plane where it has to
+pub record IsFoundBetween (asked : OpenAsked) (history : History) (rule : List Bool) : Type 0 where
+  pub solution : IsOpenSolution asked.problem asked.high history rule
+  pub law : PlaneLaw (with_rule asked.problem rule) history
+
+-- how the search over the rules between two ends: with a rule and a history, or with a proof or a spent log in the file
+pub data IsOpening (asked : OpenAsked) (effort : Effort) (rle : Bool) : Answer → Type 0 where
+  opened : (history : History) (rule : List Bool) → IsFoundBetween asked history rule
+      → IsOpening asked effort rle (shown statuses.Pattern (opened_text rle rule history))
+  no_rule : (file : AnswerFile) → HasProof (formula_opened asked) effort file
+      → IsOpening asked effort rle (none_behind file)
+  left_open : (file : AnswerFile) → HasSpentLog (formula_opened asked) effort file
+      → IsOpening asked effort rle (said_behind file statuses.Undecided (codes "undecided"))
 
 -- how the search of a made problem ends: it has a solution, so it is found, or the file has a spent log of its formula
 pub data IsMaking (seed size : ℕ) (effort : Effort) : Answer → Type 0 where
   solved : IsMaking seed size effort (shown statuses.Pattern (summary_text seed size (codes "pattern")))
   unsolved : (file : AnswerFile) → HasSpentLog (formula_of (made_problem seed size) Rows) effort file
-      → IsMaking seed size effort (summed_behind file statuses.Undecided (summary_text seed size (codes "undecided")))
+      → IsMaking seed size effort (shown_behind file statuses.Undecided (summary_text seed size (codes "undecided")))
 
--- what the yes of a question says: of a check that the proof is accepted, and that there is no solution, or that no assignment
--- satisfies the formula; of a judging that the pattern is a solution, and keeps the rule on the whole plane where it has to
+-- what the yes of a question says: of a check that the proof is accepted, and that there is no solution, by no rule between two, or that no
+-- assignment satisfies the formula; of a judging that the pattern is a solution, and keeps the rule on the whole plane where it has to
 abbrev pub YesHolds : Question → Type 0
 YesHolds (questions.Check asked proof) = (verdict (formula_asked asked) proof ≡ Accepted) × IsAbsent asked.problem
 YesHolds (questions.Refute formula proof) = (verdict formula proof ≡ Accepted) × IsUnsatisfiable formula
@@ -96,6 +129,9 @@ YesHolds (questions.Decide formula effort) = ⊥
 YesHolds (questions.Encode asked) = Unit {0}
 YesHolds (questions.Print rule) = Unit {0}
 YesHolds (questions.Make seed size name effort) = ⊥
+YesHolds (questions.Least asked effort rle) = ⊥
+YesHolds (questions.Loose asked effort rle) = ⊥
+YesHolds (questions.LooseCheck asked proof) = (verdict (formula_opened asked) proof ≡ Accepted) × IsOpenlyAbsent asked.problem asked.high
 
 -- what its no says: of a check that the proof isn't accepted, of a judging that the pattern is no solution
 abbrev pub NoHolds : Question → Type 0
@@ -107,19 +143,26 @@ NoHolds (questions.Decide formula effort) = ⊥
 NoHolds (questions.Encode asked) = ⊥
 NoHolds (questions.Print rule) = ⊥
 NoHolds (questions.Make seed size name effort) = ⊥
+NoHolds (questions.Least asked effort rle) = ⊥
+NoHolds (questions.Loose asked effort rle) = ⊥
+NoHolds (questions.LooseCheck asked proof) = verdict (formula_opened asked) proof ≡ Accepted → ⊥
 
--- what it says that a search found something: there is a solution, which keeps the rule on the whole plane where it has to, or
--- an assignment that satisfies the formula
+-- what it says that a search found something: there is a solution, which keeps the rule on the whole plane where it has to, with the fewest live
+-- cells or by some rule between two where that was asked, or an assignment that satisfies the formula
 abbrev pub SomeHolds : Question → Type 0
 SomeHolds (questions.Search asked effort rle) = (history : History) × IsSolution asked.problem history × PlaneLaw asked.problem history
 SomeHolds (questions.Decide formula effort) = (values : List Bool) × IsModel formula values
 SomeHolds (questions.Make seed size name effort) = (history : History) × IsSolution (made_problem seed size) history × PlaneLaw (made_problem seed size) history
+SomeHolds (questions.Least asked effort rle) = (history : History) × IsOfFewest asked history
+SomeHolds (questions.Loose asked effort rle) = (history : History) × ((rule : List Bool) × IsFoundBetween asked history rule)
 SomeHolds question = ⊥
 
 -- what it says that there is nothing to find; of a made problem nothing says so
 abbrev pub NoneHolds : Question → Type 0
 NoneHolds (questions.Search asked effort rle) = IsAbsent asked.problem
 NoneHolds (questions.Decide formula effort) = IsUnsatisfiable formula
+NoneHolds (questions.Least asked effort rle) = IsAbsent asked.problem
+NoneHolds (questions.Loose asked effort rle) = IsOpenlyAbsent asked.problem asked.high
 NoneHolds question = ⊥
 
 -- a budget that needn't decide: it is less than 9 to the number of variables, and where no learnt clause is deleted than 3 to it
@@ -127,11 +170,13 @@ pub record IsShort (formula : Cnf) (effort : Effort) : Type 0 where
   pub deleting : effort.budget < 9 ^ formula.vars
   pub keeping : effort.keep_all ≡ true → effort.budget < 3 ^ formula.vars
 
--- what it says that a search is undecided: its budget was short
+-- what it says that a search is undecided: its budget was short, for what it looked at last
 abbrev pub HasShortBudget : Question → Type 0
 HasShortBudget (questions.Search asked effort rle) = IsShort (formula_asked asked) effort
 HasShortBudget (questions.Decide formula effort) = IsShort formula effort
 HasShortBudget (questions.Make seed size name effort) = IsShort (formula_of (made_problem seed size) Rows) effort
+HasShortBudget (questions.Least asked effort rle) = (looked : Asked) × IsLookedAt asked looked × IsShort (formula_asked looked) effort
+HasShortBudget (questions.Loose asked effort rle) = IsShort (formula_opened asked) effort
 HasShortBudget question = ⊥
 
 -- what a status says of a question
@@ -153,6 +198,9 @@ Answers (questions.Decide formula effort) answer = IsDecision formula effort ans
 Answers (questions.Encode asked) answer = answer ≡ shown statuses.Done (dimacs_text (formula_asked asked))
 Answers (questions.Print rule) answer = answer ≡ said statuses.Done (rule_text rule)
 Answers (questions.Make seed size name effort) answer = IsMaking seed size effort answer
+Answers (questions.Least asked effort rle) answer = IsFewest asked effort rle answer
+Answers (questions.Loose asked effort rle) answer = IsOpening asked effort rle answer
+Answers (questions.LooseCheck asked bytes) answer = answer ≡ check_answer (answer_of (verdict (formula_opened asked) bytes))
 
 -- an answer is right, and what its status says holds
 pub record IsAnswer (question : Question) (answer : Answer) : Type 0 where

@@ -1,12 +1,15 @@
 -- What a run's end says in plain sentences. Each follows from how the run ends.
-use Rattle.std.specs.Prelude.{◌≡◌, ◌≢◌, ◌≤◌, ◌⊎◌, ℕ, List, [], ◌∷◌, ◌++◌, length, take, All, Option, None, Some, Result, Ok, Err}
+use Rattle.std.specs.Prelude.{◌≡◌, ◌≢◌, ◌≤◌, ◌⊎◌, ℕ, suc, List, [], ◌∷◌, ◌++◌, length, take, All, Option, None, Some, Result, Ok, Err}
 use Rattle.std.specs.FinMap as map
 use Rattle.std.specs.Option.{option_map}
 use Rattle.lls_base.specs.Faults.{Rose}
 use Rattle.lls_base.specs.Shelf.{Files}
 use Rattle.lls_words.specs.declared.error.WordsError.{WordsError}
 use Rattle.lls_lit.specs.Formula.{Cnf}
+use Rattle.lls_problem.specs.declared.demands.Demands.{Demands}
 use Rattle.lls_problem.specs.declared.form.Form.TheVariants.{Rows}
+use Rattle.lls_grid.specs.History.{History}
+use Rattle.lls_least.specs.Fewer.{at_most, live_cells}
 use Rattle.lls_encode.specs.Formula.{formula_of}
 use Rattle.lls_gen.specs.Made.{made_problem}
 use Rattle.lls_words.specs.declared.job.Job.{Job}
@@ -20,11 +23,14 @@ use Rattle.lls_cli.specs.declared.fault.Fault.{Fault}
 use Rattle.lls_cli.specs.declared.fault.Fault.TheVariants as faults
 use Rattle.lls_cli.specs.declared.fault.OutsideFault.TheVariants as outside
 use Rattle.lls_cli.specs.declared.asked.Asked.{Asked}
+use Rattle.lls_cli.specs.declared.asked.OpenAsked.{OpenAsked}
 use Rattle.lls_cli.specs.declared.status.Status.{Status}
 use Rattle.lls_cli.specs.declared.status.Status.TheVariants as statuses
-use Rattle.lls_cli.specs.Question.{formula_asked, proof_limit, question_of, Asks}
+use Rattle.lls_cli.specs.Question.{formula_asked, formula_opened, proof_limit, question_of, Asks}
 use Rattle.lls_cli.specs.Fault.{fault_line, status_of}
 use Rattle.lls_cli.specs.Ends.{GrewBy, ahead_of, with_file}
+use Rattle.lls_cli.specs.Evidence.{HasProof, HasSpentLog}
+use Rattle.lls_cli.specs.Fewest.{asked_fewer, IsAbove, IsLookedAt, IsOfFewest}
 use Rattle.lls_cli.specs.Answer.{Holds, IsAnswer, YesHolds}
 use Rattle.lls_cli.specs.Moment.{SinkMoment, Moment, files_at}
 
@@ -72,6 +78,14 @@ log_at statuses.NoPattern name = name ∷ []
 log_at statuses.Undecided name = name ∷ []
 log_at status name = []
 
+-- the file of a proof or a log of a search that leaves one where it found something too
+abbrev pub certificate_at : Status → List ℕ → List (List ℕ)
+certificate_at statuses.Outside name = name ∷ []
+certificate_at statuses.Pattern name = name ∷ []
+certificate_at statuses.NoPattern name = name ∷ []
+certificate_at statuses.Undecided name = name ∷ []
+certificate_at status name = []
+
 -- the search file of a made problem, at the statuses at which it may have changed
 abbrev pub search_file_at : Status → List ℕ → List (List ℕ)
 search_file_at statuses.Outside name = name ∷ []
@@ -85,6 +99,8 @@ abbrev pub outputs_of : Job → Status → List (List ℕ)
 outputs_of (jobs.Search search_file proof rule demands form budget keep_all rle) status = log_at status proof
 outputs_of (jobs.Sat formula proof budget keep_all) status = log_at status proof
 outputs_of (jobs.Make seed size search_file proof) status = search_file_at status search_file ++ log_at status proof
+outputs_of (jobs.Least search_file proof rule demands form budget keep_all rle) status = certificate_at status proof
+outputs_of (jobs.Loose search_file proof low high demands form budget keep_all rle) status = log_at status proof
 outputs_of job status = []
 
 abbrev pub outputs_of_words : Result Job WordsError → Status → List (List ℕ)
@@ -118,26 +134,73 @@ abbrev pub OfFile : (AnswerFile → Type 0) → List ℕ → Option Files → Ty
 OfFile Fact name None = Unit {0}
 OfFile Fact name (Some files) = (bytes : List ℕ) × (map.get files name ≡ Some bytes) × Fact (record { name = name; bytes = bytes })
 
--- what a search leaves in its file, by the formula that it searches
-abbrev pub Leaves : (Cnf → Effort → AnswerFile → Type 0) → Option Files → Question → Type 0
-Leaves Has files (questions.Search asked effort rle) = OfFile (Has (formula_asked asked) effort) effort.proof files
-Leaves Has files (questions.Decide formula effort) = OfFile (Has formula effort) effort.proof files
-Leaves Has files (questions.Make seed size name effort) = OfFile (Has (formula_of (made_problem seed size) Rows) effort) effort.proof files
-Leaves Has files question = ⊥
+-- what a search leaves in its file where it found that there is nothing: a proof of the formula that it searched
+abbrev pub LeavesProof : Option Files → Question → Type 0
+LeavesProof files (questions.Search asked effort rle) = OfFile (HasProof (formula_asked asked) effort) effort.proof files
+LeavesProof files (questions.Decide formula effort) = OfFile (HasProof formula effort) effort.proof files
+LeavesProof files (questions.Least asked effort rle) = OfFile (HasProof (formula_asked asked) effort) effort.proof files
+LeavesProof files (questions.Loose asked effort rle) = OfFile (HasProof (formula_opened asked) effort) effort.proof files
+LeavesProof files question = ⊥
+
+-- a spent log of what a search for the fewest live cells looked at last
+pub record HasLookedLog (asked : Asked) (effort : Effort) (file : AnswerFile) : Type 0 where
+  pub looked : Asked
+  pub is_looked : IsLookedAt asked looked
+  pub log : HasSpentLog (formula_asked looked) effort file
+
+-- and where it is undecided: a spent log
+abbrev pub LeavesLog : Option Files → Question → Type 0
+LeavesLog files (questions.Search asked effort rle) = OfFile (HasSpentLog (formula_asked asked) effort) effort.proof files
+LeavesLog files (questions.Decide formula effort) = OfFile (HasSpentLog formula effort) effort.proof files
+LeavesLog files (questions.Make seed size name effort) = OfFile (HasSpentLog (formula_of (made_problem seed size) Rows) effort) effort.proof files
+LeavesLog files (questions.Least asked effort rle) = OfFile (HasLookedLog asked effort) effort.proof files
+LeavesLog files (questions.Loose asked effort rle) = OfFile (HasSpentLog (formula_opened asked) effort) effort.proof files
+LeavesLog files question = ⊥
+
+-- a solution with the fewest live cells, and where it has some, a proof in the file that none has fewer: of the formula of the problem with at
+-- most one less, which the words pose with that bound behind the others
+pub record IsCertified (asked : Asked) (effort : Effort) (files : Option Files) (history : History) : Type 0 where
+  pub fewest : IsOfFewest asked history
+  pub proof : (n : ℕ) → live_cells history ≡ suc n → IsAbove asked history n × OfFile (HasProof (formula_asked (asked_fewer asked n)) effort) effort.proof files
+
+-- what a search for the fewest live cells leaves where it found them
+abbrev pub LeavesCertificate : Option Files → Question → Type 0
+LeavesCertificate files (questions.Least asked effort rle) = (history : History) × IsCertified asked effort files history
+LeavesCertificate files question = Unit {0}
 
 -- a file that is written before the answer is looked for stands whole
 abbrev pub HasWhole : Option Files → Option AnswerFile → Type 0
 HasWhole (Some files) (Some file) = map.get files file.name ≡ Some file.bytes
 HasWhole files file = Unit {0}
 
--- after a search that found nothing, a check with the same words for the problem asks of the files that are left whether the
--- proof is accepted, where it is no longer than a check reads; and the check's yes holds
+-- the files that are left hold the bytes of a proof, a job asks of them just whether it is accepted, where it is no longer than a check
+-- reads, and the yes holds
+pub record IsPublished (job : Job) (question : List ℕ → Question) (proof : List ℕ) (files : Files) : Type 0 where
+  pub bytes : List ℕ
+  pub stands : map.get files proof ≡ Some bytes
+  pub asked : length bytes ≤ proof_limit → question_of job files ≡ Ok (question bytes)
+  pub holds : YesHolds (question bytes)
+
+-- after a search that found nothing, the check with the same words for the problem says yes
 abbrev pub Publishes : Result Job WordsError → Option Files → Option Files → Type 0
 Publishes (Ok (jobs.Search search_file proof rule demands form budget keep_all rle)) (Some before) (Some after) =
-    (asked : Asked) × (bytes : List ℕ) × (map.get after proof ≡ Some bytes)
-    × (length bytes ≤ proof_limit → question_of (jobs.Check search_file proof rule demands form) after ≡ Ok (questions.Check asked bytes))
-    × YesHolds (questions.Check asked bytes)
+    (asked : Asked) × IsPublished (jobs.Check search_file proof rule demands form) (questions.Check asked) proof after
+Publishes (Ok (jobs.Least search_file proof rule demands form budget keep_all rle)) (Some before) (Some after) =
+    (asked : Asked) × IsPublished (jobs.Check search_file proof rule demands form) (questions.Check asked) proof after
+Publishes (Ok (jobs.Loose search_file proof low high demands form budget keep_all rle)) (Some before) (Some after) =
+    (asked : OpenAsked) × IsPublished (jobs.LooseCheck search_file proof low high demands form) (questions.LooseCheck asked) proof after
 Publishes job before after = Unit {0}
+
+-- the demands with a bound more behind the others: in generation 0 at most so many cells are live
+abbrev pub demands_fewer : Demands → ℕ → Demands
+demands_fewer demands n = record demands { bounds = demands.bounds ++ at_most n ∷ [] }
+
+-- after a search that found the fewest live cells, of which there are some, the check with that bound more says yes
+abbrev pub PublishesFewest : Result Job WordsError → Option Files → Option Files → Type 0
+PublishesFewest (Ok (jobs.Least search_file proof rule demands form budget keep_all rle)) (Some before) (Some after) =
+    (asked : Asked) × ((history : History) × IsOfFewest asked history × ((n : ℕ) → live_cells history ≡ suc n
+    → IsPublished (jobs.Check search_file proof rule (demands_fewer demands n) form) (questions.Check (asked_fewer asked n)) proof after))
+PublishesFewest job before after = Unit {0}
 
 -- where the inputs ask a question, and no call of the shelf or of the standard output failed, it is answered, but for want of
 -- memory, and what the answer's status says holds

@@ -10,7 +10,10 @@ pub mod Evidence
 pub mod ModelText
 pub mod PatternText
 pub mod Making
+pub mod Fewest
+pub mod Opened
 pub mod Answer
+pub mod Shown
 pub mod Moment
 pub mod Outside
 pub mod Ends

@@ -12,6 +12,7 @@ use Rattle.lls_grid.specs.Evolution.{evolution}
 use Rattle.lls_rle.specs.declared.rle_fault.RleFault.{RleFault}
 use Rattle.lls_rle.specs.Reading.{rle_of}
 use Rattle.lls_search_file.specs.declared.posed_fault.PosedFault.{PosedFault}
+use Rattle.lls_search_file.specs.declared.posed_fault.PosedFault.TheVariants.{TooManyCells}
 use Rattle.lls_search_file.specs.declared.history_fault.HistoryFault.{HistoryFault}
 use Rattle.lls_search_file.specs.declared.history_fault.HistoryFault.TheVariants as plain
 use Rattle.lls_search_file.specs.Posed.{PosedFile}
@@ -19,9 +20,13 @@ use Rattle.lls_search_file.specs.Reading.{posed_of}
 use Rattle.lls_search_file.specs.Plain.{plain_of}
 use Rattle.lls_problem.specs.declared.demands.Demands.{Demands}
 use Rattle.lls_problem.specs.declared.demands.DemandError.{DemandError}
+use Rattle.lls_problem.specs.declared.demands.DemandError.TheVariants.{Counters}
 use Rattle.lls_problem.specs.declared.form.Form.{Form}
+use Rattle.lls_problem.specs.Bounds.{most_counters}
 use Rattle.lls_problem.specs.Problem.{PosedProblem, problem_made}
 use Rattle.lls_encode.specs.Formula.{formula_of}
+use Rattle.lls_least.specs.Fewer.{counters_with_one_more}
+use Rattle.lls_open.specs.Formula.{open_formula}
 use Rattle.lls_words.specs.Values.{default_budget}
 use Rattle.lls_words.specs.declared.job.Job.{Job}
 use Rattle.lls_words.specs.declared.job.Job.TheVariants as jobs
@@ -32,6 +37,7 @@ use Rattle.lls_cli.specs.declared.fault.Fault.{Fault}
 use Rattle.lls_cli.specs.declared.fault.Fault.TheVariants as faults
 use Rattle.lls_cli.specs.declared.fault.OutsideFault.TheVariants as outside
 use Rattle.lls_cli.specs.declared.asked.Asked.{Asked}
+use Rattle.lls_cli.specs.declared.asked.OpenAsked.{OpenAsked}
 
 -- what is asked about a problem: the problem, and the form of its formula
 abbrev pub asked_with : Form → PosedProblem → Asked
@@ -40,6 +46,13 @@ asked_with form problem = record { problem = problem; form = form }
 -- the formula that is asked about
 abbrev pub formula_asked : Asked → Cnf
 formula_asked asked = formula_of asked.problem asked.form
+
+-- the same of a problem whose rule is left open below a high one
+abbrev pub opened_with : List Bool → Form → PosedProblem → OpenAsked
+opened_with high form problem = record { problem = problem; high = high; form = form }
+
+abbrev pub formula_opened : OpenAsked → Cnf
+formula_opened asked = open_formula asked.problem asked.high asked.form
 
 -- how many bytes an input has at most: a search file or a pattern; a proof; a formula
 abbrev pub search_limit : ℕ
@@ -72,6 +85,26 @@ demanded (Err error) = Err (faults.Demands error)
 -- the problem that the bytes of a search file pose
 abbrev pub problem_in : List Bool → Demands → List ℕ → Result PosedProblem Fault
 problem_in rule demands bytes = and_then (posed_in (posed_of bytes)) (λ posed. demanded (problem_made posed rule demands))
+
+-- the problem, where there is room for a counter of all cells of a generation besides those of its bounds
+abbrev pub with_room : PosedProblem → Result PosedProblem Fault
+with_room problem =
+    if nat_lt most_counters (counters_with_one_more problem) then Err (faults.Demands (Counters (counters_with_one_more problem))) else Ok problem
+
+abbrev pub roomy_problem_in : List Bool → Demands → List ℕ → Result PosedProblem Fault
+roomy_problem_in rule demands bytes = and_then (problem_in rule demands bytes) with_room
+
+-- how many cells a file has at most whose rule is left open
+abbrev pub most_open_cells : ℕ
+most_open_cells = 2048
+
+-- the problem, where it has no more
+abbrev pub with_few_cells : PosedProblem → Result PosedProblem Fault
+with_few_cells problem =
+    if nat_lt most_open_cells (length problem.posed.cells) then Err (faults.Posed (TooManyCells (length problem.posed.cells))) else Ok problem
+
+abbrev pub small_problem_in : List Bool → Demands → List ℕ → Result PosedProblem Fault
+small_problem_in rule demands bytes = and_then (problem_in rule demands bytes) with_few_cells
 
 -- the history of a pattern's bytes
 abbrev pub plain_in : Result History HistoryFault → Result History Fault
@@ -134,6 +167,18 @@ default_effort proof = effort_of default_budget false proof
 abbrev pub encode_question : List Bool → Demands → Form → Result (List ℕ) Fault → Result Question Fault
 encode_question rule demands form input = and_then (and_then input (problem_in rule demands)) (λ problem. Ok (questions.Encode (asked_with form problem)))
 
+abbrev pub least_question : List Bool → Demands → Form → Effort → Bool → Result (List ℕ) Fault → Result Question Fault
+least_question rule demands form effort rle input =
+    and_then (and_then input (roomy_problem_in rule demands)) (λ problem. Ok (questions.Least (asked_with form problem) effort rle))
+
+abbrev pub loose_question : List Bool → List Bool → Demands → Form → Effort → Bool → Result (List ℕ) Fault → Result Question Fault
+loose_question low high demands form effort rle input =
+    and_then (and_then input (small_problem_in low demands)) (λ problem. Ok (questions.Loose (opened_with high form problem) effort rle))
+
+abbrev pub loose_check_question : List Bool → List Bool → Demands → Form → Result (List ℕ) Fault → Result (List ℕ) Fault → Result Question Fault
+loose_check_question low high demands form first second =
+    and_then (and_then first (small_problem_in low demands)) (λ problem. and_then second (λ proof. Ok (questions.LooseCheck (opened_with high form problem) proof)))
+
 -- what a job asks of its inputs: of none, of one or of two, each by its name and with at most so many bytes, and the question that
 -- what was read of them makes
 pub data Asking : Type 0 where
@@ -151,6 +196,12 @@ asking_of (jobs.Cnf search_file rule demands form) = of_one search_file search_l
 asking_of (jobs.Lrat formula proof) = of_two formula formula_limit proof proof_limit refute_question
 asking_of (jobs.Rule rule) = of_none (questions.Print rule)
 asking_of (jobs.Make seed size search_file proof) = of_none (questions.Make seed size search_file (default_effort proof))
+asking_of (jobs.Least search_file proof rule demands form budget keep_all rle) =
+    of_one search_file search_limit (least_question rule demands form (effort_of budget keep_all proof) rle)
+asking_of (jobs.Loose search_file proof low high demands form budget keep_all rle) =
+    of_one search_file search_limit (loose_question low high demands form (effort_of budget keep_all proof) rle)
+asking_of (jobs.LooseCheck search_file proof low high demands form) =
+    of_two search_file search_limit proof proof_limit (loose_check_question low high demands form)
 
 -- the question, or the first refusal, where each input is read so, by its name and its limit
 abbrev pub question_by : (List ℕ → ℕ → Result (List ℕ) Fault) → Asking → Result Question Fault

@@ -7,3 +7,4 @@ use Rattle.lls_cli.specs.Absence.{no_pattern}
 abbrev pub said_text : Said → List ℕ
 said_text (said.Plain bytes) = bytes.items
 said_text (said.Absence asked) = no_pattern
+said_text (said.OpenAbsence asked) = no_pattern

@@ -1,18 +1,18 @@
 // From a job to its answer: the inputs are read in their order.
 ghost use Rattle.std.specs.Prelude.{◌≤◌};
 ghost use Rattle.lls_solver.specs.declared.solving.TheConstants.{MOST_BUDGET};
-ghost use Rattle.lls_words.specs.Job.{AreWithinLimits};
+ghost use Rattle.lls_words.specs.Job.{AreOpen, AreWithinLimits};
 ghost use Rattle.lls_words.specs.declared.job.Job.TheVariants as jobs;
 ghost use Rattle.lls_cli.specs.Moment.{files_of, shelf_at};
 ghost use Rattle.lls_cli.specs.Steps.{ComesTo, Reads};
 
 use crate::answer::Answer;
-use crate::asked::Asked;
-use crate::check::{check, refute};
+use crate::asked::{Asked, OpenAsked};
+use crate::check::{check, check_open, refute};
 use crate::decide::decide;
 use crate::effort::Effort;
 use crate::fault::Fault;
-use crate::input::{read_formula, read_pattern, read_problem};
+use crate::input::{read_formula, read_pattern, read_problem, read_small_problem};
 use crate::judge::judge;
 use crate::print::print_formula;
 use lls_base::{Name, Shelf};
@@ -98,4 +98,27 @@ pub fn answer_lrat<S: Shelf>(
 {
     let formula = read_formula(alloc, shelf, formula)?;
     refute(alloc, shelf, &formula, proof)
+}
+
+/// The answer to `opencheck`: the problem is read, and then the proof.
+pub fn answer_loose_check<S: Shelf>(
+    alloc: Global,
+    shelf: &mut S,
+    search: &Name,
+    proof: &Name,
+    low: Rule,
+    high: Rule,
+    demands: Demands,
+    form: Form,
+) -> Result<Answer<'static>, Fault>
+    requires { AreOpen low high demands }
+    ensures { Reads (ComesTo (jobs.LooseCheck search.now proof.now low high demands form) (files_of S.Shelf shelf.old)) result (shelf_at S.Shelf shelf.old) (shelf_at S.Shelf shelf.new) }
+{
+    let problem = read_small_problem(alloc, shelf, search, low, demands)?;
+    let asked = OpenAsked {
+        problem,
+        high,
+        form,
+    };
+    check_open(alloc, shelf, &asked, proof)
 }

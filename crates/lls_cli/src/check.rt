@@ -1,13 +1,15 @@
-// The checks of proofs, against a formula and against a problem.
-ghost use Rattle.std.specs.Prelude.{◌≡◌, ℕ, List, IfOk};
+// The checks of proofs, against a formula, a problem and an open rule.
+ghost use Rattle.std.specs.Prelude.{◌≡◌, ◌≤◌, ℕ, List, length, IfOk};
+ghost use Rattle.lls_open.specs.Between.{AreEnds};
 ghost use Rattle.lls_cli.specs.Answer.{IsAnswer};
 ghost use Rattle.lls_cli.specs.Fed.{ProofComesTo, fed_with};
 ghost use Rattle.lls_cli.specs.Moment.{files_of, shelf_at};
+ghost use Rattle.lls_cli.specs.Question.{most_open_cells};
 ghost use Rattle.lls_cli.specs.Questions as questions;
 ghost use Rattle.lls_cli.specs.Steps.{Reads};
 
 use crate::answer::Answer;
-use crate::asked::Asked;
+use crate::asked::{Asked, OpenAsked};
 use crate::fault::Fault;
 use crate::feeding::feed_file;
 use crate::status::Status;
@@ -16,6 +18,7 @@ use lls_base::{Memory, Name, Shelf};
 use lls_cnf::Formula;
 use lls_encode::encode;
 use lls_lrat::{CheckError, Feed};
+use lls_open::encode_open;
 use std::alloc::Global;
 
 // The answer to a proof that ends here.
@@ -56,5 +59,20 @@ pub fn check<S: Shelf>(
     ensures { Reads (ProofComesTo (questions.Check asked.now) (files_of S.Shelf shelf.old) proof.now) result (shelf_at S.Shelf shelf.old) (shelf_at S.Shelf shelf.new) }
 {
     let formula = encode(alloc, &asked.problem, asked.form)?;
+    refute(alloc, shelf, &formula, proof)
+}
+
+/// The answer to a proof that no rule between two has a solution, by the formula of the open rule.
+pub fn check_open<S: Shelf>(
+    alloc: Global,
+    shelf: &mut S,
+    asked: &OpenAsked,
+    proof: &Name,
+) -> Result<Answer<'static>, Fault>
+    requires ends { AreEnds asked.now.problem.rule asked.now.high }
+    requires few { length asked.now.problem.posed.cells ≤ most_open_cells }
+    ensures { Reads (ProofComesTo (questions.LooseCheck asked.now) (files_of S.Shelf shelf.old) proof.now) result (shelf_at S.Shelf shelf.old) (shelf_at S.Shelf shelf.new) }
+{
+    let formula = encode_open(alloc, &asked.problem, &asked.high, asked.form)?;
     refute(alloc, shelf, &formula, proof)
 }

@@ -1,13 +1,21 @@
-// What a search leaves in its file, and the check of a proof before it is told of.
+// What a search leaves in its file, the check of a proof before it is told of, and the answers that there is nothing.
 ghost use Rattle.std.specs.Prelude.{◌≡◌, ℕ, List, true, IfOk, OnOk};
 ghost use Rattle.lls_lit.specs.Formula.{IsUnsatisfiable};
 ghost use Rattle.lls_prooflog.specs.Log.{ReadsAs, log_text};
 ghost use Rattle.lls_prooflog.specs.UnitWalk.{numbered};
 ghost use Rattle.lls_prooflog.specs.Steps.{are_accepted};
 ghost use Rattle.lls_lrat.specs.Verdict.{Accepted, verdict};
+ghost use Rattle.lls_open.specs.Between.{AreEnds};
+ghost use Rattle.lls_cli.specs.Question.{formula_asked, formula_opened};
+ghost use Rattle.lls_cli.specs.Shown.{ShowsNoRule, ShowsNone};
 
+use crate::absence::{Absence, OpenAbsence};
+use crate::answer::Answer;
 use crate::answer_file::AnswerFile;
+use crate::asked::{Asked, OpenAsked};
 use crate::bytes::Bytes;
+use crate::status::Status;
+use crate::text::Text;
 use lls_base::{Memory, Name};
 use lls_cnf::Formula;
 use lls_lrat::{CheckError, Checked, check};
@@ -39,4 +47,55 @@ pub fn check_proof<'f>(
         Err(CheckError::Memory) => Err(Memory),
         Err(_) => unreachable!(),
     }
+}
+
+/// The answer that a problem has no solution, by an accepted log over the problem's formula.
+pub fn absence_of<'f>(
+    alloc: Global,
+    asked: &'f Asked,
+    formula: &'f Formula,
+    log: &Log,
+    proof: Name,
+) -> Result<Answer<'f>, Memory>
+    requires formula { formula.now ≡ formula_asked asked.now }
+    requires accepted { are_accepted (numbered formula.now.clauses) log.now.steps ≡ true }
+    ensures { IfOk result (ShowsNone asked.now proof log.now.steps) }
+{
+    // What the type of a problem keeps is known from here on.
+    let problem = &asked.problem;
+    let _posed = problem.posed();
+    let _demands = problem.demands();
+    let checked = check_proof(alloc, formula, log)?;
+    let file = log_file(alloc, log, proof)?;
+    Ok(Answer {
+        status: Status::NoPattern,
+        text: Text::absence(Absence::new(checked, asked)),
+        file: Some(file),
+    })
+}
+
+/// The answer that no rule between two has a solution, by an accepted log over the formula of the open rule.
+pub fn no_rule_of<'f>(
+    alloc: Global,
+    asked: &'f OpenAsked,
+    formula: &'f Formula,
+    log: &Log,
+    proof: Name,
+) -> Result<Answer<'f>, Memory>
+    requires formula { formula.now ≡ formula_opened asked.now }
+    requires ends { AreEnds asked.now.problem.rule asked.now.high }
+    requires accepted { are_accepted (numbered formula.now.clauses) log.now.steps ≡ true }
+    ensures { IfOk result (ShowsNoRule asked.now proof log.now.steps) }
+{
+    // What the type of a problem keeps is known from here on.
+    let problem = &asked.problem;
+    let _posed = problem.posed();
+    let _demands = problem.demands();
+    let checked = check_proof(alloc, formula, log)?;
+    let file = log_file(alloc, log, proof)?;
+    Ok(Answer {
+        status: Status::NoPattern,
+        text: Text::open_absence(OpenAbsence::new(checked, asked)),
+        file: Some(file),
+    })
 }

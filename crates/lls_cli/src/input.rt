@@ -1,10 +1,11 @@
 // The inputs of a job.
-ghost use Rattle.std.specs.Prelude.{◌≡◌, ◌≤◌, length, IfOk};
+ghost use Rattle.std.specs.Prelude.{◌≡◌, ◌≤◌, length, IfOk, OnOk};
 ghost use Rattle.lls_base.specs.Results.{and_then, Gives};
 ghost use Rattle.lls_search_file.specs.Reading.{posed_of};
+ghost use Rattle.lls_least.specs.Fewer.{LeavesRoom};
 ghost use Rattle.lls_words.specs.Job.{AreWithinLimits};
 ghost use Rattle.lls_cli.specs.Moment.{files_of, shelf_at};
-ghost use Rattle.lls_cli.specs.Question.{IsInput, MadeOfOne, posed_in, problem_in, formula_in, history_in, pattern_in, pictured_in};
+ghost use Rattle.lls_cli.specs.Question.{IsInput, MadeOfOne, posed_in, problem_in, roomy_problem_in, small_problem_in, most_open_cells, formula_in, history_in, pattern_in, pictured_in};
 ghost use Rattle.lls_cli.specs.Steps.{Reads, input_fault};
 
 use crate::bytes::Bytes;
@@ -12,10 +13,14 @@ use crate::fault::{Fault, OutsideFault};
 use lls_base::{Name, ReadError, Shelf, read_all};
 use lls_cnf::{DimacsError, Formula, MOST_DIMACS_BYTES, read_dimacs};
 use lls_grid::History;
-use lls_problem::{Demands, Problem, make_problem};
+use lls_least::counters_with_one_more;
+use lls_open::MOST_OPEN_CELLS;
+use lls_problem::{Bounds, DemandError, Demands, Problem, make_problem};
 use lls_rle::{MOST_BYTES, RleError, read_rle};
 use lls_rule::Rule;
-use lls_search_file::{HistoryError, HistoryFault, Posed, PosedError, read_history, read_posed};
+use lls_search_file::{
+    HistoryError, HistoryFault, Posed, PosedError, PosedFault, read_history, read_posed,
+};
 use std::alloc::Global;
 
 /// The longest search file, and the longest pattern file, in bytes.
@@ -95,6 +100,50 @@ pub fn read_problem<S: Shelf>(
 {
     let bytes = read_input(alloc, shelf, search, SEARCH_LIMIT)?;
     problem_input(alloc, bytes.items(), rule, demands)
+}
+
+/// The problem of a search file, where there is room for a counter of all cells of a generation besides those of its bounds.
+pub fn read_roomy_problem<S: Shelf>(
+    alloc: Global,
+    shelf: &mut S,
+    search: &Name,
+    rule: Rule,
+    demands: Demands,
+) -> Result<Problem, Fault>
+    requires { AreWithinLimits demands }
+    ensures read { Reads (MadeOfOne (files_of S.Shelf shelf.old) search.now SEARCH_LIMIT
+        (λ first. and_then first (roomy_problem_in rule demands))) result (shelf_at S.Shelf shelf.old) (shelf_at S.Shelf shelf.new) }
+    ensures rule { IfOk result (λ problem. problem.rule ≡ rule) }
+    ensures room { IfOk result LeavesRoom }
+{
+    let problem = read_problem(alloc, shelf, search, rule, demands)?;
+    let counters = counters_with_one_more(&problem);
+    if counters > u64::from(Bounds::MOST_COUNTERS) {
+        return Err(Fault::Demands(DemandError::Counters(u128::from(counters))));
+    }
+    Ok(problem)
+}
+
+/// The problem of a search file, where it has few enough cells for a rule that is left open.
+pub fn read_small_problem<S: Shelf>(
+    alloc: Global,
+    shelf: &mut S,
+    search: &Name,
+    rule: Rule,
+    demands: Demands,
+) -> Result<Problem, Fault>
+    requires { AreWithinLimits demands }
+    ensures read { Reads (MadeOfOne (files_of S.Shelf shelf.old) search.now SEARCH_LIMIT
+        (λ first. and_then first (small_problem_in rule demands))) result (shelf_at S.Shelf shelf.old) (shelf_at S.Shelf shelf.new) }
+    ensures rule { IfOk result (λ problem. problem.rule ≡ rule) }
+    ensures few { IfOk result (λ problem. length problem.posed.cells ≤ most_open_cells) }
+{
+    let problem = read_problem(alloc, shelf, search, rule, demands)?;
+    let cells = problem.posed().cells.items().len();
+    if cells > MOST_OPEN_CELLS {
+        return Err(Fault::Posed(PosedFault::TooManyCells(cells as u64)));
+    }
+    Ok(problem)
 }
 
 // The formula that the bytes of a formula's file write.

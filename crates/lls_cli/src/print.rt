@@ -1,6 +1,7 @@
 // The texts of formulas and of rules.
-ghost use Rattle.std.specs.Prelude.{IfOk};
+ghost use Rattle.std.specs.Prelude.{◌≡◌, ◌++◌, codes, IfOk};
 ghost use Rattle.lls_hensel.specs.Isotropy.{IsIsotropic};
+ghost use Rattle.lls_hensel.specs.Printing.{rule_text};
 ghost use Rattle.lls_cli.specs.Questions as questions;
 ghost use Rattle.lls_cli.specs.Answer.{IsAnswer};
 
@@ -28,9 +29,9 @@ pub fn print_formula(alloc: Global, asked: &Asked) -> Result<Answer<'static>, Me
 }
 
 /// The canonical text of a rule, as a line.
-pub fn print_rule(alloc: Global, rule: &Rule) -> Result<Answer<'static>, Memory>
+pub fn rule_line(alloc: Global, rule: &Rule) -> Result<Vec<u8>, Memory>
     requires { IsIsotropic rule.now }
-    ensures { IfOk result (IsAnswer (questions.Print rule.now)) }
+    ensures { IfOk result (λ text. text.items ≡ rule_text rule.now ++ codes "\n") }
 {
     let mut text = match lls_hensel::print_rule(alloc, rule) {
         Ok(text) => text,
@@ -38,9 +39,17 @@ pub fn print_rule(alloc: Global, rule: &Rule) -> Result<Answer<'static>, Memory>
         Err(PrintRuleError::Memory) => return Err(Memory),
     };
     text.push(b'\n')?;
+    Ok(text)
+}
+
+/// The answer of a rule that is printed.
+pub fn print_rule(alloc: Global, rule: &Rule) -> Result<Answer<'static>, Memory>
+    requires { IsIsotropic rule.now }
+    ensures { IfOk result (IsAnswer (questions.Print rule.now)) }
+{
     Ok(Answer {
         status: Status::Done,
-        text: Text::plain(text),
+        text: Text::plain(rule_line(alloc, rule)?),
         file: None,
     })
 }

@@ -2,13 +2,12 @@
 ghost use Rattle.std.specs.Prelude.{◌≡◌, ◌≤◌, ◌⊎◌, IsErr, Ok};
 ghost use Rattle.lls_hensel.specs.Isotropy.{IsIsotropic};
 ghost use Rattle.lls_solver.specs.declared.solving.TheConstants.{MOST_BUDGET};
-ghost use Rattle.lls_words.specs.Job.{AreWithinLimits, KeepsLimits};
+ghost use Rattle.lls_words.specs.Job.{AreOpen, AreWithinLimits, KeepsLimits};
 ghost use Rattle.lls_words.specs.declared.job.Job as jobs;
 ghost use Rattle.lls_words.specs.declared.job.Job.TheVariants as all_jobs;
 ghost use Rattle.lls_cli.specs.Answer.{HasShortBudget, NoHolds, NoneHolds, SomeHolds, YesHolds};
-ghost use Rattle.lls_cli.specs.Claims.{ChangesOnly, CountsNeverFall, HasCause, IsAnswered, IsComplete, IsFaultStatus, IsSilent, Leaves, LeavesBegun, NothingFailed, OfQuestion, Publishes, SaysWhy, HasWhole, outputs_of_words};
+ghost use Rattle.lls_cli.specs.Claims.{ChangesOnly, CountsNeverFall, HasCause, IsAnswered, IsComplete, IsFaultStatus, IsSilent, LeavesBegun, LeavesCertificate, LeavesLog, LeavesProof, NothingFailed, OfQuestion, Publishes, PublishesFewest, SaysWhy, HasWhole, outputs_of_words};
 ghost use Rattle.lls_cli.specs.CommandLine.{job_in};
-ghost use Rattle.lls_cli.specs.Evidence.{HasProof, HasSpentLog};
 ghost use Rattle.lls_cli.specs.Ends.{End, HasInputs, IsEnd, ahead_of};
 ghost use Rattle.lls_cli.specs.Making.{IsSize};
 ghost use Rattle.lls_cli.specs.Moment.{ShelfMoment, files_at, files_of, moment_at, sink_at, with_shelf};
@@ -16,13 +15,17 @@ ghost use Rattle.lls_cli.specs.Outside.{BorrowsSame, moment_of};
 ghost use Rattle.lls_cli.specs.Steps.{ComesTo, Reads};
 
 use crate::answer::Answer;
-use crate::answering::{answer_check, answer_cnf, answer_judge, answer_lrat, answer_sat};
-use crate::asked::Asked;
+use crate::answering::{
+    answer_check, answer_cnf, answer_judge, answer_loose_check, answer_lrat, answer_sat,
+};
+use crate::asked::{Asked, OpenAsked};
 use crate::deliver::{give, refuse};
 use crate::effort::Effort;
 use crate::fault::Fault;
-use crate::input::read_problem;
+use crate::fewest::give_fewest;
+use crate::input::{read_problem, read_roomy_problem, read_small_problem};
 use crate::making::give_making;
+use crate::opened::give_opened;
 use crate::outside::Outside;
 use crate::print::print_rule;
 use crate::search::give_search;
@@ -70,6 +73,61 @@ fn run_search<S: Shelf, O: Sink, E: Sink>(
 {
     match read_problem(alloc, outside.shelf, search, rule, demands) {
         Ok(problem) => give_search(alloc, &Asked { problem, form }, effort, rle, outside),
+        Err(fault) => refuse(alloc, fault, outside.err),
+    }
+}
+
+// Runs `least`: the problem is read, and then the fewest live cells are searched.
+fn run_least<S: Shelf, O: Sink, E: Sink>(
+    alloc: Global,
+    search: &Name,
+    rule: Rule,
+    demands: Demands,
+    form: Form,
+    effort: Effort,
+    rle: bool,
+    outside: &mut Outside<S, O, E>,
+) -> Status
+    requires demands { AreWithinLimits demands }
+    requires isotropic { IsIsotropic rule }
+    requires budget { effort.budget ≤ MOST_BUDGET }
+    ensures end { (end : End) × IsEnd (Ok (all_jobs.Least search.now effort.proof rule demands form effort.budget effort.keep_all rle))
+        (moment_of S.Shelf O.Sink E.Sink outside.old) (moment_of S.Shelf O.Sink E.Sink outside.new) result end }
+    ensures same { BorrowsSame outside.old outside.new }
+{
+    match read_roomy_problem(alloc, outside.shelf, search, rule, demands) {
+        Ok(problem) => give_fewest(alloc, &Asked { problem, form }, effort, rle, outside),
+        Err(fault) => refuse(alloc, fault, outside.err),
+    }
+}
+
+// Runs `open`: the problem is read, and then searched over the rules between two.
+fn run_loose<S: Shelf, O: Sink, E: Sink>(
+    alloc: Global,
+    search: &Name,
+    low: Rule,
+    high: Rule,
+    demands: Demands,
+    form: Form,
+    effort: Effort,
+    rle: bool,
+    outside: &mut Outside<S, O, E>,
+) -> Status
+    requires open { AreOpen low high demands }
+    requires budget { effort.budget ≤ MOST_BUDGET }
+    ensures end { (end : End) × IsEnd (Ok (all_jobs.Loose search.now effort.proof low high demands form effort.budget effort.keep_all rle))
+        (moment_of S.Shelf O.Sink E.Sink outside.old) (moment_of S.Shelf O.Sink E.Sink outside.new) result end }
+    ensures same { BorrowsSame outside.old outside.new }
+{
+    match read_small_problem(alloc, outside.shelf, search, low, demands) {
+        Ok(problem) => {
+            let asked = OpenAsked {
+                problem,
+                high,
+                form,
+            };
+            give_opened(alloc, &asked, effort, rle, outside)
+        }
         Err(fault) => refuse(alloc, fault, outside.err),
     }
 }
@@ -190,6 +248,63 @@ fn run_job<S: Shelf, O: Sink, E: Sink>(
             search,
             proof,
         } => run_make(alloc, seed, size, search, proof, outside),
+        Job::Least {
+            search,
+            proof,
+            rule,
+            demands,
+            form,
+            budget,
+            keep_all,
+            rle,
+        } => {
+            let effort = Effort {
+                budget,
+                keep_all,
+                proof,
+            };
+            run_least(alloc, &search, rule, demands, form, effort, rle, outside)
+        }
+        Job::Loose {
+            search,
+            proof,
+            low,
+            high,
+            demands,
+            form,
+            budget,
+            keep_all,
+            rle,
+        } => {
+            let effort = Effort {
+                budget,
+                keep_all,
+                proof,
+            };
+            run_loose(
+                alloc, &search, low, high, demands, form, effort, rle, outside,
+            )
+        }
+        Job::LooseCheck {
+            search,
+            proof,
+            low,
+            high,
+            demands,
+            form,
+        } => {
+            let answer = answer_loose_check(
+                alloc,
+                outside.shelf,
+                &search,
+                &proof,
+                low,
+                high,
+                demands,
+                form,
+            );
+            give_read(alloc, answer, outside)
+        }
     }
 }
 
@@ -242,16 +357,18 @@ pub fn run<S: Shelf, O: Sink, E: Sink>(
     ensures yes { result ≡ Status.Done → OfQuestion YesHolds (job_in words.now) (files_of S.Shelf shelf.old) }
     ensures no { result ≡ Status.Refused → OfQuestion NoHolds (job_in words.now) (files_of S.Shelf shelf.old) }
 
-    // A search says that it found something only where there is a solution, or an assignment that satisfies the formula, and
-    // that there is nothing only where there is none. Then its file has a proof that the checker accepts. Where it is
-    // undecided, its file has the log of just as many clauses as it may learn, each of them fresh. A made problem's search file
-    // stands whole at its answers.
+    // A search says that it found something only where there is a solution, with the fewest live cells or by some rule between two
+    // where that was asked, or an assignment that satisfies the formula, and that there is nothing only where there is none. Then its
+    // file has a proof that the checker accepts; and so it has where the fewest live cells are some. Where it is undecided, its file has
+    // the log of just as many clauses as it may learn, each of them fresh. A made problem's search file stands whole at its answers.
     ensures found { result ≡ Status.Pattern → OfQuestion SomeHolds (job_in words.now) (files_of S.Shelf shelf.old) }
     ensures absent { result ≡ Status.NoPattern → OfQuestion NoneHolds (job_in words.now) (files_of S.Shelf shelf.old) }
-    ensures proof { result ≡ Status.NoPattern → OfQuestion (Leaves HasProof (files_of S.Shelf shelf.new)) (job_in words.now) (files_of S.Shelf shelf.old) }
-    ensures log { result ≡ Status.Undecided → OfQuestion (Leaves HasSpentLog (files_of S.Shelf shelf.new)) (job_in words.now) (files_of S.Shelf shelf.old) }
+    ensures proof { result ≡ Status.NoPattern → OfQuestion (LeavesProof (files_of S.Shelf shelf.new)) (job_in words.now) (files_of S.Shelf shelf.old) }
+    ensures log { result ≡ Status.Undecided → OfQuestion (LeavesLog (files_of S.Shelf shelf.new)) (job_in words.now) (files_of S.Shelf shelf.old) }
+    ensures certified { result ≡ Status.Pattern → OfQuestion (LeavesCertificate (files_of S.Shelf shelf.new)) (job_in words.now) (files_of S.Shelf shelf.old) }
     ensures made { IsAnswered result → OfQuestion (λ question. HasWhole (files_of S.Shelf shelf.new) (ahead_of question)) (job_in words.now) (files_of S.Shelf shelf.old) }
     ensures published { result ≡ Status.NoPattern → Publishes (job_in words.now) (files_of S.Shelf shelf.old) (files_of S.Shelf shelf.new) }
+    ensures published_fewest { result ≡ Status.Pattern → PublishesFewest (job_in words.now) (files_of S.Shelf shelf.old) (files_of S.Shelf shelf.new) }
 
     // A search is undecided only where its budget is below 9 to the number of the formula's variables, and below 3 to it where
     // no learnt clause is deleted.

@@ -8,12 +8,11 @@ ghost use Rattle.lls_cli.specs.Ends.{End, IsEndOf};
 ghost use Rattle.lls_cli.specs.Outside.{BorrowsSame, moment_of};
 ghost use Rattle.lls_cli.specs.Question.{formula_asked};
 
-use crate::absence::Absence;
 use crate::answer::Answer;
 use crate::asked::Asked;
 use crate::deliver::{give, lack};
 use crate::effort::Effort;
-use crate::evidence::{check_proof, log_file};
+use crate::evidence::{absence_of, log_file};
 use crate::outside::Outside;
 use crate::pattern::print_pattern;
 use crate::status::Status;
@@ -52,15 +51,7 @@ fn search<'f>(
                 file: None,
             })
         }
-        Outcome::Unsat => {
-            let checked = check_proof(alloc, formula, &log)?;
-            let file = log_file(alloc, &log, effort.proof)?;
-            Ok(Answer {
-                status: Status::NoPattern,
-                text: Text::absence(Absence::new(checked, asked)),
-                file: Some(file),
-            })
-        }
+        Outcome::Unsat => absence_of(alloc, asked, formula, &log, effort.proof),
         Outcome::Undecided => {
             let file = log_file(alloc, &log, effort.proof)?;
             Answer::of_text(alloc, Status::Undecided, b"undecided\n", Some(file))

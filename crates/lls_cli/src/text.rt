@@ -4,7 +4,7 @@ ghost use Rattle.lls_cli.specs.Absence.{no_pattern};
 ghost use Rattle.lls_cli.specs.Moment.{sink_at};
 ghost use Rattle.lls_cli.specs.Steps.{Writes};
 
-use crate::absence::Absence;
+use crate::absence::{Absence, OpenAbsence};
 use lls_base::{Failed, Sink, write_all};
 use std::marker::Model;
 
@@ -19,6 +19,7 @@ pub struct Text<'f> {
 enum Said<'f> {
     Plain(Vec<u8>),
     Absence(Absence<'f>),
+    OpenAbsence(OpenAbsence<'f>),
 }
 
 impl<'f> Model for Text<'f> {
@@ -49,6 +50,15 @@ impl<'f> Text<'f> {
         }
     }
 
+    /// The words of an absence by all rules between two.
+    pub fn open_absence(absence: OpenAbsence<'f>) -> Text<'f>
+        ensures { result ≡ no_pattern }
+    {
+        Text {
+            said: Said::OpenAbsence(absence),
+        }
+    }
+
     /// Writes the text to a sink. After a failure the sink has taken some first bytes of it.
     pub fn print<O: Sink>(&self, out: &mut O) -> Result<(), Failed>
         ensures { Writes self.now result (sink_at O.Sink out.old) (sink_at O.Sink out.new) }
@@ -56,6 +66,7 @@ impl<'f> Text<'f> {
         match &self.said {
             Said::Plain(bytes) => write_all(out, bytes),
             Said::Absence(absence) => absence.print(out),
+            Said::OpenAbsence(absence) => absence.print(out),
         }
     }
 }

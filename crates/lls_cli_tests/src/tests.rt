@@ -3,6 +3,7 @@ mod checks;
 mod demands;
 mod faults;
 mod formulas;
+mod further;
 mod hostile;
 mod judging;
 mod long_shelf;

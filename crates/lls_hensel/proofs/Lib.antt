@@ -19,3 +19,4 @@ pub mod RoundTrip
 pub mod Isotropy
 pub mod Images
 pub mod EntriesIsotropy
+pub mod Crossings

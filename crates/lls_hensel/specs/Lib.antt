@@ -5,6 +5,7 @@ pub mod Notation
 pub mod Reading
 pub mod Printing
 pub mod Isotropy
+pub mod Ends
 pub mod Faults
 pub mod Groups
 pub mod Numbers

@@ -1,3 +1,3 @@
-mod Made
-mod Solutions
+pub mod Made
+pub mod Solutions
 mod Searched

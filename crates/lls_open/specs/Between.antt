@@ -3,6 +3,7 @@ use Rattle.std.specs.Prelude.{◌≡◌, ◌<◌, ℕ, Bool, true, false, List, 
 use Rattle.lls_rule.specs.declared.rule.TheConstants.Rule.{NEIGHBOURHOODS}
 use Rattle.lls_rule.specs.Rule.{answer}
 use Rattle.lls_hensel.specs.Isotropy.{IsIsotropic}
+pub use Rattle.lls_hensel.specs.Ends.{AreEnds}
 use Rattle.lls_grid.specs.History.{History}
 use Rattle.lls_problem.specs.Problem.{PosedProblem}
 use Rattle.lls_problem.specs.Solution.{IsSolution}
@@ -13,15 +14,6 @@ pub record IsBetween (low high rule : List Bool) : Type 0 where
   pub isotropic : IsIsotropic rule
   pub above : (nine : ℕ) → nine < NEIGHBOURHOODS → answer low nine ≡ true → answer rule nine ≡ true
   pub below : (nine : ℕ) → nine < NEIGHBOURHOODS → answer high nine ≡ false → answer rule nine ≡ false
-
--- Two rules that leave a question open: both are isotropic, the high one gives 1 wherever the low one does, and they agree
--- at the neighbourhoods of nine dead and of nine live cells. So every rule between has the same backgrounds.
-pub record AreEnds (low high : List Bool) : Type 0 where
-  pub low_isotropic : IsIsotropic low
-  pub high_isotropic : IsIsotropic high
-  pub ordered : (nine : ℕ) → nine < NEIGHBOURHOODS → answer low nine ≡ true → answer high nine ≡ true
-  pub dead : answer low 0 ≡ answer high 0
-  pub live : answer low 511 ≡ answer high 511
 
 -- the problem with another rule
 abbrev pub with_rule : PosedProblem → List Bool → PosedProblem

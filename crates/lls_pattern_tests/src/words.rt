@@ -125,7 +125,19 @@ make 8 8 8 8 > SameName 5
 make 1 8 f > Operands 4 3
 make x 0 f f f > Operands 4 5
 make > Operands 4 0
-make --as=rle 1 8 f p > UnknownOption 2";
+make --as=rle 1 8 f p > UnknownOption 2
+least f f > SameName 3
+least --rule=B3 f f > Stray 2 3
+open f f --high B3/S2 > SameName 3
+open f p --low B9/S > Stray 4 2
+open f p --high B3/S2 > RulesCross 23
+opencheck f f --high B3/S2 > RulesCross 23
+open f p --low B03/S23 > RulesCross 0
+opencheck f p --low B3/S238 > RulesCross 511
+open f p --high B03/S23 > LooseBackground 0
+open f p --high B3/S238 > LooseBackground 511
+opencheck f p --high B03/S238 > LooseBackground 0
+opencheck f p --high B03/S2 > RulesCross 23";
 
 #[test]
 fn faults_are_named_by_their_place(rt: HostRuntime) -> Result<(), Fail> {
@@ -142,7 +154,7 @@ fn faults_are_named_by_their_place(rt: HostRuntime) -> Result<(), Fail> {
 
 // Options, each with a value that it may have.
 const OPTIONS: &str = "\
-formula=1 rule=B3/S23 edge=open symmetry=C2 period=2 live=0:1- differ=0,1 as=rle budget=7 keep=all best=1";
+formula=1 rule=B3/S23 low=B3/S2 high=B3/S23 edge=open symmetry=C2 period=2 live=0:1- differ=0,1 as=rle budget=7 keep=all best=1";
 
 // Whether a command line takes an option that stands behind it, which is the only fault that it may have.
 fn takes(alloc: Global, line: &str, option: &str) -> Result<bool, Fail> {
@@ -193,6 +205,18 @@ fn each_command_takes_its_options_alone(rt: HostRuntime) -> Result<(), Fail> {
         ("lrat f p", ""),
         ("rule B3/S23", ""),
         ("make 1 8 f p", ""),
+        (
+            "least f p",
+            "formula rule edge symmetry period live differ as budget keep ",
+        ),
+        (
+            "open f p",
+            "formula low high edge symmetry period live differ as budget keep ",
+        ),
+        (
+            "opencheck f p",
+            "formula low high edge symmetry period live differ ",
+        ),
     ];
     for (line, want) in rows {
         assert_eq!(rt; options_of(alloc, line)?.as_str(), want, "at {line:?}");
@@ -280,6 +304,18 @@ fn choices_of(job: Job) -> (Option<u32>, bool, bool) {
             rle,
             ..
         } => (Some(budget), keep_all, rle),
+        Job::Least {
+            budget,
+            keep_all,
+            rle,
+            ..
+        } => (Some(budget), keep_all, rle),
+        Job::Loose {
+            budget,
+            keep_all,
+            rle,
+            ..
+        } => (Some(budget), keep_all, rle),
         Job::Sat {
             budget,
             keep_all,
@@ -305,6 +341,9 @@ fn choices_of_a_search(rt: HostRuntime) -> Result<(), Fail> {
         ("judge f f --as rows", (None, false, false)),
         ("check f f", (None, false, false)),
         ("lrat f f", (None, false, false)),
+        ("least f p --as rle --keep=all", (Some(100_000), true, true)),
+        ("open f --budget 7 p", (Some(7), false, false)),
+        ("opencheck f f", (None, false, false)),
     ];
     for (line, want) in rows {
         assert!(rt; choices_of(job_of(alloc, line)?) == want, "at {line:?}");
@@ -318,6 +357,9 @@ fn form_of(job: Job) -> Option<Form> {
         Job::Check { form, .. } => Some(form),
         Job::Search { form, .. } => Some(form),
         Job::Cnf { form, .. } => Some(form),
+        Job::Least { form, .. } => Some(form),
+        Job::Loose { form, .. } => Some(form),
+        Job::LooseCheck { form, .. } => Some(form),
         _ => None,
     }
 }
@@ -338,6 +380,9 @@ fn forms_of_formulas(rt: HostRuntime) -> Result<(), Fail> {
         ("cnf --formula 1 f", Some(Form::Rows)),
         ("judge f p", None),
         ("make 1 8 f p", None),
+        ("least f p", Some(Form::Cover)),
+        ("open f p --formula 1", Some(Form::Rows)),
+        ("opencheck --formula=1 f f", Some(Form::Rows)),
     ];
     for (line, want) in rows {
         assert!(rt; form_of(job_of(alloc, line)?) == want, "at {line:?}");
@@ -352,6 +397,9 @@ fn problem_of(job: Job) -> Result<(Rule, Demands), Fail> {
         Job::Search { rule, demands, .. } => Ok((rule, demands)),
         Job::Judge { rule, demands, .. } => Ok((rule, demands)),
         Job::Cnf { rule, demands, .. } => Ok((rule, demands)),
+        Job::Least { rule, demands, .. } => Ok((rule, demands)),
+        Job::Loose { low, demands, .. } => Ok((low, demands)),
+        Job::LooseCheck { low, demands, .. } => Ok((low, demands)),
         _ => Err(Fail::from("a job with demands")),
     }
 }
@@ -363,6 +411,9 @@ fn demands_of_a_problem(rt: HostRuntime) -> Result<(), Fail> {
         "judge f --symmetry D2/ --period 07,-64,064 p --live 0:1-,063:-08192 --differ=63,0",
         "check --live=000:0001-,63:0-8192 --differ 63,0 f --period=7,-64,64 --symmetry D2/ p",
         "cnf --symmetry D2/ --differ 063,00 --live 0:1-,63:-8192 --period 7,-64,64 f",
+        "least f p --symmetry D2/ --differ 063,00 --live 0:1-,63:-8192 --period 7,-64,64",
+        "open --symmetry D2/ --high=B3/S23 f --differ 063,00 p --live 0:1-,63:-8192 --period 7,-64,64",
+        "opencheck f f --symmetry D2/ --differ 063,00 --live 0:1-,63:-8192 --period 7,-64,64",
     ];
     let period = Period {
         length: 7,
@@ -403,12 +454,61 @@ fn counts_as_life(rule: &Rule) -> bool {
 #[test]
 fn a_problem_without_options_is_of_life(rt: HostRuntime) -> Result<(), Fail> {
     let alloc = rt.alloc();
-    for line in ["check f p", "search f p", "judge f p", "cnf f"] {
+    let lines = [
+        "check f p",
+        "search f p",
+        "judge f p",
+        "cnf f",
+        "least f p",
+        "open f p",
+        "opencheck f p",
+    ];
+    for line in lines {
         let (rule, demands) = problem_of(job_of(alloc, line)?)?;
         let found = (counts_as_life(&rule), demands.edge, demands.symmetry);
         assert_eq!(rt; (line, found), (line, (true, Edge::Framed, Symmetry::C1)));
         assert_eq!(rt; (line, demands.period, demands.differ), (line, None, None));
         assert!(rt; demands.bounds.items().is_empty(), "at {line:?}");
+    }
+    Ok(())
+}
+
+// What a rule gives for two neighbours in a row of a dead centre, for three, and for two of a live centre.
+fn answers_of(rule: &Rule) -> (bool, bool, bool) {
+    (
+        rule.next(0b000_000_011),
+        rule.next(0b000_000_111),
+        rule.next(0b000_010_011),
+    )
+}
+
+// The low and the high rule of a job that leaves its rule open.
+fn rules_of(job: Job) -> Result<(Rule, Rule), Fail> {
+    match job {
+        Job::Loose { low, high, .. } => Ok((low, high)),
+        Job::LooseCheck { low, high, .. } => Ok((low, high)),
+        _ => Err(Fail::from("a job with an open rule")),
+    }
+}
+
+#[test]
+fn an_open_rule_is_between_two(rt: HostRuntime) -> Result<(), Fail> {
+    let alloc = rt.alloc();
+    let life = (false, true, true);
+    let rows = [
+        ("open f p", life, life),
+        (
+            "open f p --low=B/S --high B2a3/S",
+            (false, false, false),
+            (true, true, false),
+        ),
+        ("opencheck f p --low B3/S", (false, true, false), life),
+        ("opencheck --high=B23/S23 f p", life, (true, true, true)),
+    ];
+    for (line, want_low, want_high) in rows {
+        let (low, high) = rules_of(job_of(alloc, line)?)?;
+        let found = (line, answers_of(&low), answers_of(&high));
+        assert_eq!(rt; found, (line, want_low, want_high));
     }
     Ok(())
 }

@@ -13,5 +13,5 @@ pub mod Fitting
 pub mod Rules
 pub mod Dashes
 pub mod Pairs
-pub mod Jobs
+pub mod Refusals
 pub mod Limits

@@ -15,16 +15,18 @@ use Rattle.lls_words.specs.Parser.{parser_of, option_rule}
 
 -- two functions that agree along the table agree at each option
 pub by_table : {X : Type 0} (f g : Setting → X) → map f all_options ≡ map g all_options → (s : Setting) → f s ≡ g s
-by_table f g same settings.Formula = ap (λ xs. get_or xs 0 (f settings.Formula)) same
-by_table f g same settings.Rule = ap (λ xs. get_or xs 1 (f settings.Formula)) same
-by_table f g same settings.Edge = ap (λ xs. get_or xs 2 (f settings.Formula)) same
-by_table f g same settings.Symmetry = ap (λ xs. get_or xs 3 (f settings.Formula)) same
-by_table f g same settings.Period = ap (λ xs. get_or xs 4 (f settings.Formula)) same
-by_table f g same settings.Live = ap (λ xs. get_or xs 5 (f settings.Formula)) same
-by_table f g same settings.Differ = ap (λ xs. get_or xs 6 (f settings.Formula)) same
-by_table f g same settings.As = ap (λ xs. get_or xs 7 (f settings.Formula)) same
-by_table f g same settings.Budget = ap (λ xs. get_or xs 8 (f settings.Formula)) same
-by_table f g same settings.Keep = ap (λ xs. get_or xs 9 (f settings.Formula)) same
+by_table f g same settings.Rule = ap (λ xs. get_or xs 0 (f settings.Rule)) same
+by_table f g same settings.Low = ap (λ xs. get_or xs 1 (f settings.Rule)) same
+by_table f g same settings.High = ap (λ xs. get_or xs 2 (f settings.Rule)) same
+by_table f g same settings.Formula = ap (λ xs. get_or xs 3 (f settings.Rule)) same
+by_table f g same settings.Edge = ap (λ xs. get_or xs 4 (f settings.Rule)) same
+by_table f g same settings.Symmetry = ap (λ xs. get_or xs 5 (f settings.Rule)) same
+by_table f g same settings.Period = ap (λ xs. get_or xs 6 (f settings.Rule)) same
+by_table f g same settings.Live = ap (λ xs. get_or xs 7 (f settings.Rule)) same
+by_table f g same settings.Differ = ap (λ xs. get_or xs 8 (f settings.Rule)) same
+by_table f g same settings.As = ap (λ xs. get_or xs 9 (f settings.Rule)) same
+by_table f g same settings.Budget = ap (λ xs. get_or xs 10 (f settings.Rule)) same
+by_table f g same settings.Keep = ap (λ xs. get_or xs 11 (f settings.Rule)) same
 
 -- how an option's word is read
 pub long_of-option : (s : Setting) (value : List ℕ) → long_of (option_word s value) ≡ Some (option_name s, Some value)
@@ -52,6 +54,9 @@ finds commands.Sat = refl
 finds commands.Lrat = refl
 finds commands.Rule = refl
 finds commands.Make = refl
+finds commands.Least = refl
+finds commands.Open = refl
+finds commands.OpenCheck = refl
 
 pub arg_by_long-option : (command : Command) (s : Setting) → takes command s ≡ true → arg_by_long (rules command) (option_name s) ≡ Some (filled (option_rule s))
 arg_by_long-option command s taken =
@@ -66,3 +71,6 @@ is_simple-parser commands.Sat = refl
 is_simple-parser commands.Lrat = refl
 is_simple-parser commands.Rule = refl
 is_simple-parser commands.Make = refl
+is_simple-parser commands.Least = refl
+is_simple-parser commands.Open = refl
+is_simple-parser commands.OpenCheck = refl

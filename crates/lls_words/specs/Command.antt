@@ -8,7 +8,9 @@ use Rattle.lls_words.specs.declared.command.Setting.{Setting}
 use Rattle.lls_words.specs.declared.command.Setting.TheVariants as settings
 
 abbrev pub all_commands : List Command
-all_commands = commands.Check ∷ commands.Search ∷ commands.Judge ∷ commands.Cnf ∷ commands.Sat ∷ commands.Lrat ∷ commands.Rule ∷ commands.Make ∷ []
+all_commands =
+    commands.Check ∷ commands.Search ∷ commands.Judge ∷ commands.Cnf ∷ commands.Sat ∷ commands.Lrat ∷ commands.Rule ∷ commands.Make
+    ∷ commands.Least ∷ commands.Open ∷ commands.OpenCheck ∷ []
 
 abbrev pub command_name : Command → List ℕ
 command_name commands.Check = codes "check"
@@ -19,6 +21,9 @@ command_name commands.Sat = codes "sat"
 command_name commands.Lrat = codes "lrat"
 command_name commands.Rule = codes "rule"
 command_name commands.Make = codes "make"
+command_name commands.Least = codes "least"
+command_name commands.Open = codes "open"
+command_name commands.OpenCheck = codes "opencheck"
 
 -- the command that has the name
 abbrev pub command_of : List ℕ → Option Command
@@ -33,18 +38,28 @@ operand_count commands.Sat = 2
 operand_count commands.Lrat = 2
 operand_count commands.Rule = 1
 operand_count commands.Make = 4
+operand_count commands.Least = 2
+operand_count commands.Open = 2
+operand_count commands.OpenCheck = 2
 
 -- what the operands of a command are called, by their places
 abbrev pub operand_names : Command → List (List ℕ)
 operand_names command = take (operand_count command) (codes "first" ∷ codes "second" ∷ codes "third" ∷ codes "fourth" ∷ [])
 
+-- a problem's rule, or the two that it is between
+abbrev pub one_rule : List Setting
+one_rule = settings.Rule ∷ []
+
+abbrev pub two_rules : List Setting
+two_rules = settings.Low ∷ settings.High ∷ []
+
 -- the form of a problem's formula
 abbrev pub formula_options : List Setting
 formula_options = settings.Formula ∷ []
 
--- the rule and the demands of a problem
-abbrev pub problem_options : List Setting
-problem_options = settings.Rule ∷ settings.Edge ∷ settings.Symmetry ∷ settings.Period ∷ settings.Live ∷ settings.Differ ∷ []
+-- the demands of a problem
+abbrev pub demand_options : List Setting
+demand_options = settings.Edge ∷ settings.Symmetry ∷ settings.Period ∷ settings.Live ∷ settings.Differ ∷ []
 
 -- what patterns are written in
 abbrev pub pattern_options : List Setting
@@ -54,24 +69,54 @@ pattern_options = settings.As ∷ []
 abbrev pub effort_options : List Setting
 effort_options = settings.Budget ∷ settings.Keep ∷ []
 
+-- the options of a check besides its rules, and those of a search
+abbrev pub check_options : List Setting
+check_options = formula_options ++ demand_options
+
+abbrev pub search_options : List Setting
+search_options = check_options ++ pattern_options ++ effort_options
+
 abbrev pub all_options : List Setting
-all_options = formula_options ++ problem_options ++ pattern_options ++ effort_options
+all_options = one_rule ++ two_rules ++ search_options
+
+-- the options that say a command's rule, or the two rules that it is between
+abbrev pub rule_options : Command → List Setting
+rule_options commands.Check = one_rule
+rule_options commands.Search = one_rule
+rule_options commands.Judge = one_rule
+rule_options commands.Cnf = one_rule
+rule_options commands.Sat = []
+rule_options commands.Lrat = []
+rule_options commands.Rule = []
+rule_options commands.Make = []
+rule_options commands.Least = one_rule
+rule_options commands.Open = two_rules
+rule_options commands.OpenCheck = two_rules
+
+-- a command's other options
+abbrev pub other_options : Command → List Setting
+other_options commands.Check = check_options
+other_options commands.Search = search_options
+other_options commands.Judge = demand_options ++ pattern_options
+other_options commands.Cnf = check_options
+other_options commands.Sat = effort_options
+other_options commands.Lrat = []
+other_options commands.Rule = []
+other_options commands.Make = []
+other_options commands.Least = search_options
+other_options commands.Open = search_options
+other_options commands.OpenCheck = check_options
 
 -- the options that a command takes
 abbrev pub options_of : Command → List Setting
-options_of commands.Check = formula_options ++ problem_options
-options_of commands.Search = all_options
-options_of commands.Judge = problem_options ++ pattern_options
-options_of commands.Cnf = formula_options ++ problem_options
-options_of commands.Sat = effort_options
-options_of commands.Lrat = []
-options_of commands.Rule = []
-options_of commands.Make = []
+options_of command = rule_options command ++ other_options command
 
 -- what an option is called, without its dashes
 abbrev pub option_name : Setting → List ℕ
-option_name settings.Formula = codes "formula"
 option_name settings.Rule = codes "rule"
+option_name settings.Low = codes "low"
+option_name settings.High = codes "high"
+option_name settings.Formula = codes "formula"
 option_name settings.Edge = codes "edge"
 option_name settings.Symmetry = codes "symmetry"
 option_name settings.Period = codes "period"

@@ -5,6 +5,7 @@ use Rattle.std.specs.Option.{ForSome}
 use Rattle.lls_rule.specs.Rule.{table_of, by_counts}
 use Rattle.lls_hensel.specs.declared.read.RuleError.{RuleError}
 use Rattle.lls_hensel.specs.Isotropy.{IsIsotropic}
+use Rattle.lls_hensel.specs.Ends.{AreEnds, first_crossing, first_loose_background}
 use Rattle.lls_hensel.specs.Reading.{entries_of}
 use Rattle.lls_hensel.specs.Entries.{next_of}
 use Rattle.lls_symmetry.specs.Symmetry.{symmetry_of}
@@ -21,7 +22,7 @@ use Rattle.lls_words.specs.declared.settings.Settings.{Settings}
 use Rattle.lls_words.specs.declared.job.Job.{Job}
 use Rattle.lls_words.specs.declared.job.Job.TheVariants as jobs
 use Rattle.lls_words.specs.declared.error.WordsError.{WordsError}
-use Rattle.lls_words.specs.declared.error.WordsError.TheVariants.{NoCommand, UnknownCommand, BadValue, BadRule, Operands, SameName}
+use Rattle.lls_words.specs.declared.error.WordsError.TheVariants.{NoCommand, UnknownCommand, BadValue, BadRule, Operands, SameName, RulesCross, LooseBackground}
 use Rattle.lls_words.specs.Command.{command_of, operand_count}
 use Rattle.lls_base.specs.Results.{and_then}
 use Rattle.lls_words.specs.Scan.{Operand, Given, scan}
@@ -49,6 +50,8 @@ with_demands s demands = record s { demands = demands }
 
 abbrev pub setting_value : Settings → ℕ → List ℕ → Setting → Result Settings WordsError
 setting_value s place text settings.Rule = and_then (rule_at place text) (λ rule. Ok (record s { rule = rule }))
+setting_value s place text settings.Low = and_then (rule_at place text) (λ rule. Ok (record s { low = rule }))
+setting_value s place text settings.High = and_then (rule_at place text) (λ rule. Ok (record s { high = rule }))
 setting_value s place text settings.Edge =
     and_then (value_or place (edge_in text)) (λ edge. Ok (with_demands s (record s.demands { edge = edge })))
 setting_value s place text settings.Symmetry =
@@ -73,14 +76,28 @@ abbrev pub settled : Settings → List Given → Result Settings WordsError
 settled s [] = Ok s
 settled s (given ∷ givens) = and_then (with_value s given) (λ more. settled more givens)
 
--- Life, `B3/S23`, under a closed edge, and nothing else demanded; half of the learnt clauses are kept, patterns are
+-- Life, `B3/S23`
+abbrev pub life : List Bool
+life = table_of (by_counts 8 12)
+
+-- Life for each rule, under a closed edge, and nothing else demanded; half of the learnt clauses are kept, patterns are
 -- rows, and formulas are by cover
 abbrev pub defaults : Settings
-defaults = record { rule = table_of (by_counts 8 12); demands = edge_alone Framed; budget = default_budget; keep_all = false; rle = false; form = Cover }
+defaults = record { rule = life; low = life; high = life; demands = edge_alone Framed; budget = default_budget; keep_all = false; rle = false; form = Cover }
 
 -- the names of a file and of one that is written later, which have to differ
 abbrev pub names_apart : Operand → Operand → Result (List ℕ × List ℕ) WordsError
 names_apart file written = if bytes_eq file.word written.word then Err (SameName written.place) else Ok (file.word, written.word)
+
+-- no fault, or the one of a neighbourhood at which two rules cross, or else of a background at which they differ
+abbrev pub crossing_or : Option ℕ → Option ℕ → Result (Unit {0}) WordsError
+crossing_or (Some nine) _ = Err (RulesCross nine)
+crossing_or None (Some nine) = Err (LooseBackground nine)
+crossing_or None None = Ok tt
+
+-- two rules, which have to be the ends of rules between
+abbrev pub checked_ends : List Bool → List Bool → Result (Unit {0}) WordsError
+checked_ends low high = crossing_or (first_crossing low high) (first_loose_background low high)
 
 -- the job of a command by its operands, whose number is the first test, and its options
 abbrev pub job_with : Command → List Operand → List Given → Result Job WordsError
@@ -102,6 +119,16 @@ job_with commands.Make (seed ∷ size ∷ search_file ∷ proof ∷ []) givens =
     and_then (value_or seed.place (seed_in seed.word)) (λ number.
     and_then (value_or size.place (size_in size.word)) (λ rows.
     and_then (names_apart search_file proof) (λ names. Ok (jobs.Make number rows names.0 names.1))))
+job_with commands.Least (search_file ∷ proof ∷ []) givens =
+    and_then (settled defaults givens) (λ s.
+    and_then (names_apart search_file proof) (λ names. Ok (jobs.Least names.0 names.1 s.rule s.demands s.form s.budget s.keep_all s.rle)))
+job_with commands.Open (search_file ∷ proof ∷ []) givens =
+    and_then (settled defaults givens) (λ s.
+    and_then (names_apart search_file proof) (λ names.
+    and_then (checked_ends s.low s.high) (λ _. Ok (jobs.Loose names.0 names.1 s.low s.high s.demands s.form s.budget s.keep_all s.rle))))
+job_with commands.OpenCheck (search_file ∷ proof ∷ []) givens =
+    and_then (settled defaults givens) (λ s.
+    and_then (checked_ends s.low s.high) (λ _. Ok (jobs.LooseCheck search_file.word proof.word s.low s.high s.demands s.form)))
 job_with command operands givens = Err (Operands (operand_count command) (length operands))
 
 abbrev pub job_of_command : Option Command → List (List ℕ) → Result Job WordsError
@@ -125,7 +152,19 @@ pub record AreAllowed (rule : List Bool) (demands : Demands) (budget : ℕ) : Ty
   pub isotropic : IsIsotropic rule
   pub budgeted : budget ≤ most_budget
 
--- what the words keep: demands, budgets and sizes are within the limits, and a rule that is to be printed is isotropic
+-- demands within the limits, and two rules that leave a question open
+pub record AreOpen (low high : List Bool) (demands : Demands) : Type 0 where
+  pub demanded : AreWithinLimits demands
+  pub ends : AreEnds low high
+
+-- settings within the limits, whose rules can be printed
+pub record AreSettled (s : Settings) : Type 0 where
+  pub allowed : AreAllowed s.rule s.demands s.budget
+  pub low : IsIsotropic s.low
+  pub high : IsIsotropic s.high
+
+-- what the words keep: demands, budgets and sizes are within the limits, a rule that is to be printed is isotropic, and two
+-- rules leave a question open
 abbrev pub KeepsLimits : Job → Type 0
 KeepsLimits (jobs.Check search_file proof rule demands form) = AreWithinLimits demands
 KeepsLimits (jobs.Search search_file proof rule demands form budget keep_all rle) = AreAllowed rule demands budget
@@ -135,3 +174,6 @@ KeepsLimits (jobs.Sat formula proof budget keep_all) = budget ≤ most_budget
 KeepsLimits (jobs.Lrat formula proof) = Unit {0}
 KeepsLimits (jobs.Rule rule) = IsIsotropic rule
 KeepsLimits (jobs.Make seed size search_file proof) = (1 ≤ size) × (size ≤ most_size)
+KeepsLimits (jobs.Least search_file proof rule demands form budget keep_all rle) = AreAllowed rule demands budget
+KeepsLimits (jobs.Loose search_file proof low high demands form budget keep_all rle) = AreOpen low high demands × (budget ≤ most_budget)
+KeepsLimits (jobs.LooseCheck search_file proof low high demands form) = AreOpen low high demands

@@ -28,4 +28,6 @@ words_error_text (words.BadValue place) = codes "BadValue " ++ decimal place
 words_error_text (words.BadRule place fault) = bad_rule_text place fault
 words_error_text (words.Operands expected found) = codes "Operands " ++ pair_text expected found
 words_error_text (words.SameName place) = codes "SameName " ++ decimal place
+words_error_text (words.RulesCross nine) = codes "RulesCross " ++ decimal nine
+words_error_text (words.LooseBackground nine) = codes "LooseBackground " ++ decimal nine
 words_error_text words.Memory = codes "Memory"

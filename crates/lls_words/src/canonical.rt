@@ -1,6 +1,6 @@
 // The canonical words of a command: each given option as one word with its value, in the order
 // of the table, then the operands.
-ghost use Rattle.std.specs.Prelude.{◌≡◌, find, map, string_bytes, IfOk};
+ghost use Rattle.std.specs.Prelude.{◌≡◌, ◌++◌, find, map, string_bytes, IfOk, OnOk};
 ghost use Rattle.std.specs.Option.{option_copied};
 ghost use Rattle.lls_words.specs.Command.{same_setting};
 ghost use Rattle.lls_words.specs.Canonical.{canonical_words, option_word, option_words, value_of};
@@ -15,12 +15,10 @@ use std::alloc::{AllocError, Global};
 fn given_of<'w>(givens: &[Given<'w>], setting: Setting) -> Option<Given<'w>>
     ensures { result ≡ find (λ given. same_setting given.setting setting) givens.now }
 {
-    for given in givens {
-        if given.setting == setting {
-            return Some(*given);
-        }
-    }
-    None
+    givens
+        .iter()
+        .copied()
+        .find(|given| given.setting == setting)
 }
 
 // The value of an option, where it is given.
@@ -42,21 +40,22 @@ fn option_word(alloc: Global, setting: Setting, value: &str) -> Result<String, A
     format!(in alloc; "--{name}={value}")
 }
 
-// The given ones of these options, in their order.
-fn option_words(
+// Adds the given ones of these options, in their order.
+fn push_options(
     alloc: Global,
     settings: &[Setting],
     givens: &[Given],
-) -> Result<Vec<String>, AllocError>
-    ensures { IfOk result (λ words. map string_bytes words.items ≡ option_words (map seen_given givens.now) settings.now) }
+    words: &mut Vec<String>,
+) -> Result<(), AllocError>
+    ensures { OnOk result (map string_bytes words.new.items
+        ≡ map string_bytes words.old.items ++ option_words (map seen_given givens.now) settings.now) }
 {
-    let mut words = Vec::new(alloc);
     for setting in settings {
         if let Some(value) = value_of(givens, *setting) {
             words.push(option_word(alloc, *setting, value)?)?;
         }
     }
-    Ok(words)
+    Ok(())
 }
 
 /// The canonical words of a command.
@@ -67,7 +66,9 @@ pub fn canonical_words(
 ) -> Result<Vec<String>, AllocError>
     ensures { IfOk result (λ words. map string_bytes words.items ≡ canonical_words command (seen_scan scan.now)) }
 {
-    let mut words = option_words(alloc, command.options(), &scan.givens)?;
+    let mut words = Vec::new(alloc);
+    push_options(alloc, command.rule_options(), &scan.givens, &mut words)?;
+    push_options(alloc, command.other_options(), &scan.givens, &mut words)?;
     for operand in &scan.operands {
         words.push(String::from_str(alloc, operand.word)?)?;
     }

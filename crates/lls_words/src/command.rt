@@ -1,8 +1,9 @@
 // The tables of commands and options: what each is called, and which operands and options a command has.
 ghost use Rattle.std.specs.Prelude.{◌≡◌, map, Some};
+ghost use Rattle.std.specs.List.{list_any};
 ghost use Rattle.lls_words.specs.declared.command.Command.{Command};
 ghost use Rattle.lls_words.specs.declared.command.Setting.{Setting};
-ghost use Rattle.lls_words.specs.Command.{command_name, command_of, operand_count, operand_names, option_name, options_of, setting_of, takes};
+ghost use Rattle.lls_words.specs.Command.{command_name, command_of, operand_count, operand_names, option_name, other_options, rule_options, same_setting, setting_of, takes};
 
 /// A command.
 #[derive(Clone, Copy, Debug, PartialEq, Eq)]
@@ -15,13 +16,18 @@ pub enum Command {
     Lrat,
     Rule,
     Make,
+    Least,
+    Open,
+    OpenCheck,
 }
 
-/// An option. Those of each command stand side by side.
+/// An option. Those that say a command's rule stand side by side, and so do its others.
 #[derive(Clone, Copy, Debug, PartialEq, Eq)]
 pub enum Setting {
-    Formula,
     Rule,
+    Low,
+    High,
+    Formula,
     Edge,
     Symmetry,
     Period,
@@ -37,7 +43,7 @@ static OPERANDS: [&str; 4] = ["first", "second", "third", "fourth"];
 
 impl Command {
     // The table of commands.
-    const ALL: [Command; 8] = [
+    const ALL: [Command; 11] = [
         Command::Check,
         Command::Search,
         Command::Judge,
@@ -46,6 +52,9 @@ impl Command {
         Command::Lrat,
         Command::Rule,
         Command::Make,
+        Command::Least,
+        Command::Open,
+        Command::OpenCheck,
     ];
 
     // What the command is called.
@@ -61,6 +70,9 @@ impl Command {
             Command::Lrat => b"lrat",
             Command::Rule => b"rule",
             Command::Make => b"make",
+            Command::Least => b"least",
+            Command::Open => b"open",
+            Command::OpenCheck => b"opencheck",
         }
     }
 
@@ -83,9 +95,14 @@ impl Command {
     {
         match self {
             Command::Cnf | Command::Rule => &OPERANDS[..1],
-            Command::Check | Command::Search | Command::Judge | Command::Sat | Command::Lrat => {
-                &OPERANDS[..2]
-            }
+            Command::Check
+            | Command::Search
+            | Command::Judge
+            | Command::Sat
+            | Command::Lrat
+            | Command::Least
+            | Command::Open
+            | Command::OpenCheck => &OPERANDS[..2],
             Command::Make => &OPERANDS[..],
         }
     }
@@ -97,14 +114,33 @@ impl Command {
         self.operand_names().len() as u64
     }
 
-    /// The options that the command takes, in the order of the table.
-    pub fn options(self) -> &'static [Setting]
-        ensures { result.now ≡ options_of self }
+    /// The options that say the command's rule, or the two rules that it is between.
+    pub fn rule_options(self) -> &'static [Setting]
+        ensures { result.now ≡ rule_options self }
     {
         match self {
-            Command::Search => &Setting::ALL,
-            Command::Check | Command::Cnf => &Setting::ALL[..=Setting::Differ as usize],
-            Command::Judge => &Setting::ALL[Setting::Rule as usize..=Setting::As as usize],
+            Command::Check | Command::Search | Command::Judge | Command::Cnf | Command::Least => {
+                &Setting::ALL[..=Setting::Rule as usize]
+            }
+            Command::Open | Command::OpenCheck => {
+                &Setting::ALL[Setting::Low as usize..=Setting::High as usize]
+            }
+            Command::Sat | Command::Lrat | Command::Rule | Command::Make => &[],
+        }
+    }
+
+    /// The other options that the command takes, in the order of the table.
+    pub fn other_options(self) -> &'static [Setting]
+        ensures { result.now ≡ other_options self }
+    {
+        match self {
+            Command::Search | Command::Least | Command::Open => {
+                &Setting::ALL[Setting::Formula as usize..]
+            }
+            Command::Check | Command::Cnf | Command::OpenCheck => {
+                &Setting::ALL[Setting::Formula as usize..=Setting::Differ as usize]
+            }
+            Command::Judge => &Setting::ALL[Setting::Edge as usize..=Setting::As as usize],
             Command::Sat => &Setting::ALL[Setting::Budget as usize..],
             Command::Lrat | Command::Rule | Command::Make => &[],
         }
@@ -114,15 +150,24 @@ impl Command {
     pub fn takes(self, setting: Setting) -> bool
         ensures { result ≡ takes self setting }
     {
-        self.options().iter().any(|option| *option == setting)
+        is_among(self.rule_options(), setting) || is_among(self.other_options(), setting)
     }
+}
+
+// Whether the option is one of these.
+fn is_among(options: &[Setting], setting: Setting) -> bool
+    ensures { result ≡ list_any (λ option. same_setting option setting) options.now }
+{
+    options.iter().any(|option| *option == setting)
 }
 
 impl Setting {
     // The table of options.
-    const ALL: [Setting; 10] = [
-        Setting::Formula,
+    const ALL: [Setting; 12] = [
         Setting::Rule,
+        Setting::Low,
+        Setting::High,
+        Setting::Formula,
         Setting::Edge,
         Setting::Symmetry,
         Setting::Period,
@@ -138,8 +183,10 @@ impl Setting {
         ensures { result.now ≡ option_name self }
     {
         match self {
-            Setting::Formula => "formula",
             Setting::Rule => "rule",
+            Setting::Low => "low",
+            Setting::High => "high",
+            Setting::Formula => "formula",
             Setting::Edge => "edge",
             Setting::Symmetry => "symmetry",
             Setting::Period => "period",

@@ -28,6 +28,10 @@ pub enum WordsError {
     Operands(u64, u64),
     /// A file that is written has the name of an earlier one.
     SameName(u64),
+    /// The low rule gives 1 at this neighbourhood and the high one 0. It is the least such.
+    RulesCross(u64),
+    /// The low rule and the high one differ at this neighbourhood, of nine dead or of nine live cells.
+    LooseBackground(u64),
     /// An allocation was refused.
     Memory,
 }
@@ -54,6 +58,8 @@ impl fmt::Display for WordsError {
             }
             WordsError::Operands(expected, found) => write!(f, "Operands {expected} {found}"),
             WordsError::SameName(place) => write!(f, "SameName {place}"),
+            WordsError::RulesCross(nine) => write!(f, "RulesCross {nine}"),
+            WordsError::LooseBackground(nine) => write!(f, "LooseBackground {nine}"),
             WordsError::Memory => write!(f, "Memory"),
         }
     }

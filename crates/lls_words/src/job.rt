@@ -74,4 +74,49 @@ pub enum Job {
         search: Name,
         proof: Name,
     },
+    /// Look for a solution with the fewest live cells in generation 0 and write a proof that none has fewer, or that there is none.
+    Least {
+        search: Name,
+        proof: Name,
+        rule: Rule,
+        demands: Demands,
+        /// The form of the formulas.
+        form: Form,
+        /// How many clauses each look may learn.
+        budget: u32,
+        /// Whether no learnt clause may be deleted.
+        keep_all: bool,
+        /// Whether the solution is printed as RLE, and not as rows.
+        rle: bool,
+    },
+    /// Look for a solution by some rule between two, or write a proof that there is none.
+    Loose {
+        search: Name,
+        proof: Name,
+        /// The rules between give 1 wherever this one does.
+        low: Rule,
+        /// They give 0 wherever this one does.
+        high: Rule,
+        demands: Demands,
+        /// The form of the problem's formula.
+        form: Form,
+        /// How many clauses may be learnt.
+        budget: u32,
+        /// Whether no learnt clause may be deleted.
+        keep_all: bool,
+        /// Whether the solution is printed as RLE, and not as rows.
+        rle: bool,
+    },
+    /// Check a proof of absence by each rule between two against a search file.
+    LooseCheck {
+        search: Name,
+        proof: Name,
+        /// The rules between give 1 wherever this one does.
+        low: Rule,
+        /// They give 0 wherever this one does.
+        high: Rule,
+        demands: Demands,
+        /// The form of the problem's formula, of which it is a proof.
+        form: Form,
+    },
 }

@@ -7,6 +7,7 @@ mod error;
 mod item;
 mod items;
 mod job;
+mod jobs;
 mod parser;
 mod scan;
 mod settings;

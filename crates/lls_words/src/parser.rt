@@ -3,7 +3,7 @@ ghost use Rattle.std.specs.Prelude.{◌≡◌, map, string_bytes, false, All, So
 ghost use Rattle.clap.specs.Words.{app_of, first_value, found_of, kind_of, rule_of};
 ghost use Rattle.lls_base.specs.Results.{Gives};
 ghost use Rattle.lls_words.specs.Canonical.{IsCanonical};
-ghost use Rattle.lls_words.specs.Command.{option_name};
+ghost use Rattle.lls_words.specs.Command.{option_name, options_of};
 ghost use Rattle.lls_words.specs.Parser.{option_rule, operand_rule, parser_of, with_rules, ReadsBack};
 ghost use Rattle.lls_words.specs.Scan.{Scanned};
 ghost use Rattle.lls_words.specs.Seen.{seen_given, seen_operand, seen_scan};
@@ -23,7 +23,7 @@ fn parser<'f>(alloc: Global, command: Command) -> Result<clap::Command<'f>, Allo
     let parser = clap::Command::new(alloc, "lls")
         .no_binary_name(true)
         .disable_help_flag(true);
-    let parser = with_options(alloc, parser, command.options())?;
+    let parser = with_options_of(alloc, parser, command)?;
     with_operands(alloc, parser, command.operand_names())
 }
 
@@ -58,6 +58,18 @@ fn with_options<'f>(
         parser = parser.arg(option_arg(alloc, *setting))?;
     }
     Ok(parser)
+}
+
+// A parser with the options of a command more.
+fn with_options_of<'f>(
+    alloc: Global,
+    parser: clap::Command<'f>,
+    command: Command,
+) -> Result<clap::Command<'f>, AllocError>
+    ensures { IfOk result (λ more. app_of more ≡ with_rules (app_of parser.entry) (map option_rule (options_of command))) }
+{
+    let parser = with_options(alloc, parser, command.rule_options())?;
+    with_options(alloc, parser, command.other_options())
 }
 
 // A parser with these operands more.

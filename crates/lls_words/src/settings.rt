@@ -4,7 +4,7 @@ ghost use Rattle.lls_base.specs.Results.{Gives};
 ghost use Rattle.lls_hensel.specs.Isotropy.{IsIsotropic};
 ghost use Rattle.lls_problem.specs.Bounds.{HasEnds};
 ghost use Rattle.lls_problem.specs.Problem.{IsPeriod};
-ghost use Rattle.lls_words.specs.Job.{rule_at, value_or, with_value, settled, defaults, AreAllowed};
+ghost use Rattle.lls_words.specs.Job.{rule_at, value_or, with_value, settled, defaults, AreSettled};
 ghost use Rattle.lls_words.specs.Values.{period_in, bounds_in, budget_in};
 ghost use Rattle.lls_words.specs.Seen.{seen_given};
 
@@ -25,6 +25,8 @@ use std::alloc::Global;
 #[derive(Drop)]
 pub struct Settings {
     pub rule: Rule,
+    pub low: Rule,
+    pub high: Rule,
     pub demands: Demands,
     pub budget: u32,
     pub keep_all: bool,
@@ -33,14 +35,17 @@ pub struct Settings {
 }
 
 impl Settings {
-    // Life, `B3/S23`, under a closed edge, with no other demand; the default budget, half of the learnt clauses kept, and
-    // patterns as rows; formulas by cover.
+    // Life, `B3/S23`, for each rule, under a closed edge, with no other demand; the default budget, half of the learnt clauses
+    // kept, and patterns as rows; formulas by cover.
     fn default_values(alloc: Global) -> Settings
         ensures value { result ≡ defaults }
-        ensures allowed { AreAllowed result.rule result.demands result.budget }
+        ensures allowed { AreSettled result }
     {
+        let life = Rule::from_counts(8, 12);
         Settings {
-            rule: Rule::from_counts(8, 12),
+            rule: life,
+            low: life,
+            high: life,
             demands: Demands::new(alloc, Edge::Framed),
             budget: DEFAULT_BUDGET,
             keep_all: false,
@@ -51,15 +56,17 @@ impl Settings {
 
     // The settings with the value of one option.
     fn with_value(self, alloc: Global, given: &Given) -> Result<Settings, WordsError>
-        requires { AreAllowed self.rule self.demands self.budget }
+        requires { AreSettled self }
         ensures value { Gives WordsError.Memory (λ s. s) result (with_value self (seen_given given.now)) }
-        ensures allowed { IfOk result (λ s. AreAllowed s.rule s.demands s.budget) }
+        ensures allowed { IfOk result AreSettled }
     {
         let mut settings = self;
         let value = given.value.as_bytes();
         let fault = WordsError::BadValue(given.place);
         match given.setting {
             Setting::Rule => settings.rule = rule_at(given.place, value)?,
+            Setting::Low => settings.low = rule_at(given.place, value)?,
+            Setting::High => settings.high = rule_at(given.place, value)?,
             Setting::Edge => settings.demands.edge = edge_in(value).ok_or(fault)?,
             Setting::Symmetry => settings.demands.symmetry = read_symmetry(value).ok_or(fault)?,
             Setting::Period => settings.demands.period = Some(period_at(given.place, value)?),
@@ -125,7 +132,7 @@ fn budget_at(place: u64, text: &[u8]) -> Result<u32, WordsError>
 /// The settings of a command's options, in their order.
 pub fn settle(alloc: Global, givens: &[Given]) -> Result<Settings, WordsError>
     ensures settings { Gives WordsError.Memory (λ s. s) result (settled defaults (map seen_given givens.now)) }
-    ensures allowed { IfOk result (λ s. AreAllowed s.rule s.demands s.budget) }
+    ensures allowed { IfOk result AreSettled }
 {
     let mut settings = Settings::default_values(alloc);
     for given in givens {

@@ -1,212 +1,22 @@
 // The job of a command line.
-ghost use Rattle.std.specs.Prelude.{◌≡◌, Ok, [], ◌∷◌, map, string_bytes, IfOk};
-ghost use Rattle.lls_base.specs.Results.{and_then, Gives};
+ghost use Rattle.std.specs.Prelude.{◌≡◌, map, string_bytes, IfOk};
+ghost use Rattle.lls_base.specs.Results.{Gives};
 ghost use Rattle.lls_words.specs.Canonical.{FitsCanonical};
-ghost use Rattle.lls_words.specs.Job.{defaults, job_with, job_of, names_apart, settled, AreAllowed, KeepsLimits};
-ghost use Rattle.lls_words.specs.Seen.{seen_given, seen_operand, seen_scan};
+ghost use Rattle.lls_words.specs.Job.{job_with, job_of, KeepsLimits};
+ghost use Rattle.lls_words.specs.Seen.{seen_scan};
 
 use crate::canonical::canonical_words;
 use crate::command::Command;
 use crate::error::WordsError;
-use crate::item::Operand;
 use crate::job::Job;
+use crate::jobs::{
+    check_job, cnf_job, judge_job, least_job, make_job, name_of, open_check_job, open_job, sat_job,
+    search_job,
+};
 use crate::parser::read_words;
-use crate::scan::{Given, Scan, scan_words};
-use crate::settings::{Settings, rule_at, settle};
-use crate::values::{seed_in, size_in};
-use lls_base::Name;
-use std::alloc::{AllocError, Global};
-
-// The name of the file that an operand says.
-fn name_of(alloc: Global, operand: &Operand) -> Result<Name, AllocError>
-    ensures { IfOk result (λ name. name ≡ operand.now.word.now) }
-{
-    Ok(Name::new(String::from_str(alloc, operand.word)?))
-}
-
-// The names of a file and of one that is written later, which have to differ.
-fn names_apart(alloc: Global, file: &Operand, written: &Operand) -> Result<(Name, Name), WordsError>
-    ensures { Gives WordsError.Memory (λ names. names) result
-        (names_apart (seen_operand file.now) (seen_operand written.now)) }
-{
-    if file.word == written.word {
-        return Err(WordsError::SameName(written.place));
-    }
-    Ok((name_of(alloc, file)?, name_of(alloc, written)?))
-}
-
-// The names of two operands, and the values of the options.
-fn posing(
-    alloc: Global,
-    first: &Operand,
-    second: &Operand,
-    givens: &[Given],
-) -> Result<(Name, Name, Settings), WordsError>
-    ensures posed { Gives WordsError.Memory (λ posed. posed) result
-        (and_then (settled defaults (map seen_given givens.now)) (λ settings. Ok (first.now.word.now, second.now.word.now, settings))) }
-    ensures allowed { IfOk result (λ posed. AreAllowed posed.2.rule posed.2.demands posed.2.budget) }
-{
-    let settings = settle(alloc, givens)?;
-    Ok((name_of(alloc, first)?, name_of(alloc, second)?, settings))
-}
-
-// The job of `check`.
-fn check_job(
-    alloc: Global,
-    search: &Operand,
-    proof: &Operand,
-    givens: &[Given],
-) -> Result<Job, WordsError>
-    ensures job { Gives WordsError.Memory (λ job. job) result
-        (job_with Command.Check (seen_operand search.now ∷ seen_operand proof.now ∷ []) (map seen_given givens.now)) }
-    ensures limits { IfOk result KeepsLimits }
-{
-    let (search, proof, settings) = posing(alloc, search, proof, givens)?;
-    let Settings {
-        rule,
-        demands,
-        form,
-        ..
-    } = settings;
-    Ok(Job::Check {
-        search,
-        proof,
-        rule,
-        demands,
-        form,
-    })
-}
-
-// The job of `search`.
-fn search_job(
-    alloc: Global,
-    search: &Operand,
-    proof: &Operand,
-    givens: &[Given],
-) -> Result<Job, WordsError>
-    ensures job { Gives WordsError.Memory (λ job. job) result
-        (job_with Command.Search (seen_operand search.now ∷ seen_operand proof.now ∷ []) (map seen_given givens.now)) }
-    ensures limits { IfOk result KeepsLimits }
-{
-    let settings = settle(alloc, givens)?;
-    let (search, proof) = names_apart(alloc, search, proof)?;
-    let Settings {
-        rule,
-        demands,
-        budget,
-        keep_all,
-        rle,
-        form,
-    } = settings;
-    Ok(Job::Search {
-        search,
-        proof,
-        rule,
-        demands,
-        form,
-        budget,
-        keep_all,
-        rle,
-    })
-}
-
-// The job of `judge`.
-fn judge_job(
-    alloc: Global,
-    search: &Operand,
-    pattern: &Operand,
-    givens: &[Given],
-) -> Result<Job, WordsError>
-    ensures job { Gives WordsError.Memory (λ job. job) result
-        (job_with Command.Judge (seen_operand search.now ∷ seen_operand pattern.now ∷ []) (map seen_given givens.now)) }
-    ensures limits { IfOk result KeepsLimits }
-{
-    let (search, pattern, settings) = posing(alloc, search, pattern, givens)?;
-    let Settings {
-        rule,
-        demands,
-        rle,
-        ..
-    } = settings;
-    Ok(Job::Judge {
-        search,
-        pattern,
-        rule,
-        demands,
-        rle,
-    })
-}
-
-// The job of `cnf`.
-fn cnf_job(alloc: Global, search: &Operand, givens: &[Given]) -> Result<Job, WordsError>
-    ensures job { Gives WordsError.Memory (λ job. job) result
-        (job_with Command.Cnf (seen_operand search.now ∷ []) (map seen_given givens.now)) }
-    ensures limits { IfOk result KeepsLimits }
-{
-    let Settings {
-        rule,
-        demands,
-        form,
-        ..
-    } = settle(alloc, givens)?;
-    let search = name_of(alloc, search)?;
-    Ok(Job::Cnf {
-        search,
-        rule,
-        demands,
-        form,
-    })
-}
-
-// The job of `sat`.
-fn sat_job(
-    alloc: Global,
-    formula: &Operand,
-    proof: &Operand,
-    givens: &[Given],
-) -> Result<Job, WordsError>
-    ensures job { Gives WordsError.Memory (λ job. job) result
-        (job_with Command.Sat (seen_operand formula.now ∷ seen_operand proof.now ∷ []) (map seen_given givens.now)) }
-    ensures limits { IfOk result KeepsLimits }
-{
-    let Settings {
-        budget,
-        keep_all,
-        ..
-    } = settle(alloc, givens)?;
-    let (formula, proof) = names_apart(alloc, formula, proof)?;
-    Ok(Job::Sat {
-        formula,
-        proof,
-        budget,
-        keep_all,
-    })
-}
-
-// The job of `make`.
-fn make_job(
-    alloc: Global,
-    seed: &Operand,
-    size: &Operand,
-    search: &Operand,
-    proof: &Operand,
-    givens: &[Given],
-) -> Result<Job, WordsError>
-    ensures job { Gives WordsError.Memory (λ job. job) result
-        (job_with Command.Make (seen_operand seed.now ∷ seen_operand size.now ∷ seen_operand search.now
-        ∷ seen_operand proof.now ∷ []) (map seen_given givens.now)) }
-    ensures limits { IfOk result KeepsLimits }
-{
-    let seed = seed_in(seed.word).ok_or(WordsError::BadValue(seed.place))?;
-    let size = size_in(size.word.as_bytes()).ok_or(WordsError::BadValue(size.place))?;
-    let (search, proof) = names_apart(alloc, search, proof)?;
-    Ok(Job::Make {
-        seed,
-        size,
-        search,
-        proof,
-    })
-}
+use crate::scan::{Scan, scan_words};
+use crate::settings::rule_at;
+use std::alloc::Global;
 
 // The job of a command by its operands and options.
 fn job_with(alloc: Global, command: Command, scan: &Scan) -> Result<Job, WordsError>
@@ -231,13 +41,16 @@ fn job_with(alloc: Global, command: Command, scan: &Scan) -> Result<Job, WordsEr
         (Command::Make, [seed, size, search, proof]) => {
             make_job(alloc, seed, size, search, proof, givens)
         }
+        (Command::Least, [search, proof]) => least_job(alloc, search, proof, givens),
+        (Command::Open, [search, proof]) => open_job(alloc, search, proof, givens),
+        (Command::OpenCheck, [search, proof]) => open_check_job(alloc, search, proof, givens),
         (_, operands) => Err(WordsError::Operands(command.operand_count(), operands.len() as u64)),
     }
 }
 
 // The job of a command by its scan: where the operands are as many as the command has, from what
 // `clap` reads.
-#[tactic(auto, using(crate::proofs::Jobs::refused))]
+#[tactic(auto, using(crate::proofs::Refusals::refused))]
 fn scanned_job(alloc: Global, command: Command, scan: &Scan) -> Result<Job, WordsError>
     requires { FitsCanonical command (seen_scan scan.now) }
     ensures job { Gives WordsError.Memory (λ job. job) result

@@ -7,7 +7,7 @@ use std::test::Fail;
 
 // A command line that searches, over the file `f`, how it ends with its text, and the command line that looks at what came
 // out, which is then the file `p`.
-type Search = (
+pub(super) type Search = (
     &'static str,
     &'static str,
     Status,
@@ -16,7 +16,7 @@ type Search = (
 );
 
 // Runs a search whose proof goes to the file `q`, and looks at what came out.
-fn searches(rt: &impl Abort, alloc: Global, row: Search) -> Result<(), Fail> {
+pub(super) fn searches(rt: &impl Abort, alloc: Global, row: Search) -> Result<(), Fail> {
     let (line, f, status, text, again) = row;
     let words = words_of(alloc, line)?;
     let ended = run_over(alloc, &words, f.as_bytes(), b"", NOTHING)?;

@@ -2,7 +2,7 @@
 use Rattle.std.proofs.Common.{ap, Ok, ◌∙◌}
 use Rattle.lls_prooflog.proofs.Soundness.{unsatisfiable_by_propagation}
 use Rattle.lls_cli.specs.declared.status.Status.TheVariants as statuses
-use Rattle.lls_cli.specs.Answer.{shown, summed_behind}
+use Rattle.lls_cli.specs.Answer.{shown, shown_behind}
 use Rattle.lls_cli.proofs.Makings.{solved_answer, unsolved_answer}
 use Rattle.lls_cli.proofs.making.solve_made.Goals as goal
 
@@ -24,4 +24,4 @@ returns c =
     let made = c.in_ok-log_file-in-Undecided.ensures in
     λ seed size name is. unsolved_answer seed size name c.args.effort c.args.pair.now c.in_ok-formula.formula c.solve.new.log.steps file _ is c.in_ok-formula.ensures.formula
     made.file c.solve.ensures.all_kept (c.in_ok-solve.ensures.undecided (ap Ok c.in-Undecided.is))
-    (ap (summed_behind file statuses.Undecided) (c.plain-in-Undecided.ensures ∙ c.in_ok-summary-in-Undecided.ensures))
+    (ap (shown_behind file statuses.Undecided) (c.plain-in-Undecided.ensures ∙ c.in_ok-summary-in-Undecided.ensures))

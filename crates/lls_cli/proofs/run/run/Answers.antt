@@ -2,13 +2,14 @@ use Rattle.std.proofs.Common.{ap, refl}
 use Rattle.std.specs.Prelude.{map, string_bytes}
 use Rattle.lls_cli.specs.Moment.{SinkMoment}
 use Rattle.lls_cli.proofs.Consequences.{yes_means, no_means, found_means, none_means, short_means, words_alone, words_all, caused, meant, stays_silent, counts_stay}
-use Rattle.lls_cli.proofs.Files.{changes_only, leaves_proof, leaves_log}
+use Rattle.lls_cli.proofs.Files.{changes_only}
+use Rattle.lls_cli.proofs.Lefts.{leaves_proof, leaves_log, leaves_certificate}
 use Rattle.lls_cli.proofs.Stands.{stands}
 use Rattle.lls_cli.proofs.Begun.{leaves_begun}
 use Rattle.lls_cli.proofs.Why.{says_why}
 use Rattle.lls_cli.proofs.Complete.{completes}
 use Rattle.lls_cli.proofs.Apart.{apart}
-use Rattle.lls_cli.proofs.Published.{publishes}
+use Rattle.lls_cli.proofs.Published.{publishes, publishes_fewest}
 use Rattle.lls_cli.proofs.run.run.Goals as goal
 
 pub returns-clause-yes : goal.returns-clause-yes
@@ -68,3 +69,10 @@ returns-clause-complete g c = completes _ _ _ _ _ refl c.run_words.ensures
 pub returns-clause-published : goal.returns-clause-published
 returns-clause-published g c = λ is.
     publishes _ _ _ _ is (apart (map string_bytes c.args.words.now)) (none_means _ _ _ _ c.run_words.ensures is) (leaves_proof _ _ _ _ c.run_words.ensures is) (changes_only _ _ _ _ c.run_words.ensures)
+
+pub returns-clause-certified : goal.returns-clause-certified
+returns-clause-certified g c = leaves_certificate _ _ _ _ c.run_words.ensures
+
+pub returns-clause-published_fewest : goal.returns-clause-published_fewest
+returns-clause-published_fewest g c = λ is.
+    publishes_fewest _ _ _ _ is (apart (map string_bytes c.args.words.now)) (leaves_certificate _ _ _ _ c.run_words.ensures is) (changes_only _ _ _ _ c.run_words.ensures)

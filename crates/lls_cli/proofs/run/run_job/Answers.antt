@@ -20,3 +20,7 @@ returns-in-Cnf-clause-end g c =
 pub returns-in-Lrat-clause-end : goal.returns-in-Lrat-clause-end
 returns-in-Lrat-clause-end g c =
     rw c.in-Lrat.is (c.give_read-in-Lrat.ensures.end (jobs.Lrat c.in-Lrat.formula c.in-Lrat.proof) _ tt c.answer_lrat-answer.ensures)
+
+pub returns-in-LooseCheck-clause-end : goal.returns-in-LooseCheck-clause-end
+returns-in-LooseCheck-clause-end g c =
+    rw c.in-LooseCheck.is (c.give_read-in-LooseCheck.ensures.end (jobs.LooseCheck c.in-LooseCheck.search c.in-LooseCheck.proof c.in-LooseCheck.low c.in-LooseCheck.high c.in-LooseCheck.demands c.in-LooseCheck.form) _ tt c.answer_loose_check-answer.ensures)

@@ -1,11 +1,9 @@
 use Rattle.std.proofs.Common.{◌≡◌, ap, subst, arith, Bool, List, Ok, ℕ, ◌∙◌}
 use Rattle.std.proofs.lemmas.Result.{IfOk-weaker}
-use Rattle.lls_lit.specs.Formula.{Cnf, IsUnsatisfiable}
-use Rattle.lls_encode.proofs.Complete.{absent_from}
+use Rattle.lls_lit.specs.Formula.{Cnf}
 use Rattle.lls_solver.specs.Searching.{IsModel, IsRefutation, IsExhausted}
-use Rattle.lls_lrat.specs.Verdict.{Accepted, verdict}
 use Rattle.lls_cli.specs.declared.status.Status.TheVariants as statuses
-use Rattle.lls_cli.specs.Answer.{shown, none_behind}
+use Rattle.lls_cli.specs.Answer.{shown}
 use Rattle.lls_cli.specs.PatternText.{pattern_text}
 use Rattle.lls_cli.specs.Question.{formula_asked}
 use Rattle.lls_cli.proofs.Searches.{found_answer, absent_answer, undecided_answer, cells_fit}
@@ -15,6 +13,9 @@ pub decode-requires : goal.decode-requires
 decode-requires c =
     let model = c.in_ok-assignment.ensures.sat c.in-Sat.assignment (ap Ok c.in-Sat.is) in
     omega (arith, model.many, ap (λ (f : Cnf). f.vars) c.requires.formula, cells_fit c.args.asked.now)
+
+pub absence_of-requires-clause-accepted : goal.absence_of-requires-clause-accepted
+absence_of-requires-clause-accepted c = (c.in_ok-assignment.ensures.unsat (ap Ok c.in-Unsat.is)).accepted
 
 pub returns-in-Sat : goal.returns-in-Sat
 returns-in-Sat c =
@@ -27,17 +28,9 @@ returns-in-Sat c =
 pub returns-in-Unsat : goal.returns-in-Unsat
 returns-in-Unsat c =
     let asked = c.args.asked.now in
-    let file = c.in_ok-file-in-Unsat.file in
-    let made = c.in_ok-file-in-Unsat.ensures in
-    let checked = c.in_ok-checked-in-Unsat.ensures in
     let refutation : IsRefutation (formula_asked asked) c.args.effort.budget c.solve.new.log.steps =
     subst (λ (f : Cnf). IsRefutation f c.args.effort.budget c.solve.new.log.steps) c.requires.formula (c.in_ok-assignment.ensures.unsat (ap Ok c.in-Unsat.is)) in
-    let accepted : verdict (formula_asked asked) file.bytes ≡ Accepted =
-    subst (λ (f : Cnf). verdict f file.bytes ≡ Accepted) c.requires.formula (checked.accepted file.bytes made.read_again) in
-    let none : IsUnsatisfiable (formula_asked asked) = subst IsUnsatisfiable c.requires.formula checked.unsatisfiable in
-    absent_answer asked c.args.effort c.args.rle c.solve.new.log.steps file _ made.file c.solve.ensures.all_kept refutation accepted
-    (absent_from asked.problem asked.form c.posed-posed.ensures.kept c.demands-demands.ensures.kept none)
-    (ap (λ (text : List ℕ). record (none_behind file) { text = text }) c.absence.ensures)
+    IfOk-weaker c.absence_of.result _ _ (λ answer shows. absent_answer asked c.args.effort c.args.rle c.solve.new.log.steps answer c.solve.ensures.all_kept refutation shows) c.absence_of.ensures
 
 pub returns : goal.returns
 returns c =

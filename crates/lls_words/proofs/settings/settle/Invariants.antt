@@ -1,5 +1,5 @@
 use Rattle.std.proofs.Common.{◌≡◌, map, drop}
-use Rattle.lls_words.specs.Job.{settled, defaults, AreAllowed}
+use Rattle.lls_words.specs.Job.{settled, defaults, AreSettled}
 use Rattle.lls_words.specs.Seen.{seen_given}
 use Rattle.lls_words.proofs.settings.settle.Given as goal
 
@@ -7,5 +7,5 @@ use Rattle.lls_words.proofs.settings.settle.Given as goal
 abbrev pub invariant-loop-given : goal.invariant-loop-given
 invariant-loop-given l = record {
   settings : settled l.settings (map seen_given (drop l.given-index l.givens)) ≡ settled defaults (map seen_given l.givens);
-  allowed : AreAllowed l.settings.rule l.settings.demands l.settings.budget;
+  allowed : AreSettled l.settings;
 }

@@ -15,8 +15,10 @@ edge_alone-within = record {
 }
 
 pub returns-clause-allowed : goal.returns-clause-allowed
-returns-clause-allowed c = record {
-  demanded = subst AreWithinLimits (sym c.new.ensures) edge_alone-within;
-  isotropic = subst IsIsotropic (sym c.from_counts.ensures) (IsIsotropic-by_counts 8 12);
-  budgeted = omega arith;
-}
+returns-clause-allowed c =
+    let isotropic = subst IsIsotropic (sym c.from_counts-life.ensures) (IsIsotropic-by_counts 8 12) in
+    record {
+      allowed = record { demanded = subst AreWithinLimits (sym c.new.ensures) edge_alone-within; isotropic = isotropic; budgeted = omega arith };
+      low = isotropic;
+      high = isotropic;
+    }

@@ -42,6 +42,18 @@ other_count commands.Make (o ∷ p ∷ []) givens other = refl
 other_count commands.Make (o ∷ p ∷ q ∷ []) givens other = refl
 other_count commands.Make (o ∷ p ∷ q ∷ r ∷ []) givens other = absurd (other refl)
 other_count commands.Make (o ∷ p ∷ q ∷ r ∷ t ∷ more) givens other = refl
+other_count commands.Least [] givens other = refl
+other_count commands.Least (o ∷ []) givens other = refl
+other_count commands.Least (o ∷ p ∷ []) givens other = absurd (other refl)
+other_count commands.Least (o ∷ p ∷ q ∷ more) givens other = refl
+other_count commands.Open [] givens other = refl
+other_count commands.Open (o ∷ []) givens other = refl
+other_count commands.Open (o ∷ p ∷ []) givens other = absurd (other refl)
+other_count commands.Open (o ∷ p ∷ q ∷ more) givens other = refl
+other_count commands.OpenCheck [] givens other = refl
+other_count commands.OpenCheck (o ∷ []) givens other = refl
+other_count commands.OpenCheck (o ∷ p ∷ []) givens other = absurd (other refl)
+other_count commands.OpenCheck (o ∷ p ∷ q ∷ more) givens other = refl
 
 -- the same of operands as contracts see them
 pub refused : {X : Type 0} (command : Command) (seen : X → Operand) (operands : List X) (givens : List Given) → length operands ≢ operand_count command

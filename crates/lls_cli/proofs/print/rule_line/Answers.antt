@@ -1,7 +1,7 @@
 -- An isotropic rule isn't refused.
 use Rattle.std.proofs.Common.{◌≡◌, ◌∙◌, ap, Some, None, Err}
 use Rattle.lls_hensel.specs.Printing.{uneven}
-use Rattle.lls_cli.proofs.print.print_rule.Goals as goal
+use Rattle.lls_cli.proofs.print.rule_line.Goals as goal
 
 pub unreachable-requires : goal.unreachable-requires
 unreachable-requires c =

@@ -1,0 +1,23 @@
+use Rattle.std.proofs.Common.{Ok}
+use Rattle.lls_base.specs.Results.{and_then}
+use Rattle.lls_words.specs.declared.job.Job.TheVariants as jobs
+use Rattle.lls_cli.specs.Question.{opened_with, small_problem_in}
+use Rattle.lls_cli.specs.Questions as questions
+use Rattle.lls_cli.proofs.Ending.{stopped, job_ended}
+use Rattle.lls_cli.proofs.Stopped.{only_made, only_stopped}
+use Rattle.lls_cli.proofs.run.run_loose.Goals as goal
+
+pub returns-in-Ok-clause-end : goal.returns-in-Ok-clause-end
+returns-in-Ok-clause-end g c =
+    let read = c.in-Ok.ensures.read in
+    let job = jobs.Loose c.args.search.now c.args.effort.proof c.args.low c.args.high c.args.demands c.args.form c.args.effort.budget c.args.effort.keep_all c.args.rle in
+    let question = questions.Loose (opened_with c.args.high c.args.form c.in-Ok.problem) c.args.effort c.args.rle in
+    job_ended job question _ _ _ _ _ _ _ _
+    (only_made _ _ _ (λ input. and_then input (small_problem_in c.args.low c.args.demands)) (λ problem. Ok (questions.Loose (opened_with c.args.high c.args.form problem) c.args.effort c.args.rle)) c.in-Ok.problem read.ok.0)
+    tt tt read.kept read.ok.1 c.give_opened.ensures.end
+
+pub returns-in-Err-clause-end : goal.returns-in-Err-clause-end
+returns-in-Err-clause-end g c =
+    let job = jobs.Loose c.args.search.now c.args.effort.proof c.args.low c.args.high c.args.demands c.args.form c.args.effort.budget c.args.effort.keep_all c.args.rle in
+    let read = only_stopped _ _ _ (λ input. and_then input (small_problem_in c.args.low c.args.demands)) (λ problem. Ok (questions.Loose (opened_with c.args.high c.args.form problem) c.args.effort c.args.rle)) _ _ _ c.in-Err.ensures.read in
+    stopped job c.in-Err.fault _ _ _ _ _ _ tt read.kept read.counts tt read.err c.refuse.ensures
