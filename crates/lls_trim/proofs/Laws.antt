@@ -104,7 +104,7 @@ find_none live id other clause e apart = find_clause-append live ((id, clause) �
 ]
 
 -- the last of some elements, or one before it
-last_or : {X : Type 0} (xs : List X) (x y : X) (k : ℕ) → slice_get (xs ++ x ∷ []) k ≡ Some y → (slice_get xs k ≡ Some y) ⊎ ((k ≡ length xs) × (x ≡ y))
+pub last_or : {X : Type 0} (xs : List X) (x y : X) (k : ℕ) → slice_get (xs ++ x ∷ []) k ≡ Some y → (slice_get xs k ≡ Some y) ⊎ ((k ≡ length xs) × (x ≡ y))
 last_or [] x y zero e = inr (refl, same_Some x y e)
 last_or [] x y (suc k) e = absurd cc
 last_or (z ∷ xs) x y zero e = inl e
@@ -130,7 +130,7 @@ module _ (clauses : List Clause) (marks : List Bool) (done : List Inference) (li
   more_done : length (done ++ i ∷ []) ≡ length done + 1
   more_done = omega (arith, length-append done (i ∷ []))
 
-  kept-marked : is_marked marks (length done) ≡ true → HoldsKept clauses marks (done ++ i ∷ []) (live ++ (new_id (length clauses) marks (length done), i.clause) ∷ [])
+  pub kept-marked : is_marked marks (length done) ≡ true → HoldsKept clauses marks (done ++ i ∷ []) (live ++ (new_id (length clauses) marks (length done), i.clause) ∷ [])
   kept-marked e = record {
     given = λ id clause f. find_more live _ id clause (h.given id clause f);
     added = λ j x f m. elim (last_or done i x j f) [
@@ -145,7 +145,7 @@ module _ (clauses : List Clause) (marks : List Bool) (done : List Inference) (li
         find_none live (new_id (length clauses) marks (length done)) id i.clause (h.fresh id (omega (arith, next))) (λ same. absurd (omega (arith, same, next)));
   }
 
-  kept-passed : is_marked marks (length done) ≡ false → HoldsKept clauses marks (done ++ i ∷ []) live
+  pub kept-passed : is_marked marks (length done) ≡ false → HoldsKept clauses marks (done ++ i ∷ []) live
   kept-passed e = record {
     given = h.given;
     added = λ j x f m. elim (last_or done i x j f) [
@@ -156,7 +156,7 @@ module _ (clauses : List Clause) (marks : List Bool) (done : List Inference) (li
   }
 
 -- the clause of an addition among those before
-inference_of : (done : List Inference) (j : ℕ) (clause : Clause) → option_map (λ (i : Inference). i.clause) (slice_get done j) ≡ Some clause → (i : Inference) × ((slice_get done j ≡ Some i) × (i.clause ≡ clause))
+pub inference_of : (done : List Inference) (j : ℕ) (clause : Clause) → option_map (λ (i : Inference). i.clause) (slice_get done j) ≡ Some clause → (i : Inference) × ((slice_get done j ≡ Some i) × (i.clause ≡ clause))
 inference_of done j clause e =
     elim (slice_get done j) as (λ o. slice_get done j ≡ o → option_map (λ (i : Inference). i.clause) o ≡ Some clause → (i : Inference) × ((slice_get done j ≡ Some i) × (i.clause ≡ clause))) [
       | None ↦ λ _ h. absurd cc
@@ -164,7 +164,7 @@ inference_of done j clause e =
     ] refl e
 
 -- the new hints find the clauses that the sources are
-new_hints_find : (clauses : List Clause) (marks : List Bool) (done : List Inference) (live : Live) → HoldsKept clauses marks done live → (ss : List Source) (cs : List Clause) → AreClauses clauses done ss cs → AllMarked marks ss → Finds live (map (new_hint (length clauses) marks) ss) cs
+pub new_hints_find : (clauses : List Clause) (marks : List Bool) (done : List Inference) (live : Live) → HoldsKept clauses marks done live → (ss : List Source) (cs : List Clause) → AreClauses clauses done ss cs → AllMarked marks ss → Finds live (map (new_hint (length clauses) marks) ss) cs
 new_hints_find clauses marks done live h [] [] are m = tt
 new_hints_find clauses marks done live h [] (c ∷ cs) are m = absurd are
 new_hints_find clauses marks done live h (s ∷ ss) [] are m = absurd are

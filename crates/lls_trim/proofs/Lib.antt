@@ -7,3 +7,4 @@ pub mod Buffers
 pub mod Laws
 pub mod Used
 pub mod Theorem
+pub mod Again

@@ -61,7 +61,7 @@ or_right : (a b : Bool) → b ≡ true → (a || b) ≡ true
 or_right true b e = refl
 or_right false b e = e
 
-marked_within : (marks : List Bool) (k : ℕ) → is_marked marks k ≡ true → k < length marks
+pub marked_within : (marks : List Bool) (k : ℕ) → is_marked marks k ≡ true → k < length marks
 marked_within [] k e = absurd cc
 marked_within (m ∷ ms) zero e = omega arith
 marked_within (m ∷ ms) (suc k) e = omega (arith, marked_within ms k e)

@@ -1,6 +1,7 @@
 -- What holds of every trimmed proof, in the words of the public calls.
 use Rattle.std.proofs.Common.{◌≡◌, ◌≢◌, ℕ, zero, suc, ◌+◌, ◌≤◌, Bool, true, false, cond, List, [], ◌∷◌, length, map, Option, Some, None, refl, sym, ap, ◌∙◌, subst}
 use Rattle.std.specs.Prelude.{ℤ, Result, Ok, Err, IfOk, OnOk, slice_get, is_none, find, count_by}
+use Rattle.std.specs.List.{enumerate_from}
 use Rattle.std.specs.Option.{option_map}
 use Rattle.lls_lit.specs.Formula.{Clause, Cnf}
 use Rattle.lls_prooflog.specs.Log.{Logged}
@@ -21,12 +22,33 @@ use Rattle.lls_trim.specs.FaultText.{refused}
 use Rattle.lls_trim.specs.Placed.{Placed, steps_of_log}
 use Rattle.lls_trim.specs.Inferences.{Inference, Before, at_start, behind, inference_at, sources_of, inferences_from, inferences_of}
 use Rattle.lls_trim.specs.Needed.{last, IsFirstRat, NeedsNoRat}
-use Rattle.lls_trim.specs.Trimmed.{Trims, IsTrimmed}
+use Rattle.lls_trim.specs.Trimmed.{is_marked, renumbered, AreMarked, Trims, IsTrimmed}
+use Rattle.lls_trim.specs.Marking.{AreOrdered}
 use Rattle.lls_trim.specs.Kept.{IsSublist, clauses_added, AreUsed}
-use Rattle.lls_trim.proofs.Founded.{is_proof, steps_in}
-use Rattle.lls_trim.proofs.Laws.{KeepsWell, kept_well, kept-start, kept_sublist, kept_fewer, closed_at, ordered_founded}
+use Rattle.lls_trim.proofs.Founded.{AreFounded, LastIsEmpty, is_proof, steps_in}
+use Rattle.lls_trim.proofs.Laws.{IsClosed, KeepsWell, kept_well, kept-start, kept_sublist, kept_fewer, closed_at, ordered_founded}
 use Rattle.lls_trim.proofs.Readings.{steps_in-log}
 use Rattle.lls_trim.proofs.Used.{are_used}
+use Rattle.lls_trim.proofs.Again.{again_from, marked_in, all_set, inferences_again, all_marked_again, steps_again}
+
+-- numbered anew once more, the needed additions stay as they are
+again_kept : (formula : Cnf) (marks : List Bool) (inferences : List Inference) → AreMarked inferences marks → ((k : ℕ) (i : Inference) → slice_get inferences k ≡ Some i → is_marked marks k ≡ true → IsClosed marks i) → AreFounded formula.clauses [] inferences → LastIsEmpty inferences
+    → are_accepted (numbered formula.clauses) (renumbered (length formula.clauses) marks inferences) ≡ true
+    → IsTrimmed formula (steps_of_log (renumbered (length formula.clauses) marks inferences)) (renumbered (length formula.clauses) marks inferences)
+again_kept formula marks inferences m closed founded ends accepted =
+    let given = length formula.clauses in
+    let steps = renumbered given marks inferences in
+    let ended = λ (k : ℕ) (e : k + 1 ≡ length inferences). (m.needed k).1 (last k e) in
+    let ordered = ordered_founded formula.clauses inferences founded in
+    let new = again_from marks 1 (marked_in marks (enumerate_from 0 inferences)) in
+    let same : inferences_of formula (steps_of_log steps) ≡ new = inferences_again formula marks inferences m.as_many closed ended founded ends in
+    let proof = is_proof formula (steps_of_log steps) (ap (are_accepted (numbered formula.clauses)) (steps_in-log 1 steps) ∙ accepted) in
+    let order : AreOrdered new = subst AreOrdered same (ordered_founded formula.clauses (inferences_of formula (steps_of_log steps)) proof.founded) in
+    record {
+      marks = all_set (length new);
+      marked = subst (λ (is : List Inference). AreMarked is (all_set (length new))) (sym same) (all_marked_again given marks inferences m ordered closed order);
+      steps_are = steps_again given marks inferences m ordered closed ∙ ap (renumbered given (all_set (length new))) (sym same);
+    }
 
 -- what holds of the needed additions of an accepted proof, where each is by unit propagation
 pub record TrimsWell (formula : Cnf) (placed : Placed) (steps : List Step) : Type 0 where
@@ -34,6 +56,7 @@ pub record TrimsWell (formula : Cnf) (placed : Placed) (steps : List Step) : Typ
   pub used : AreUsed steps
   pub sublist : IsSublist (clauses_added steps) (clauses_added (steps_in placed))
   pub fewer : length steps ≤ count_by is_addition (steps_in placed)
+  pub again : IsTrimmed formula (steps_of_log steps) steps
 
 pub trims_well : (formula : Cnf) (placed : Placed) (steps : List Step) → are_accepted (numbered formula.clauses) (steps_in placed) ≡ true → IsTrimmed formula placed steps → NeedsNoRat (inferences_of formula placed) → TrimsWell formula placed steps
 trims_well formula placed steps accepted t none =
@@ -41,8 +64,10 @@ trims_well formula placed steps accepted t none =
     let proof = is_proof formula placed accepted in
     let closed = closed_at inferences t.marks t.marked none in
     let ended = λ (k : ℕ) (e : k + 1 ≡ length inferences). (t.marked.needed k).1 (last k e) in
+    let well = kept_well formula.clauses t.marks inferences t.marked.as_many closed ended inferences [] (log_start formula) refl (kept-start formula.clauses t.marks) proof.founded proof.ends in
     rw t.steps_are (record {
-      well = kept_well formula.clauses t.marks inferences t.marked.as_many closed ended inferences [] (log_start formula) refl (kept-start formula.clauses t.marks) proof.founded proof.ends;
+      well = well;
+      again = again_kept formula t.marks inferences t.marked closed proof.founded proof.ends well.accepted;
       used = are_used (length formula.clauses) t.marks inferences t.marked (ordered_founded formula.clauses inferences proof.founded);
       sublist = kept_sublist (length formula.clauses) t.marks placed (at_start formula) 0;
       fewer = kept_fewer (length formula.clauses) t.marks placed (at_start formula) 0;

@@ -32,20 +32,20 @@ new_id-count given marks n (suc j) le =
     omega (arith, ap (new_id given marks) same, new_id-count given marks (n + 1) j (omega (arith, le)), new_id-next given marks n (omega (arith, le)))
 
 module _ (given : ℕ) (marks : List Bool) where
-  abbrev written : ℕ → List Inference → List Step
+  abbrev pub written : ℕ → List Inference → List Step
   written n rest = written_at given marks (enumerate_from n rest)
 
-  one : (n : ℕ) (i : Inference) (rest : List Inference) → is_marked marks n ≡ true → written n (i ∷ rest) ≡ new_step given marks (n, i) ∷ written (n + 1) rest
+  pub one : (n : ℕ) (i : Inference) (rest : List Inference) → is_marked marks n ≡ true → written n (i ∷ rest) ≡ new_step given marks (n, i) ∷ written (n + 1) rest
   one n i rest e = ap (λ b. map (new_step given marks) (cond b ((n, i) ∷ filter (λ pair. is_marked marks pair.0) (enumerate_from (n + 1) rest)) (filter (λ pair. is_marked marks pair.0) (enumerate_from (n + 1) rest)))) e
 
-  none : (n : ℕ) (i : Inference) (rest : List Inference) → is_marked marks n ≡ false → written n (i ∷ rest) ≡ written (n + 1) rest
+  pub none : (n : ℕ) (i : Inference) (rest : List Inference) → is_marked marks n ≡ false → written n (i ∷ rest) ≡ written (n + 1) rest
   none n i rest e = ap (λ b. map (new_step given marks) (cond b ((n, i) ∷ filter (λ pair. is_marked marks pair.0) (enumerate_from (n + 1) rest)) (filter (λ pair. is_marked marks pair.0) (enumerate_from (n + 1) rest)))) e
 
-  count-suc : (n j : ℕ) (b : Bool) → is_marked marks n ≡ b → count_from marks n (suc j) ≡ cond b 1 0 + count_from marks (n + 1) j
+  pub count-suc : (n j : ℕ) (b : Bool) → is_marked marks n ≡ b → count_from marks n (suc j) ≡ cond b 1 0 + count_from marks (n + 1) j
   count-suc n j b e = ap (λ c. cond c 1 0 + count_from marks (n + 1) j) e
 
   -- how many are written down
-  length-written : (rest : List Inference) (n : ℕ) → length (written n rest) ≡ count_from marks n (length rest)
+  pub length-written : (rest : List Inference) (n : ℕ) → length (written n rest) ≡ count_from marks n (length rest)
   length-written [] n = refl
   length-written (i ∷ rest) n = elim (is_marked marks n) as (λ b. is_marked marks n ≡ b → length (written n (i ∷ rest)) ≡ count_from marks n (suc (length rest))) [
     | true ↦ λ e. omega (arith, ap length (one n i rest e), length-written rest (n + 1), count-suc n (length rest) true e)
@@ -73,7 +73,7 @@ module _ (given : ℕ) (marks : List Bool) where
       ] refl
 
   -- which addition stands at a place
-  record IsFrom (rest : List Inference) (n place : ℕ) : Type 0 where
+  pub record IsFrom (rest : List Inference) (n place : ℕ) : Type 0 where
     pub j : ℕ
     pub inference : Inference
     pub there : slice_get rest j ≡ Some inference
@@ -85,7 +85,7 @@ module _ (given : ℕ) (marks : List Bool) where
       let same : n + suc f.j ≡ n + 1 + f.j = omega arith in
       record { j = suc f.j; inference = f.inference; there = f.there; marked = ap (is_marked marks) same ∙ f.marked; is_place = omega (arith, f.is_place, count-suc n f.j b e) }
 
-  written-from : (rest : List Inference) (n place : ℕ) → place < length (written n rest) → IsFrom rest n place
+  pub written-from : (rest : List Inference) (n place : ℕ) → place < length (written n rest) → IsFrom rest n place
   written-from [] n place lt = absurd (omega (arith, lt))
   written-from (i ∷ rest) n place lt = by_mark place lt (λ p h. written-from rest (n + 1) p h) where
     at_one : (place : ℕ) → is_marked marks n ≡ true → place < length (written n (i ∷ rest)) → ((p : ℕ) → p < length (written (n + 1) rest) → IsFrom rest (n + 1) p) → IsFrom (i ∷ rest) n place
@@ -98,7 +98,7 @@ module _ (given : ℕ) (marks : List Bool) where
       | false ↦ λ e. let same : 0 + place ≡ place = omega arith in subst (IsFrom (i ∷ rest) n) same (from_next i rest n place false e (next place (omega (arith, lt, ap length (none n i rest e)))))
     ] refl
 
-contains_map : {X Y : Type 0} (f : X → Y) (xs : List X) (x : X) → Contains xs x → Contains (map f xs) (f x)
+pub contains_map : {X Y : Type 0} (f : X → Y) (xs : List X) (x : X) → Contains xs x → Contains (map f xs) (f x)
 contains_map {X = X} f xs x c = by_place xs c.0 c.1 c.2 where
   by_place : (ys : List X) (k : ℕ) → k < length ys → get_or ys k x ≡ x → Contains (map f ys) (f x)
   by_place [] k lt e = absurd (omega arith)

@@ -49,6 +49,9 @@ pub fn trim(alloc: Global, formula: &Formula, log: &Log) -> Result<Log, TrimErro
     ensures fewer { IfOk result (λ trimmed. length trimmed.steps ≤ count_by is_addition log.now.steps) }
     ensures used { IfOk result (λ trimmed. AreUsed trimmed.steps) }
     ensures empty { IfOk result (λ trimmed. EndsEmpty trimmed.steps) }
+
+    // There is nothing to be trimmed from it.
+    ensures again { IfOk result (λ trimmed. IsTrimmed formula.now (steps_of_log trimmed.steps) trimmed.steps) }
 {
     let inferences = record_log(alloc, formula, log)?;
     trim_inferences(alloc, formula.len(), &inferences)

@@ -7,7 +7,7 @@ ghost use Rattle.lls_prooflog.specs.Spent.{EachStep, IsGood, log_start, is_addit
 ghost use Rattle.lls_prooflog.specs.Steps.{numbered, are_accepted};
 ghost use Rattle.lls_lrat.specs.Checking.{progress_of};
 ghost use Rattle.lls_lrat.specs.Verdict.{Accepted, verdict, answer_of};
-ghost use Rattle.lls_trim.specs.Placed.{steps_of_text};
+ghost use Rattle.lls_trim.specs.Placed.{steps_of_text, steps_of_log};
 ghost use Rattle.lls_trim.specs.Inferences.{inferences_of};
 ghost use Rattle.lls_trim.specs.Needed.{IsFirstRat, NeedsNoRat};
 ghost use Rattle.lls_trim.specs.Trimmed.{IsTrimmed};
@@ -50,6 +50,9 @@ pub fn trim_bytes(alloc: Global, formula: &Formula, text: &[u8]) -> Result<Log, 
         (clauses_added (map (λ placed. placed.1) (steps_of_text text.now)))) }
     ensures used { IfOk result (λ log. AreUsed log.steps) }
     ensures empty { IfOk result (λ log. EndsEmpty log.steps) }
+
+    // There is nothing to be trimmed from it.
+    ensures again { IfOk result (λ log. IsTrimmed formula.now (steps_of_log log.steps) log.steps) }
 {
     let inferences = record_text(alloc, formula, text)?;
     trim_inferences(alloc, formula.len(), &inferences)

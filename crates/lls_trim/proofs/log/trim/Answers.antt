@@ -115,3 +115,11 @@ pub returns-clause-not_rat : goal.returns-clause-not_rat
 returns-clause-not_rat c = λ good line is.
     no_first_rat c.args.formula.now c.args.log.now.steps line good
     (subst (λ (is : List Inference). IsFirstRat is line) c.in_ok-inferences.ensures.inferences (c.trim_inferences.ensures.rat line is))
+
+pub returns-clause-again : goal.returns-clause-again
+returns-clause-again c =
+    let formula = c.args.formula.now in
+    let placed = steps_of_log c.args.log.now.steps in
+    let accepted = accepted_steps c.args.formula.now c.args.log.now.steps c.in_ok-inferences.ensures.accepted in
+    let well = call_trims_well formula placed c.in_ok-inferences.inferences c.len.result c.trim_inferences.result accepted c.in_ok-inferences.ensures.inferences c.len.ensures.len c.trim_inferences.ensures.trims c.trim_inferences.ensures.by_propagation in
+    if_ok (λ (log : Logged). TrimsWell formula placed log.steps) _ c.trim_inferences.result well (λ log w. w.again)

@@ -85,3 +85,11 @@ returns-clause-empty c =
     let accepted = accepted_readings c.args.formula.now (read_lines c.args.text.now) (sym (verdict_of-lines c.args.formula.now c.args.text.now) ∙ c.in_ok-inferences.ensures.accepted) in
     let well = call_trims_well formula placed c.in_ok-inferences.inferences c.len.result c.trim_inferences.result accepted c.in_ok-inferences.ensures.inferences c.len.ensures.len c.trim_inferences.ensures.trims c.trim_inferences.ensures.by_propagation in
     if_ok (λ (log : Logged). TrimsWell formula placed log.steps) _ c.trim_inferences.result well (λ log w. w.well.ends_empty)
+
+pub returns-clause-again : goal.returns-clause-again
+returns-clause-again c =
+    let formula = c.args.formula.now in
+    let placed = steps_of_text c.args.text.now in
+    let accepted = accepted_readings c.args.formula.now (read_lines c.args.text.now) (sym (verdict_of-lines c.args.formula.now c.args.text.now) ∙ c.in_ok-inferences.ensures.accepted) in
+    let well = call_trims_well formula placed c.in_ok-inferences.inferences c.len.result c.trim_inferences.result accepted c.in_ok-inferences.ensures.inferences c.len.ensures.len c.trim_inferences.ensures.trims c.trim_inferences.ensures.by_propagation in
+    if_ok (λ (log : Logged). TrimsWell formula placed log.steps) _ c.trim_inferences.result well (λ log w. w.again)
