@@ -29,7 +29,11 @@ pub(crate) fn formula(rt: &impl Abort, alloc: Global) -> Result<Formula, Fail> {
 }
 
 // A formula over two variables.
-pub(crate) fn formula_of(rt: &impl Abort, alloc: Global, clauses: &[&[i32]]) -> Result<Formula, Fail> {
+pub(crate) fn formula_of(
+    rt: &impl Abort,
+    alloc: Global,
+    clauses: &[&[i32]],
+) -> Result<Formula, Fail> {
     let mut formula = Formula::new(alloc, 2);
     for clause in clauses {
         let lits = literals(alloc, clause)?;

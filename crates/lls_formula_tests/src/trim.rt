@@ -66,10 +66,7 @@ const REFUSED: [(&str, &str); 8] = [
         "5 3 0 0\n6 4 0 0\n7 1 0 6 5 1 2 0\n8 0 7 3 4 0",
         "RatStep 1",
     ),
-    (
-        "5 3 0 0\n6 4 0 0\n7 1 0 6 1 2 0\n8 0 7 3 4 0",
-        "RatStep 2",
-    ),
+    ("5 3 0 0\n6 4 0 0\n7 1 0 6 1 2 0\n8 0 7 3 4 0", "RatStep 2"),
 ];
 
 fn outcome(alloc: Global, found: Result<Log, TrimError>) -> Result<Vec<u8>, Fail> {
