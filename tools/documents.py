@@ -22,7 +22,7 @@ import ending
 
 TOP = os.path.dirname(os.path.dirname(os.path.abspath(__file__)))
 SECONDS = 120
-PLAIN = ("cat", "cp", "echo", "head", "wc")
+PLAIN = ("cat", "cp", "echo", "head", "tail", "wc")
 
 
 class Command:
