@@ -316,6 +316,24 @@ esac
         fault = "minisat says that there is no pattern, and writes no proof: nothing is shown"
         self.assertEqual((status, out, said[-1]), (1, "", fault))
 
+    def tightened(self, script, *words):
+        self.write("calls", "")
+        self.write("bin/minisat", f"#!/bin/sh\n{script}\n", True)
+        where = ("--lls", "./lls", f"{self.folder}/bin/minisat", "q.lls", *words)
+        return ran("tighten.py", *where, folder=self.folder, path=f"{self.folder}/bin")
+
+    def test_fewer_and_fewer_live_cells(self):
+        script = 'case $(grep -c . calls) in 1) echo "SAT 1 2 0" > "$3"; exit 10 ;; 2) echo "SAT 1 -2 0" > "$3"; exit 10 ;; esac\nexit 20'
+        status, out, err = self.tightened(script)
+        self.assertEqual((status, out, self.calls()), (10, "least 1\n", ["cnf", "cnf --live 0:-1", "cnf --live 0:-0"]))
+        self.assertRegex(err, r"^solving \d+\.\d\d s, formulas \d+\.\d\d s\n$")
+        self.tightened(script, "--live", "0:1-")
+        self.assertEqual(self.calls(), ["cnf --live 0:1-", "cnf --live 0:1-,0:-1", "cnf --live 0:1-,0:-0"])
+        self.assertEqual(self.tightened("exit 20")[:2], (20, "no pattern\n"))
+        # A pattern without live cells ends it.
+        self.assertEqual(self.tightened('echo "SAT -1 -2 0" > "$3"; exit 10')[:2], (10, "least 0\n"))
+        self.assertEqual(self.tightened("exit 0"), (1, "", "tighten.py: the solver ended with 0\n"))
+
     def test_no_answer(self):
         for script in ("echo 's UNKNOWN'; exit 0", "exit 30"):
             status, out, said = self.solved("cadical", self.CADICAL + script)
