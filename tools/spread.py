@@ -10,7 +10,7 @@
 the formula (--formula), and lays out the first pieces in FOLDER: each is the search file with the N unknown cells of generation 0 that
 are nearest to the middle (1 where --cells isn't given) fixed one way. `run` searches all open pieces in rounds, each within its budget (10,000 for the first ones), by GNU
 parallel (Debian's package `parallel`): over this machine's processors, or with `-- --sshloginfile HOSTS` over many machines that have the
-program under the same name. A piece whose budget is spent is split by one more cell, and its parts get twice the budget. `run` can be
+program under the same name, and `rsync`. A piece whose budget is spent is split by one more cell, and its parts get twice the budget. `run` can be
 killed at any time and begun again; a piece counts only where its answer stands whole. It ends with 20 where every piece is closed,
 and with 10 where one has a pattern, which fits the whole file too and is judged against it.
 
