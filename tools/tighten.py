@@ -5,14 +5,13 @@
 
 It does what `lls least` does: it asks for a pattern, then for one with fewer live cells in generation 0, and so on until there is none.
 Each time `lls cnf` makes the formula of SEARCH, of the WORDs, which are its options (`--period 3`), and of the bound, and SOLVER (cadical,
-minisat or picosat) solves it anew. Prints `least N` with status 10, or `no pattern` with status 20, and on the standard error the seconds
-of all solving and of all making of formulas. It shows nothing: its proofs are thrown away. It is there to be measured beside `lls least`.
+minisat or picosat) solves it anew. Prints `least N` with status 10, or `no pattern` with status 20, and on the standard error the processor
+seconds of all solving and of all making of formulas. It shows nothing: its proofs are thrown away. It is there to be measured beside `lls least`.
 """
 import itertools
 import os
 import sys
 import tempfile
-import time
 
 import ending
 from pattern import BadInput, pattern_of
@@ -33,6 +32,12 @@ def live_cells(rows):
     return sum(row.count("1") for row in itertools.takewhile(bool, rows))
 
 
+def spent():
+    """The processor time of all programs that ended, in seconds."""
+    times = os.times()
+    return times.children_user + times.children_system
+
+
 class Looks:
     """A row of looks at one search file, and what they took."""
 
@@ -43,16 +48,16 @@ class Looks:
 
     def look(self, words):
         """Returns how many live cells of generation 0 the solver's pattern has, or None where it finds none."""
-        formula, begin = f"{self.folder}/cnf", time.monotonic()
+        formula, begin = f"{self.folder}/cnf", spent()
         status, text = run(self.program, "cnf", self.search, *words)
         if status != 0:
             raise NoAnswer(f"`lls cnf` ended with {status}")
         with open(formula, "w", encoding="ascii") as file:
             file.write(text)
-        made = time.monotonic()
+        made = spent()
         status, model, _ = self.solve(self.solver, formula, f"{self.folder}/proof")
         self.making += made - begin
-        self.solving += time.monotonic() - made
+        self.solving += spent() - made
         if status == 20:
             return None
         if status != 10:
