@@ -222,6 +222,37 @@ class Hints(Scratch):
         self.assertEqual(ran("hints.py", "nowhere", "nowhere")[::2], (1, "hints.py: nowhere: No such file or directory\n"))
 
 
+class Trimmed(Scratch):
+    """All four clauses of two variables, of which each proof derives the empty clause."""
+
+    ROWS = (
+        # The first addition and the deletion go, and the empty clause's hint is renamed.
+        ("5 2 0 1 3 0\n6 1 0 1 2 0\n7 d 5 0\n8 0 6 3 4 0\n", "5 1 0 1 2 0\n6 0 5 3 4 0\n", "kept 2 of 3\n"),
+        # The hint behind the conflict goes, and with it the addition that it names.
+        ("c a comment\n\n5 2 0 1 3 0\n6 1 0 1 2 5 0\n7 0 6 3 4 5 0\n8 2 0 1 3 0\n", "5 1 0 1 2 0\n6 0 5 3 4 0\n", "kept 2 of 3\n"),
+        # An id that is given again names the later addition.
+        ("5 1 0 1 2 0\n6 d 5 0\n5 -1 0 3 4 0\n6 1 0 1 2 0\n9 0 5 6 0\n", "5 -1 0 3 4 0\n6 1 0 1 2 0\n7 0 5 6 0\n", "kept 3 of 4\n"),
+    )
+
+    def trimmed(self, proof, *out):
+        self.write("four.cnf", "p cnf 2 4\n1 2 0 1 -2 0 -1 2 0\n-1 -2 0\n")
+        self.write("proof", proof)
+        return ran("trimmed.py", "four.cnf", "proof", *out, folder=self.folder)
+
+    def test_what_the_empty_clause_rests_on(self):
+        for proof, out, kept in self.ROWS:
+            self.assertEqual(self.trimmed(proof), (0, out, ""))
+            self.write("out", out)
+            self.assertEqual(self.trimmed(proof, "out"), (0, kept, ""))
+            self.write("out", out.replace("0 5 ", "0 4 "))
+            self.assertEqual(self.trimmed(proof, "out")[:2], (1, ""))
+
+    def test_a_needed_addition_by_its_pivot(self):
+        self.assertEqual(self.trimmed("5 3 0 0\n6 1 0 5 1 2 0\n7 0 6 3 4 0\n"), (0, "refused: RatStep 1\n", ""))
+        # One that isn't needed goes.
+        self.assertEqual(self.trimmed("5 3 0 0\n6 1 0 1 2 0\n7 0 6 3 4 0\n"), (0, "5 1 0 1 2 0\n6 0 5 3 4 0\n", ""))
+
+
 class WithSolver(Scratch):
     """A search file of two cells. The program's part is played by a script that takes one pattern and proofs that begin with `9`."""
 
