@@ -27,4 +27,5 @@ pub use checker::{Checker, Progress};
 pub use error::CheckError;
 pub use feed::Feed;
 pub use log::check;
+pub use places::Places;
 pub use refusal::Refusal;

@@ -1,4 +1,4 @@
-// Where the clause of each live id is stored.
+// The places of ids: where the clause of a live id is stored, or what number an addition has.
 ghost use Rattle.std.specs.Prelude.{◌≡◌, ℕ, ◌+◌, ◌<◌, ◌≤◌, Some, None, OnOk, OnErr, IfOk, IfSome, if◌then◌else◌, ◌==◌, length};
 ghost use Rattle.std.specs.Map.{lookup};
 ghost use Rattle.lls_lrat.specs.Placed.{slot, in_table, place_of};
@@ -12,14 +12,14 @@ const ENTRIES_PER_PLACE: usize = 8;
 
 const SPARE_ENTRIES: usize = 1024;
 
-/// A map from ids to places, where places are counted from 0.
+/// A map from ids to places, where places are counted from 0. It is made for ids that ascend as their places do, as those of a
+/// proof's additions mostly do. A contract sees the place of each id, by `place_of`.
 ///
 /// A table has an entry for each id from its first on. An id before that is kept in a hash map, and so is one so far
-/// behind that the table would get more than `ENTRIES_PER_PLACE` entries for each place before its own, and
-/// `SPARE_ENTRIES`. So ids that ascend are looked up in the table, and where the places ascend by one, all takes memory
-/// by their number, whatever the ids.
+/// behind that the table would get more than 8 entries for each place before its own, and 1,024 to spare. So ids that ascend
+/// are looked up in the table, and where the places ascend by one, all takes memory by their number, whatever the ids.
 #[derive(Drop)]
-pub(crate) struct Places {
+pub struct Places {
     first: u64,
     table: Vec<Option<u32>>,
     rest: HashMap<u64, u32>,
@@ -27,7 +27,7 @@ pub(crate) struct Places {
 
 impl Places {
     /// No places. Ids before the least one will be in the hash map.
-    pub(crate) fn new(alloc: Global, least: u64) -> Places
+    pub fn new(alloc: Global, least: u64) -> Places
         ensures { (q : ℕ) → place_of result q ≡ None }
     {
         Places {
@@ -50,8 +50,9 @@ impl Places {
         })
     }
 
+    /// The place of an id, if it has one.
     #[inline]
-    pub(crate) fn get(&self, id: u64) -> Option<u32>
+    pub fn get(&self, id: u64) -> Option<u32>
         ensures { result ≡ place_of self.now id }
     {
         match entry(&self.table, self.first, id) {
@@ -60,8 +61,8 @@ impl Places {
         }
     }
 
-    /// After `Memory` the map is as before.
-    pub(crate) fn put(&mut self, id: u64, place: u32) -> Result<(), Memory>
+    /// Gives an id its place, whatever place it had. After `Memory` each id has the place that it had before.
+    pub fn put(&mut self, id: u64, place: u32) -> Result<(), Memory>
         ensures ok { OnOk result ((q : ℕ) → place_of self.new q ≡ (if id == q then Some place else place_of self.old q)) }
         ensures err { OnErr result ((q : ℕ) → place_of self.new q ≡ place_of self.old q) }
     {

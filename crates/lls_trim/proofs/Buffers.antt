@@ -2,7 +2,6 @@
 use Rattle.std.proofs.Common.{◌≡◌, ℕ, zero, suc, ◌+◌, ◌-◌, ◌<◌, true, false, cond, List, [], ◌∷◌, ◌++◌, All, length, get_or, take, drop, Option, Some, None, refl, sym, ap, ◌∙◌, arith, eqb, length-append}
 use Rattle.std.specs.Prelude.{ℤ, slice_get}
 use Rattle.std.specs.List.{between}
-use Rattle.std.specs.Map.{lookup}
 use Rattle.std.specs.Option.{ForSome}
 use Rattle.std.proofs.lemmas.List.{take_more, map-append, take-append-le, drop-append-le, length-drop}
 use Rattle.std.proofs.lemmas.List.Elements.{All-append, All-from_recursion, recursion_from_All}
@@ -10,6 +9,8 @@ use Rattle.std.proofs.lemmas.Option.{slice_get_within, get_or_from_slice_get, sa
 use Rattle.lls_lit.specs.Literal.{variable_of}
 use Rattle.lls_prooflog.specs.Pieces.{Begins}
 use Rattle.lls_prooflog.proofs.Pieces.{begins_same, begins_more, last_piece}
+use Rattle.lls_lrat.specs.Placed.{place_of}
+use Rattle.lls_trim.specs.declared.names.Names.{Names}
 use Rattle.lls_trim.specs.declared.source.Source.{Source}
 use Rattle.lls_trim.specs.declared.source.Source.TheVariants.{Added}
 use Rattle.lls_trim.specs.declared.inferences.Span.{Span}
@@ -17,11 +18,11 @@ use Rattle.lls_trim.specs.declared.inferences.Entry.{Entry}
 use Rattle.lls_trim.specs.Inferences.{Inference, with_name, sources_of}
 use Rattle.lls_trim.specs.Buffers.{IsSpan, IsEntry, by_in, inference_in, inferences_in, FillsBy, source_of, names_in}
 
--- an entry of the table is put in
-pub names_in-put : (old new : List (ℕ × ℕ)) (id k : ℕ) → ((q : ℕ) → lookup (λ x. eqb q x) new ≡ cond (eqb id q) (Some k) (lookup (λ x. eqb q x) old)) → names_in new ≡ with_name (names_in old) id k
+-- an id gets its place
+pub names_in-put : (old new : Names) (id k : ℕ) → ((q : ℕ) → place_of new.places q ≡ cond (eqb id q) (Some k) (place_of old.places q)) → names_in new ≡ with_name (names_in old) id k
 names_in-put old new id k puts = λ i q. at q i where
   at : (q : ℕ) → names_in new q ≡ with_name (names_in old) id k q
-  at q = ap (source_of q) (puts q) ∙ elim (eqb id q) as (λ b. source_of q (cond b (Some k) (lookup (λ x. eqb q x) old)) ≡ cond b (Added k) (source_of q (lookup (λ x. eqb q x) old))) [ true ↦ refl | false ↦ refl ]
+  at q = ap (source_of q) (puts q) ∙ elim (eqb id q) as (λ b. source_of q (cond b (Some k) (place_of old.places q)) ≡ cond b (Added k) (source_of q (place_of old.places q))) [ true ↦ refl | false ↦ refl ]
 
 pub take-next : {X : Type 0} (xs : List X) (k : ℕ) (x : X) → slice_get xs k ≡ Some x → take (k + 1) xs ≡ take k xs ++ x ∷ []
 take-next xs k x e = take_more xs k x (slice_get_within xs k x e) ∙ ap (λ y. take k xs ++ y ∷ []) (get_or_from_slice_get xs k x x e)

@@ -1,8 +1,9 @@
--- For private contracts alone: additions whose literals and sources stand in buffers, and the table of what ids name.
-use Rattle.std.specs.Prelude.{◌≡◌, ◌≤◌, ◌+◌, ◌++◌, ℕ, ℤ, List, map, All, length, Option, Some, None, ◌==◌}
+-- For private contracts alone: additions whose literals and sources stand in buffers, and what ids name, by the places of ids.
+use Rattle.std.specs.Prelude.{◌≡◌, ◌≤◌, ◌+◌, ◌++◌, ℕ, ℤ, List, map, All, length, Option, Some, None}
 use Rattle.std.specs.List.{between}
-use Rattle.std.specs.Map.{lookup}
 use Rattle.std.specs.Option.{option_map, option_copied, ForSome}
+use Rattle.lls_lrat.specs.Placed.{place_of}
+use Rattle.lls_trim.specs.declared.names.Names.{Names}
 use Rattle.lls_trim.specs.declared.source.Source.{Source}
 use Rattle.lls_trim.specs.declared.source.Source.TheVariants.{Given, Added}
 use Rattle.lls_trim.specs.declared.inferences.Span.{Span}
@@ -43,10 +44,10 @@ abbrev pub FillsBy : List Source → List Source → Option (List Source) → Op
 FillsBy old new None span = (new ≡ old) × (span ≡ None)
 FillsBy old new (Some more) span = (new ≡ old ++ more) × (span ≡ Some (record { from = length old; to = length old + length more }))
 
--- what an id names, by what a table has at it
+-- what an id names, by the place that it has
 abbrev pub source_of : ℕ → Option ℕ → Source
 source_of id None = Given id
 source_of id (Some k) = Added k
 
-abbrev pub names_in : List (ℕ × ℕ) → ℕ → Source
-names_in entries id = source_of id (lookup (λ q. id == q) entries)
+abbrev pub names_in : Names → ℕ → Source
+names_in names id = source_of id (place_of names.places id)

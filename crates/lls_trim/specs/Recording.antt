@@ -11,6 +11,7 @@ use Rattle.lls_lrat.specs.declared.refusal.Refusal.TheVariants as refusals
 use Rattle.lls_lrat.specs.declared.error.CheckError.{CheckError}
 use Rattle.lls_lrat.specs.declared.error.CheckError.TheVariants as errors
 use Rattle.lls_lrat.specs.Verdict.{Verdict, State, start, after_reading, closing}
+use Rattle.lls_trim.specs.declared.recorder.Recorder.{Recorder}
 use Rattle.lls_trim.specs.declared.source.Source.{Source}
 use Rattle.lls_trim.specs.declared.source.Source.TheVariants.{Given}
 use Rattle.lls_trim.specs.Buffers.{names_in}
@@ -24,15 +25,8 @@ pub record Recording : Type 0 where
   pub inferences : List Inference
   pub done : Bool
 
--- what a recorder is seen as, where the ids of additions stand with the numbers of these
-pub record Recorded : Type 0 where
-  pub live : Live
-  pub named : List (ℕ × ℕ)
-  pub inferences : List Inference
-  pub done : Bool
-
-abbrev pub recording_of : Recorded → Recording
-recording_of r = record { live = r.live; names = names_in r.named; inferences = r.inferences; done = r.done }
+abbrev pub recording_of : Recorder → Recording
+recording_of r = record { live = r.checker.live; names = names_in r.names; inferences = r.inferences; done = r.checker.done }
 
 abbrev pub begun : Cnf → Recording
 begun formula = record { live = numbered formula.clauses; names = Given; inferences = []; done = false }

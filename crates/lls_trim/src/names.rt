@@ -1,61 +1,55 @@
 // What ids name.
 ghost use Rattle.std.specs.Prelude.{◌≡◌, ◌≤◌, OnOk, take, length};
 ghost use Rattle.lls_lit.specs.Literal.{variable_of};
+ghost use Rattle.lls_cnf.specs.declared.formula.TheConstants.Formula.{MOST_CLAUSES};
 ghost use Rattle.lls_prooflog.specs.Lent.{hints_of};
+ghost use Rattle.lls_trim.specs.declared.inferences.TheConstants.Inferences.{MOST};
 ghost use Rattle.lls_trim.specs.Inferences.{with_name, sources_of};
 ghost use Rattle.lls_trim.specs.Buffers.{names_in};
 
 use crate::source::Source;
 use lls_base::Memory;
+use lls_lrat::Places;
 use lls_prooflog::HintsRef;
 use std::alloc::Global;
-use std::collections::HashMap;
-use std::marker::Model;
 
-/// What each id names: the formula's clause of that id, or the last addition that has it. It is seen as the ids of additions with the
-/// numbers of these.
+/// What each id names: the formula's clause of that id, or the last addition that has it. An addition's place is its number.
 ///
 /// It isn't told of deletions: a clause of an id that is live is the last one that has it, since an id is given again only behind the
 /// deletion of the one before.
 #[derive(Drop)]
 pub(crate) struct Names {
-    places: HashMap<u64, usize>,
-}
-
-impl Model for Names {
-    ghost use Rattle.std.specs.Prelude.{List, ℕ};
-
-    ghost Value = { List (ℕ × ℕ) };
-
-    ghost view = { λ n. n.places.entries };
+    places: Places,
 }
 
 impl Names {
     ghost use Rattle.lls_trim.specs.declared.source.Source.TheVariants.{Given};
 
-    /// No addition has an id.
-    pub(crate) fn new(alloc: Global) -> Names
+    /// No addition has an id. Most will have ids behind those of the formula's clauses, of which there are so many.
+    pub(crate) fn new(alloc: Global, given: usize) -> Names
+        requires { given ≤ MOST_CLAUSES }
         ensures { names_in result ≡ Given }
     {
         Names {
-            places: HashMap::new(alloc),
+            places: Places::new(alloc, given as u64 + 1),
         }
     }
 
     pub(crate) fn get(&self, id: u64) -> Source
         ensures { result ≡ names_in self.now id }
     {
-        match self.places.get(&id) {
-            Some(k) => Source::Added(*k),
+        match self.places.get(id) {
+            Some(k) => Source::Added(k as usize),
             None => Source::Given(id),
         }
     }
 
     /// The id names the addition of that number from here on.
     pub(crate) fn put(&mut self, id: u64, k: usize) -> Result<(), Memory>
+        requires { k ≤ MOST }
         ensures { OnOk result (names_in self.new ≡ with_name (names_in self.old) id k) }
     {
-        self.places.insert(id, k)?;
+        self.places.put(id, k as u32)?;
         Ok(())
     }
 }

@@ -18,7 +18,6 @@ use lls_cnf::Formula;
 use lls_lrat::{CheckError, Checker, Progress, Refusal};
 use lls_prooflog::{Addition, StepRef};
 use std::alloc::Global;
-use std::marker::Model;
 
 /// A checker, with the additions that it accepted so far.
 #[derive(Drop)]
@@ -30,14 +29,6 @@ pub(crate) struct Recorder<'f> {
     sources: Vec<Source>,
 }
 
-impl<'f> Model for Recorder<'f> {
-    ghost use Rattle.lls_trim.specs.Recording.{Recorded};
-
-    ghost Value = { Recorded };
-
-    ghost view = { λ r. record { live = r.checker.live; named = r.names; inferences = r.inferences; done = r.checker.done } };
-}
-
 impl<'f> Recorder<'f> {
     /// A check at its start.
     pub(crate) fn new(alloc: Global, formula: &'f Formula) -> Result<Recorder<'f>, Memory>
@@ -46,7 +37,7 @@ impl<'f> Recorder<'f> {
         let checker = Checker::new(alloc, formula)?;
         Ok(Recorder {
             checker,
-            names: Names::new(alloc),
+            names: Names::new(alloc, formula.len()),
             inferences: Inferences::new(alloc),
             sources: Vec::new(alloc),
         })
@@ -55,9 +46,9 @@ impl<'f> Recorder<'f> {
     /// Takes the next step, which stands on that line.
     pub(crate) fn take(&mut self, line: u64, step: StepRef) -> Result<Progress, CheckError>
         requires in_range { IsInRange (step_of_ref step) }
-        requires going { self.old.done ≡ false }
+        requires going { self.old.checker.done ≡ false }
         ensures recorded { Gives CheckError.Memory (λ _. recording_of self.new) result (step_recorded line (recording_of self.old) (step_of_ref step.entry)) }
-        ensures progress { IfOk result (λ p. p ≡ progress_of self.new.done) }
+        ensures progress { IfOk result (λ p. p ≡ progress_of self.new.checker.done) }
     {
         match step {
             StepRef::Add(addition) => self.add(line, addition),
@@ -76,9 +67,9 @@ impl<'f> Recorder<'f> {
     }
 
     fn add(&mut self, line: u64, addition: Addition) -> Result<Progress, CheckError>
-        requires going { self.old.done ≡ false }
+        requires going { self.old.checker.done ≡ false }
         ensures recorded { Gives CheckError.Memory (λ _. recording_of self.new) result (step_recorded line (recording_of self.old) (step_of_addition addition.entry)) }
-        ensures progress { IfOk result (λ p. p ≡ progress_of self.new.done) }
+        ensures progress { IfOk result (λ p. p ≡ progress_of self.new.checker.done) }
     {
         let looked = match self.checker.add(addition.id, addition.lits, addition.hints) {
             Ok(looked) => looked,

@@ -85,11 +85,11 @@ fn take_line(
     count: u64,
     line: &[u8],
 ) -> Result<Progress, CheckError>
-    requires going { recorder.old.done ≡ false }
+    requires going { recorder.old.checker.done ≡ false }
     requires room { count + 1 < 2 ^ 64 }
     ensures recorded { Gives CheckError.Memory (λ _. recording_of recorder.new) result
         (reading_recorded (count + 1) (recording_of recorder.old) (step_of_line line.now)) }
-    ensures progress { IfOk result (λ p. p ≡ progress_of recorder.new.done) }
+    ensures progress { IfOk result (λ p. p ≡ progress_of recorder.new.checker.done) }
 {
     let number = count + 1;
     match reader.read(line) {

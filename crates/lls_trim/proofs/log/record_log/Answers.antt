@@ -20,7 +20,7 @@ loop-k-preserved c =
     let readings = map reading_of_step steps in
     let g = subst (λ (ss : List Step). GoesOn c.args.formula.now readings (recording_of c.loop-k.recorder) c.loop-k.k (map reading_of_step ss)) (drop-next steps c.loop-k.k step c.lend.ensures.step) c.loop-k.invariant in
     goes_on c.args.formula.now readings (recording_of c.loop-k.recorder) c.loop-k.k (map reading_of_step (drop (c.loop-k.k + 1) steps)) (reading_of_step step) (recording_of c.take.new.self) g c.in-Ok-Going.ensures.recorded
-    (is_going c.take.new.self.done (sym c.in-Ok-Going.field-0-is ∙ c.in-Ok-Going.ensures.progress))
+    (is_going c.take.new.self.checker.done (sym c.in-Ok-Going.field-0-is ∙ c.in-Ok-Going.ensures.progress))
 
 pub returns-in-Ok-Done-clause-inferences : goal.returns-in-Ok-Done-clause-inferences
 returns-in-Ok-Done-clause-inferences c =
@@ -29,7 +29,7 @@ returns-in-Ok-Done-clause-inferences c =
     let readings = map reading_of_step steps in
     let g = subst (λ (ss : List Step). GoesOn c.args.formula.now readings (recording_of c.loop-k.recorder) c.loop-k.k (map reading_of_step ss)) (drop-next steps c.loop-k.k step c.lend.ensures.step) c.loop-k.invariant in
     let ends = ends_accepted c.args.formula.now readings (recording_of c.loop-k.recorder) c.loop-k.k (map reading_of_step (drop (c.loop-k.k + 1) steps)) (reading_of_step step) (recording_of c.take.new.self) g c.in-Ok-Done.ensures.recorded
-    (is_done c.take.new.self.done (sym c.in-Ok-Done.field-0-is ∙ c.in-Ok-Done.ensures.progress))
+    (is_done c.take.new.self.checker.done (sym c.in-Ok-Done.field-0-is ∙ c.in-Ok-Done.ensures.progress))
     in c.finish.ensures ∙ ends.0 ∙ ap (λ (placed : Placed). inferences_of c.args.formula.now placed) (sym (steps_of_log-readings steps))
 
 pub returns-in-Ok-Done-clause-accepted : goal.returns-in-Ok-Done-clause-accepted
@@ -39,7 +39,7 @@ returns-in-Ok-Done-clause-accepted c =
     let readings = map reading_of_step steps in
     let g = subst (λ (ss : List Step). GoesOn c.args.formula.now readings (recording_of c.loop-k.recorder) c.loop-k.k (map reading_of_step ss)) (drop-next steps c.loop-k.k step c.lend.ensures.step) c.loop-k.invariant in
     let ends = ends_accepted c.args.formula.now readings (recording_of c.loop-k.recorder) c.loop-k.k (map reading_of_step (drop (c.loop-k.k + 1) steps)) (reading_of_step step) (recording_of c.take.new.self) g c.in-Ok-Done.ensures.recorded
-    (is_done c.take.new.self.done (sym c.in-Ok-Done.field-0-is ∙ c.in-Ok-Done.ensures.progress))
+    (is_done c.take.new.self.checker.done (sym c.in-Ok-Done.field-0-is ∙ c.in-Ok-Done.ensures.progress))
     in verdict_of-steps c.args.formula.now steps ∙ ends.1
 
 pub returns-in-Err-clause-refused : goal.returns-in-Err-clause-refused

@@ -23,7 +23,7 @@ loop-line-preserved c =
     record {
       room = omega (arith, c.loop-line.invariant.room, ap length lines);
       goes_on = goes_on c.args.formula.now readings (recording_of c.loop-line.recorder) c.loop-line.count rest (step_of_line c.in-Some.line.now) (recording_of c.take_line.new.recorder) g c.in-Ok-Going.ensures.recorded
-          (is_going c.take_line.new.recorder.done (sym c.in-Ok-Going.field-0-is ∙ c.in-Ok-Going.ensures.progress));
+          (is_going c.take_line.new.recorder.checker.done (sym c.in-Ok-Going.field-0-is ∙ c.in-Ok-Going.ensures.progress));
     }
 
 pub returns-in-Ok-Done-clause-inferences : goal.returns-in-Ok-Done-clause-inferences
@@ -33,7 +33,7 @@ returns-in-Ok-Done-clause-inferences c =
     let rest = map step_of_line c.next.new.self in
     let g = subst (λ (ls : List (List ℕ)). GoesOn c.args.formula.now readings (recording_of c.loop-line.recorder) c.loop-line.count (map step_of_line ls)) lines c.loop-line.invariant.goes_on in
     let ends = ends_accepted c.args.formula.now readings (recording_of c.loop-line.recorder) c.loop-line.count rest (step_of_line c.in-Some.line.now) (recording_of c.take_line.new.recorder) g c.in-Ok-Done.ensures.recorded
-    (is_done c.take_line.new.recorder.done (sym c.in-Ok-Done.field-0-is ∙ c.in-Ok-Done.ensures.progress))
+    (is_done c.take_line.new.recorder.checker.done (sym c.in-Ok-Done.field-0-is ∙ c.in-Ok-Done.ensures.progress))
     in c.finish.ensures ∙ ends.0
 
 pub returns-in-Ok-Done-clause-accepted : goal.returns-in-Ok-Done-clause-accepted
@@ -43,7 +43,7 @@ returns-in-Ok-Done-clause-accepted c =
     let rest = map step_of_line c.next.new.self in
     let g = subst (λ (ls : List (List ℕ)). GoesOn c.args.formula.now readings (recording_of c.loop-line.recorder) c.loop-line.count (map step_of_line ls)) lines c.loop-line.invariant.goes_on in
     let ends = ends_accepted c.args.formula.now readings (recording_of c.loop-line.recorder) c.loop-line.count rest (step_of_line c.in-Some.line.now) (recording_of c.take_line.new.recorder) g c.in-Ok-Done.ensures.recorded
-    (is_done c.take_line.new.recorder.done (sym c.in-Ok-Done.field-0-is ∙ c.in-Ok-Done.ensures.progress))
+    (is_done c.take_line.new.recorder.checker.done (sym c.in-Ok-Done.field-0-is ∙ c.in-Ok-Done.ensures.progress))
     in verdict_of-lines c.args.formula.now c.args.text.now ∙ ends.1
 
 pub returns-in-Err-clause-refused : goal.returns-in-Err-clause-refused
