@@ -326,29 +326,14 @@ kept_sublist given marks ((line, Add id (l ∷ ls) hints) ∷ rest) before k =
     ]
 kept_sublist given marks ((line, Del ids) ∷ rest) before k = kept_sublist given marks rest (behind before (Del ids)) k
 
--- no more steps are written down than there are additions
-pub kept_fewer : (given : ℕ) (marks : List Bool) (placed : Placed) (before : Before) (k : ℕ) → length (written_at given marks (enumerate_from k (inferences_from before placed))) ≤ count_by is_addition (steps_in placed)
-kept_fewer given marks [] before k = omega arith
-kept_fewer given marks ((line, Add id [] hints) ∷ rest) before k =
-    let i = inference_at before line [] hints in
-    let count = sum_by-cons (λ step. cond (is_addition step) 1 0) (Add id [] hints) (steps_in rest) in
-    elim (is_marked marks k) as (λ b. length (map (new_step given marks) (cond b ((k, i) ∷ []) [])) ≤ count_by is_addition (Add id [] hints ∷ steps_in rest)) [
-      | true ↦ omega (arith, count)
-      | false ↦ omega arith
-    ]
-kept_fewer given marks ((line, Add id (l ∷ ls) hints) ∷ rest) before k =
-    let i = inference_at before line (l ∷ ls) hints in
-    let next = behind before (Add id (l ∷ ls) hints) in
-    let kept = filter (λ pair. is_marked marks pair.0) (enumerate_from (k + 1) (inferences_from next rest)) in
-    let more = kept_fewer given marks rest next (k + 1) in
-    let count = sum_by-cons (λ step. cond (is_addition step) 1 0) (Add id (l ∷ ls) hints) (steps_in rest) in
-    elim (is_marked marks k) as (λ b. length (map (new_step given marks) (cond b ((k, i) ∷ kept) kept)) ≤ count_by is_addition (Add id (l ∷ ls) hints ∷ steps_in rest)) [
-      | true ↦ omega (arith, count, more)
-      | false ↦ omega (arith, count, more)
-    ]
-kept_fewer given marks ((line, Del ids) ∷ rest) before k =
-    let count = sum_by-cons (λ step. cond (is_addition step) 1 0) (Del ids) (steps_in rest) in
-    omega (arith, count, kept_fewer given marks rest (behind before (Del ids)) k)
+-- up to the first empty one there are no more additions than in all
+pub inferences_fewer : (placed : Placed) (before : Before) → length (inferences_from before placed) ≤ count_by is_addition (steps_in placed)
+inferences_fewer [] before = omega arith
+inferences_fewer ((line, Add id [] hints) ∷ rest) before = omega (arith, sum_by-cons (λ step. cond (is_addition step) 1 0) (Add id [] hints) (steps_in rest))
+inferences_fewer ((line, Add id (l ∷ ls) hints) ∷ rest) before =
+    omega (arith, sum_by-cons (λ step. cond (is_addition step) 1 0) (Add id (l ∷ ls) hints) (steps_in rest), inferences_fewer rest (behind before (Add id (l ∷ ls) hints)))
+inferences_fewer ((line, Del ids) ∷ rest) before =
+    omega (arith, sum_by-cons (λ step. cond (is_addition step) 1 0) (Del ids) (steps_in rest), inferences_fewer rest (behind before (Del ids)))
 
 -- what the sources of founded additions are
 below_named : (clauses : List Clause) (done : List Inference) (ss : List Source) (cs : List Clause) → AreClauses clauses done ss cs → All (IsBelow (length done)) ss

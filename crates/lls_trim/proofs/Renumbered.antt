@@ -5,9 +5,10 @@ use Rattle.std.specs.List.{enumerate_from, list_all}
 use Rattle.std.specs.Option.{unwrap_or}
 use Rattle.std.proofs.lemmas.Bool.{le-leb}
 use Rattle.std.proofs.lemmas.Bool.Decides.{eqb_tells}
-use Rattle.std.proofs.lemmas.List.{map-append}
+use Rattle.std.proofs.lemmas.List.{length-map, map-append}
 use Rattle.std.proofs.lemmas.List.Elements.{filter-append, All-from_recursion, recursion_from_All}
-use Rattle.std.proofs.lemmas.List.Sums.{count_by_more_yes, count_by_more_no, count_by-le-length}
+use Rattle.std.proofs.lemmas.List.Sums.{count_by_more_yes, count_by_more_no, count_by-le-length, length-filter}
+use Rattle.std.proofs.lemmas.List.FromFn.{length-enumerate_from}
 use Rattle.lls_prooflog.specs.declared.step.Step.{Step}
 use Rattle.lls_prooflog.specs.declared.step.Step.TheVariants.{Add}
 use Rattle.std.proofs.lemmas.Grind.{get_or_default_zero}
@@ -19,7 +20,7 @@ use Rattle.lls_trim.specs.declared.source.Source.{Source}
 use Rattle.lls_trim.specs.declared.source.Source.TheVariants.{Given, Added}
 use Rattle.lls_trim.specs.Inferences.{Inference}
 use Rattle.lls_trim.specs.Needed.{sources_in}
-use Rattle.lls_trim.specs.Trimmed.{is_marked, new_id, new_hint, new_step}
+use Rattle.lls_trim.specs.Trimmed.{is_marked, new_id, new_hint, new_step, renumbered}
 use Rattle.lls_trim.specs.Marking.{IsBelow, IsGivenWithin, AreGivenWithin, hint_by}
 use Rattle.lls_trim.proofs.Buffers.{take-next}
 
@@ -41,6 +42,13 @@ length-take-within (x ∷ xs) (suc n) le = ap suc (length-take-within xs n (omeg
 
 abbrev pub written_at : ℕ → List Bool → List (ℕ × Inference) → List Step
 written_at given marks pairs = map (new_step given marks) (filter (λ pair. is_marked marks pair.0) pairs)
+
+-- no more steps are written down than there are additions
+pub length-renumbered-le : (given : ℕ) (marks : List Bool) (inferences : List Inference) → length (renumbered given marks inferences) ≤ length inferences
+length-renumbered-le given marks inferences =
+    let pairs : List (ℕ × Inference) = enumerate_from 0 inferences in
+    let test = λ (pair : ℕ × Inference). is_marked marks pair.0 in
+    omega (arith, length-map (filter test pairs) (new_step given marks), length-filter test pairs, count_by-le-length test pairs, length-enumerate_from 0 inferences)
 
 written-append : (given : ℕ) (marks : List Bool) (pairs more : List (ℕ × Inference)) → written_at given marks (pairs ++ more) ≡ written_at given marks pairs ++ written_at given marks more
 written-append given marks pairs more = ap (map (new_step given marks)) (filter-append (λ pair. is_marked marks pair.0) pairs more) ∙ map-append (new_step given marks) (filter (λ pair. is_marked marks pair.0) pairs) (filter (λ pair. is_marked marks pair.0) more)

@@ -1,10 +1,9 @@
 -- What holds of every trimmed proof, in the words of the public calls.
-use Rattle.std.proofs.Common.{◌≡◌, ◌≢◌, ℕ, zero, suc, ◌+◌, ◌≤◌, Bool, true, false, cond, List, [], ◌∷◌, length, map, Option, Some, None, refl, sym, ap, ◌∙◌, subst}
+use Rattle.std.proofs.Common.{◌≡◌, ◌≢◌, ℕ, zero, suc, ◌+◌, ◌≤◌, Bool, true, false, cond, List, [], ◌∷◌, length, map, Option, Some, None, refl, sym, ap, ◌∙◌, subst, arith}
 use Rattle.std.specs.Prelude.{ℤ, Result, Ok, Err, IfOk, OnOk, slice_get, is_none, find, count_by}
 use Rattle.std.specs.List.{enumerate_from}
 use Rattle.std.specs.Option.{option_map}
 use Rattle.lls_lit.specs.Formula.{Clause, Cnf}
-use Rattle.lls_prooflog.specs.Log.{Logged}
 use Rattle.lls_prooflog.specs.declared.step.Step.{Step}
 use Rattle.lls_prooflog.specs.declared.step.Step.TheVariants.{Add, Del}
 use Rattle.std.proofs.lemmas.Option.{same_Some}
@@ -18,6 +17,7 @@ use Rattle.lls_lrat.specs.declared.error.CheckError.TheVariants as checks
 use Rattle.lls_lrat.specs.Verdict.{Verdict, Accepted, answer_of}
 use Rattle.lls_trim.specs.declared.error.TrimError.{TrimError}
 use Rattle.lls_trim.specs.declared.error.TrimError.TheVariants.{Refused, Memory}
+use Rattle.lls_trim.specs.declared.trimming.Trimming.{Trimming}
 use Rattle.lls_trim.specs.FaultText.{refused}
 use Rattle.lls_trim.specs.Placed.{Placed, steps_of_log}
 use Rattle.lls_trim.specs.Inferences.{Inference, Before, at_start, behind, inference_at, sources_of, inferences_from, inferences_of}
@@ -26,8 +26,9 @@ use Rattle.lls_trim.specs.Trimmed.{is_marked, renumbered, AreMarked, Trims, IsTr
 use Rattle.lls_trim.specs.Marking.{AreOrdered}
 use Rattle.lls_trim.specs.Kept.{IsSublist, clauses_added, AreUsed}
 use Rattle.lls_trim.proofs.Founded.{AreFounded, LastIsEmpty, is_proof, steps_in}
-use Rattle.lls_trim.proofs.Laws.{IsClosed, KeepsWell, kept_well, kept-start, kept_sublist, kept_fewer, closed_at, ordered_founded}
+use Rattle.lls_trim.proofs.Laws.{IsClosed, KeepsWell, kept_well, kept-start, kept_sublist, inferences_fewer, closed_at, ordered_founded}
 use Rattle.lls_trim.proofs.Readings.{steps_in-log}
+use Rattle.lls_trim.proofs.Renumbered.{length-renumbered-le}
 use Rattle.lls_trim.proofs.Used.{are_used}
 use Rattle.lls_trim.proofs.Again.{again_from, marked_in, all_set, inferences_again, all_marked_again, steps_again}
 
@@ -70,7 +71,7 @@ trims_well formula placed steps accepted t none =
       again = again_kept formula t.marks inferences t.marked closed proof.founded proof.ends well.accepted;
       used = are_used (length formula.clauses) t.marks inferences t.marked (ordered_founded formula.clauses inferences proof.founded);
       sublist = kept_sublist (length formula.clauses) t.marks placed (at_start formula) 0;
-      fewer = kept_fewer (length formula.clauses) t.marks placed (at_start formula) 0;
+      fewer = omega (arith, length-renumbered-le (length formula.clauses) t.marks inferences, inferences_fewer placed (at_start formula));
     })
 
 -- a value that is Ok has what follows from what it has
@@ -90,16 +91,16 @@ not_refused r checks.NoEmpty v accepted gives answer was is fault e = let clash 
 not_refused r checks.Memory v accepted gives answer was is fault e = let clash : Memory ≡ Refused fault = cc in cc
 
 -- where a call trimmed as it is defined, and no needed addition is otherwise than by unit propagation, all of this holds
-pub trims_well_if_ok : {X E : Type 0} (steps_of : X → List Step) (formula : Cnf) (placed : Placed) (r : Result X E) → are_accepted (numbered formula.clauses) (steps_in placed) ≡ true → IfOk r (λ x. IsTrimmed formula placed (steps_of x)) → OnOk r (NeedsNoRat (inferences_of formula placed)) → IfOk r (λ x. TrimsWell formula placed (steps_of x))
-trims_well_if_ok steps_of formula placed (Ok x) accepted t none = trims_well formula placed (steps_of x) accepted t none
-trims_well_if_ok steps_of formula placed (Err e) accepted t none = tt
+pub trims_well_if_ok : {E : Type 0} (formula : Cnf) (placed : Placed) (r : Result Trimming E) → are_accepted (numbered formula.clauses) (steps_in placed) ≡ true → IfOk r (λ t. IsTrimmed formula placed t.log.steps) → OnOk r (NeedsNoRat (inferences_of formula placed)) → IfOk r (λ t. TrimsWell formula placed t.log.steps)
+trims_well_if_ok formula placed (Ok x) accepted t none = trims_well formula placed x.log.steps accepted t none
+trims_well_if_ok formula placed (Err e) accepted t none = tt
 
 -- the same of a call that was given the additions
-pub call_trims_well : {E : Type 0} (formula : Cnf) (placed : Placed) (inferences : List Inference) (given : ℕ) (r : Result Logged E) → are_accepted (numbered formula.clauses) (steps_in placed) ≡ true → inferences ≡ inferences_of formula placed → given ≡ length formula.clauses
-    → IfOk r (λ log. Trims given inferences log.steps) → OnOk r (NeedsNoRat inferences) → IfOk r (λ log. TrimsWell formula placed log.steps)
+pub call_trims_well : {E : Type 0} (formula : Cnf) (placed : Placed) (inferences : List Inference) (given : ℕ) (r : Result Trimming E) → are_accepted (numbered formula.clauses) (steps_in placed) ≡ true → inferences ≡ inferences_of formula placed → given ≡ length formula.clauses
+    → IfOk r (λ t. Trims given inferences t.log.steps) → OnOk r (NeedsNoRat inferences) → IfOk r (λ t. TrimsWell formula placed t.log.steps)
 call_trims_well formula placed inferences given r accepted same len trims none =
-    trims_well_if_ok (λ (log : Logged). log.steps) formula placed r accepted
-    (subst (λ (is : List Inference). IfOk r (λ log. Trims (length formula.clauses) is log.steps)) same (subst (λ (n : ℕ). IfOk r (λ log. Trims n inferences log.steps)) len trims))
+    trims_well_if_ok formula placed r accepted
+    (subst (λ (is : List Inference). IfOk r (λ t. Trims (length formula.clauses) is t.log.steps)) same (subst (λ (n : ℕ). IfOk r (λ t. Trims n inferences t.log.steps)) len trims))
     (subst (λ (is : List Inference). OnOk r (NeedsNoRat is)) same none)
 
 -- hints that lead to a conflict have a shortest beginning that does

@@ -10,8 +10,10 @@ mod recorder;
 mod renumbering;
 mod source;
 mod text;
+mod trimmed;
 mod trimming;
 
 pub use error::TrimError;
 pub use log::trim;
 pub use text::trim_bytes;
+pub use trimming::Trimming;

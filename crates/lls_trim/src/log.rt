@@ -10,18 +10,18 @@ ghost use Rattle.lls_trim.specs.Needed.{IsFirstRat, NeedsNoRat};
 ghost use Rattle.lls_trim.specs.Trimmed.{IsTrimmed};
 ghost use Rattle.lls_trim.specs.Kept.{IsSublist, clauses_added, AreUsed, EndsEmpty};
 
-use crate::TrimError;
 use crate::inferences::Inferences;
 use crate::recorder::Recorder;
-use crate::trimming::trim_inferences;
+use crate::trimmed::trim_inferences;
+use crate::{TrimError, Trimming};
 use lls_cnf::Formula;
 use lls_lrat::{CheckError, Progress};
 use lls_prooflog::Log;
 use std::alloc::Global;
 
 /// The same of a log, as `check` stands beside `check_bytes`. The line of a step is its number, from 1.
-pub fn trim(alloc: Global, formula: &Formula, log: &Log) -> Result<Log, TrimError>
-    ensures trimmed { IfOk result (λ trimmed. IsTrimmed formula.now (steps_of_log log.now.steps) trimmed.steps) }
+pub fn trim(alloc: Global, formula: &Formula, log: &Log) -> Result<Trimming, TrimError>
+    ensures trimmed { IfOk result (λ trimming. IsTrimmed formula.now (steps_of_log log.now.steps) trimming.log.steps) }
 
     // It is Ok where the steps are accepted and each needed addition is by unit propagation, and nowhere else.
     ensures accepted { OnOk result (are_accepted (numbered formula.now.clauses) log.now.steps ≡ true) }
@@ -39,19 +39,23 @@ pub fn trim(alloc: Global, formula: &Formula, log: &Log) -> Result<Log, TrimErro
     ensures not_rat { EachStep IsGood (log_start formula.now) log.now.steps →
         (line : ℕ) → result ≢ Err (TrimError.RatStep line) }
 
+    // The additions are counted up to and with the first empty clause.
+    ensures given { IfOk result (λ trimming. trimming.additions ≡ length (inferences_of formula.now (steps_of_log log.now.steps))) }
+
     // The result is an accepted proof by unit propagation, without a deletion.
-    ensures accepted_again { IfOk result (λ trimmed. are_accepted (numbered formula.now.clauses) trimmed.steps ≡ true) }
-    ensures additions { IfOk result (λ trimmed. list_all is_addition trimmed.steps ≡ true) }
-    ensures good { IfOk result (λ trimmed. EachStep IsGood (log_start formula.now) trimmed.steps) }
+    ensures accepted_again { IfOk result (λ trimming. are_accepted (numbered formula.now.clauses) trimming.log.steps ≡ true) }
+    ensures additions { IfOk result (λ trimming. list_all is_addition trimming.log.steps ≡ true) }
+    ensures good { IfOk result (λ trimming. EachStep IsGood (log_start formula.now) trimming.log.steps) }
 
     // Its clauses are some of the given ones; each but the last is of use, and the last alone is empty.
-    ensures sublist { IfOk result (λ trimmed. IsSublist (clauses_added trimmed.steps) (clauses_added log.now.steps)) }
-    ensures fewer { IfOk result (λ trimmed. length trimmed.steps ≤ count_by is_addition log.now.steps) }
-    ensures used { IfOk result (λ trimmed. AreUsed trimmed.steps) }
-    ensures empty { IfOk result (λ trimmed. EndsEmpty trimmed.steps) }
+    ensures sublist { IfOk result (λ trimming. IsSublist (clauses_added trimming.log.steps) (clauses_added log.now.steps)) }
+    ensures fewer { IfOk result (λ trimming. length trimming.log.steps ≤ count_by is_addition log.now.steps) }
+    ensures within { IfOk result (λ trimming. length trimming.log.steps ≤ trimming.additions) }
+    ensures used { IfOk result (λ trimming. AreUsed trimming.log.steps) }
+    ensures empty { IfOk result (λ trimming. EndsEmpty trimming.log.steps) }
 
     // There is nothing to be trimmed from it.
-    ensures again { IfOk result (λ trimmed. IsTrimmed formula.now (steps_of_log trimmed.steps) trimmed.steps) }
+    ensures again { IfOk result (λ trimming. IsTrimmed formula.now (steps_of_log trimming.log.steps) trimming.log.steps) }
 {
     let inferences = record_log(alloc, formula, log)?;
     trim_inferences(alloc, formula.len(), &inferences)

@@ -2,8 +2,8 @@ use Rattle.std.proofs.Common.{◌≤◌, List, length, subst}
 use Rattle.std.specs.Prelude.{OnOk, count_by}
 use Rattle.std.proofs.lemmas.Result.{err_from_is_err_and}
 use Rattle.lls_prooflog.specs.declared.step.Step.{Step}
-use Rattle.lls_prooflog.specs.Log.{Logged}
 use Rattle.lls_prooflog.specs.Spent.{is_addition}
+use Rattle.lls_trim.specs.declared.trimming.Trimming.{Trimming}
 use Rattle.lls_trim.specs.Placed.{steps_of_log}
 use Rattle.lls_trim.specs.Inferences.{Inference, inferences_of}
 use Rattle.lls_lrat.specs.Verdict.{log_verdict}
@@ -50,7 +50,7 @@ returns-clause-accepted_again c =
     let placed = steps_of_log c.args.log.now.steps in
     let accepted = accepted_steps c.args.formula.now c.args.log.now.steps c.in_ok-inferences.ensures.accepted in
     let well = call_trims_well formula placed c.in_ok-inferences.inferences c.len.result c.trim_inferences.result accepted c.in_ok-inferences.ensures.inferences c.len.ensures.len c.trim_inferences.ensures.trims c.trim_inferences.ensures.by_propagation in
-    if_ok (λ (log : Logged). TrimsWell formula placed log.steps) _ c.trim_inferences.result well (λ log w. w.well.accepted)
+    if_ok (λ (t : Trimming). TrimsWell formula placed t.log.steps) _ c.trim_inferences.result well (λ t w. w.well.accepted)
 
 pub returns-clause-additions : goal.returns-clause-additions
 returns-clause-additions c =
@@ -58,7 +58,7 @@ returns-clause-additions c =
     let placed = steps_of_log c.args.log.now.steps in
     let accepted = accepted_steps c.args.formula.now c.args.log.now.steps c.in_ok-inferences.ensures.accepted in
     let well = call_trims_well formula placed c.in_ok-inferences.inferences c.len.result c.trim_inferences.result accepted c.in_ok-inferences.ensures.inferences c.len.ensures.len c.trim_inferences.ensures.trims c.trim_inferences.ensures.by_propagation in
-    if_ok (λ (log : Logged). TrimsWell formula placed log.steps) _ c.trim_inferences.result well (λ log w. w.well.additions)
+    if_ok (λ (t : Trimming). TrimsWell formula placed t.log.steps) _ c.trim_inferences.result well (λ t w. w.well.additions)
 
 pub returns-clause-good : goal.returns-clause-good
 returns-clause-good c =
@@ -66,7 +66,7 @@ returns-clause-good c =
     let placed = steps_of_log c.args.log.now.steps in
     let accepted = accepted_steps c.args.formula.now c.args.log.now.steps c.in_ok-inferences.ensures.accepted in
     let well = call_trims_well formula placed c.in_ok-inferences.inferences c.len.result c.trim_inferences.result accepted c.in_ok-inferences.ensures.inferences c.len.ensures.len c.trim_inferences.ensures.trims c.trim_inferences.ensures.by_propagation in
-    if_ok (λ (log : Logged). TrimsWell formula placed log.steps) _ c.trim_inferences.result well (λ log w. w.well.good)
+    if_ok (λ (t : Trimming). TrimsWell formula placed t.log.steps) _ c.trim_inferences.result well (λ t w. w.well.good)
 
 pub returns-clause-sublist : goal.returns-clause-sublist
 returns-clause-sublist c =
@@ -74,7 +74,7 @@ returns-clause-sublist c =
     let placed = steps_of_log c.args.log.now.steps in
     let accepted = accepted_steps c.args.formula.now c.args.log.now.steps c.in_ok-inferences.ensures.accepted in
     let well = call_trims_well formula placed c.in_ok-inferences.inferences c.len.result c.trim_inferences.result accepted c.in_ok-inferences.ensures.inferences c.len.ensures.len c.trim_inferences.ensures.trims c.trim_inferences.ensures.by_propagation in
-    if_ok (λ (log : Logged). TrimsWell formula placed log.steps) _ c.trim_inferences.result well (λ log w. subst (λ (ss : List Step). IsSublist (clauses_added log.steps) (clauses_added ss)) (steps_in-log 1 c.args.log.now.steps) w.sublist)
+    if_ok (λ (t : Trimming). TrimsWell formula placed t.log.steps) _ c.trim_inferences.result well (λ t w. subst (λ (ss : List Step). IsSublist (clauses_added t.log.steps) (clauses_added ss)) (steps_in-log 1 c.args.log.now.steps) w.sublist)
 
 pub returns-clause-fewer : goal.returns-clause-fewer
 returns-clause-fewer c =
@@ -82,7 +82,7 @@ returns-clause-fewer c =
     let placed = steps_of_log c.args.log.now.steps in
     let accepted = accepted_steps c.args.formula.now c.args.log.now.steps c.in_ok-inferences.ensures.accepted in
     let well = call_trims_well formula placed c.in_ok-inferences.inferences c.len.result c.trim_inferences.result accepted c.in_ok-inferences.ensures.inferences c.len.ensures.len c.trim_inferences.ensures.trims c.trim_inferences.ensures.by_propagation in
-    if_ok (λ (log : Logged). TrimsWell formula placed log.steps) _ c.trim_inferences.result well (λ log w. subst (λ (ss : List Step). length log.steps ≤ count_by is_addition ss) (steps_in-log 1 c.args.log.now.steps) w.fewer)
+    if_ok (λ (t : Trimming). TrimsWell formula placed t.log.steps) _ c.trim_inferences.result well (λ t w. subst (λ (ss : List Step). length t.log.steps ≤ count_by is_addition ss) (steps_in-log 1 c.args.log.now.steps) w.fewer)
 
 pub returns-clause-used : goal.returns-clause-used
 returns-clause-used c =
@@ -90,7 +90,7 @@ returns-clause-used c =
     let placed = steps_of_log c.args.log.now.steps in
     let accepted = accepted_steps c.args.formula.now c.args.log.now.steps c.in_ok-inferences.ensures.accepted in
     let well = call_trims_well formula placed c.in_ok-inferences.inferences c.len.result c.trim_inferences.result accepted c.in_ok-inferences.ensures.inferences c.len.ensures.len c.trim_inferences.ensures.trims c.trim_inferences.ensures.by_propagation in
-    if_ok (λ (log : Logged). TrimsWell formula placed log.steps) _ c.trim_inferences.result well (λ log w. w.used)
+    if_ok (λ (t : Trimming). TrimsWell formula placed t.log.steps) _ c.trim_inferences.result well (λ t w. w.used)
 
 pub returns-clause-empty : goal.returns-clause-empty
 returns-clause-empty c =
@@ -98,7 +98,7 @@ returns-clause-empty c =
     let placed = steps_of_log c.args.log.now.steps in
     let accepted = accepted_steps c.args.formula.now c.args.log.now.steps c.in_ok-inferences.ensures.accepted in
     let well = call_trims_well formula placed c.in_ok-inferences.inferences c.len.result c.trim_inferences.result accepted c.in_ok-inferences.ensures.inferences c.len.ensures.len c.trim_inferences.ensures.trims c.trim_inferences.ensures.by_propagation in
-    if_ok (λ (log : Logged). TrimsWell formula placed log.steps) _ c.trim_inferences.result well (λ log w. w.well.ends_empty)
+    if_ok (λ (t : Trimming). TrimsWell formula placed t.log.steps) _ c.trim_inferences.result well (λ t w. w.well.ends_empty)
 
 pub returns-clause-accepted : goal.returns-clause-accepted
 returns-clause-accepted c = on_ok_any _ c.trim_inferences.result (log_accepted c.args.formula.now c.args.log.now.steps c.in_ok-inferences.ensures.accepted)
@@ -122,4 +122,4 @@ returns-clause-again c =
     let placed = steps_of_log c.args.log.now.steps in
     let accepted = accepted_steps c.args.formula.now c.args.log.now.steps c.in_ok-inferences.ensures.accepted in
     let well = call_trims_well formula placed c.in_ok-inferences.inferences c.len.result c.trim_inferences.result accepted c.in_ok-inferences.ensures.inferences c.len.ensures.len c.trim_inferences.ensures.trims c.trim_inferences.ensures.by_propagation in
-    if_ok (λ (log : Logged). TrimsWell formula placed log.steps) _ c.trim_inferences.result well (λ log w. w.again)
+    if_ok (λ (t : Trimming). TrimsWell formula placed t.log.steps) _ c.trim_inferences.result well (λ t w. w.again)

@@ -1,6 +1,7 @@
 use Rattle.std.proofs.Common.{List, sym, ◌∙◌, subst}
 use Rattle.std.specs.Prelude.{OnOk}
-use Rattle.lls_prooflog.specs.Log.{Logged, read_lines}
+use Rattle.lls_prooflog.specs.Log.{read_lines}
+use Rattle.lls_trim.specs.declared.trimming.Trimming.{Trimming}
 use Rattle.lls_trim.specs.Placed.{steps_of_text}
 use Rattle.lls_trim.specs.Inferences.{Inference, inferences_of}
 use Rattle.lls_trim.specs.Needed.{NeedsNoRat}
@@ -44,7 +45,7 @@ returns-clause-accepted_again c =
     let placed = steps_of_text c.args.text.now in
     let accepted = accepted_readings c.args.formula.now (read_lines c.args.text.now) (sym (verdict_of-lines c.args.formula.now c.args.text.now) ∙ c.in_ok-inferences.ensures.accepted) in
     let well = call_trims_well formula placed c.in_ok-inferences.inferences c.len.result c.trim_inferences.result accepted c.in_ok-inferences.ensures.inferences c.len.ensures.len c.trim_inferences.ensures.trims c.trim_inferences.ensures.by_propagation in
-    if_ok (λ (log : Logged). TrimsWell formula placed log.steps) _ c.trim_inferences.result well (λ log w. w.well.accepted)
+    if_ok (λ (t : Trimming). TrimsWell formula placed t.log.steps) _ c.trim_inferences.result well (λ t w. w.well.accepted)
 
 pub returns-clause-additions : goal.returns-clause-additions
 returns-clause-additions c =
@@ -52,7 +53,7 @@ returns-clause-additions c =
     let placed = steps_of_text c.args.text.now in
     let accepted = accepted_readings c.args.formula.now (read_lines c.args.text.now) (sym (verdict_of-lines c.args.formula.now c.args.text.now) ∙ c.in_ok-inferences.ensures.accepted) in
     let well = call_trims_well formula placed c.in_ok-inferences.inferences c.len.result c.trim_inferences.result accepted c.in_ok-inferences.ensures.inferences c.len.ensures.len c.trim_inferences.ensures.trims c.trim_inferences.ensures.by_propagation in
-    if_ok (λ (log : Logged). TrimsWell formula placed log.steps) _ c.trim_inferences.result well (λ log w. w.well.additions)
+    if_ok (λ (t : Trimming). TrimsWell formula placed t.log.steps) _ c.trim_inferences.result well (λ t w. w.well.additions)
 
 pub returns-clause-good : goal.returns-clause-good
 returns-clause-good c =
@@ -60,7 +61,7 @@ returns-clause-good c =
     let placed = steps_of_text c.args.text.now in
     let accepted = accepted_readings c.args.formula.now (read_lines c.args.text.now) (sym (verdict_of-lines c.args.formula.now c.args.text.now) ∙ c.in_ok-inferences.ensures.accepted) in
     let well = call_trims_well formula placed c.in_ok-inferences.inferences c.len.result c.trim_inferences.result accepted c.in_ok-inferences.ensures.inferences c.len.ensures.len c.trim_inferences.ensures.trims c.trim_inferences.ensures.by_propagation in
-    if_ok (λ (log : Logged). TrimsWell formula placed log.steps) _ c.trim_inferences.result well (λ log w. w.well.good)
+    if_ok (λ (t : Trimming). TrimsWell formula placed t.log.steps) _ c.trim_inferences.result well (λ t w. w.well.good)
 
 pub returns-clause-sublist : goal.returns-clause-sublist
 returns-clause-sublist c =
@@ -68,7 +69,7 @@ returns-clause-sublist c =
     let placed = steps_of_text c.args.text.now in
     let accepted = accepted_readings c.args.formula.now (read_lines c.args.text.now) (sym (verdict_of-lines c.args.formula.now c.args.text.now) ∙ c.in_ok-inferences.ensures.accepted) in
     let well = call_trims_well formula placed c.in_ok-inferences.inferences c.len.result c.trim_inferences.result accepted c.in_ok-inferences.ensures.inferences c.len.ensures.len c.trim_inferences.ensures.trims c.trim_inferences.ensures.by_propagation in
-    if_ok (λ (log : Logged). TrimsWell formula placed log.steps) _ c.trim_inferences.result well (λ log w. w.sublist)
+    if_ok (λ (t : Trimming). TrimsWell formula placed t.log.steps) _ c.trim_inferences.result well (λ t w. w.sublist)
 
 pub returns-clause-used : goal.returns-clause-used
 returns-clause-used c =
@@ -76,7 +77,7 @@ returns-clause-used c =
     let placed = steps_of_text c.args.text.now in
     let accepted = accepted_readings c.args.formula.now (read_lines c.args.text.now) (sym (verdict_of-lines c.args.formula.now c.args.text.now) ∙ c.in_ok-inferences.ensures.accepted) in
     let well = call_trims_well formula placed c.in_ok-inferences.inferences c.len.result c.trim_inferences.result accepted c.in_ok-inferences.ensures.inferences c.len.ensures.len c.trim_inferences.ensures.trims c.trim_inferences.ensures.by_propagation in
-    if_ok (λ (log : Logged). TrimsWell formula placed log.steps) _ c.trim_inferences.result well (λ log w. w.used)
+    if_ok (λ (t : Trimming). TrimsWell formula placed t.log.steps) _ c.trim_inferences.result well (λ t w. w.used)
 
 pub returns-clause-empty : goal.returns-clause-empty
 returns-clause-empty c =
@@ -84,7 +85,7 @@ returns-clause-empty c =
     let placed = steps_of_text c.args.text.now in
     let accepted = accepted_readings c.args.formula.now (read_lines c.args.text.now) (sym (verdict_of-lines c.args.formula.now c.args.text.now) ∙ c.in_ok-inferences.ensures.accepted) in
     let well = call_trims_well formula placed c.in_ok-inferences.inferences c.len.result c.trim_inferences.result accepted c.in_ok-inferences.ensures.inferences c.len.ensures.len c.trim_inferences.ensures.trims c.trim_inferences.ensures.by_propagation in
-    if_ok (λ (log : Logged). TrimsWell formula placed log.steps) _ c.trim_inferences.result well (λ log w. w.well.ends_empty)
+    if_ok (λ (t : Trimming). TrimsWell formula placed t.log.steps) _ c.trim_inferences.result well (λ t w. w.well.ends_empty)
 
 pub returns-clause-again : goal.returns-clause-again
 returns-clause-again c =
@@ -92,4 +93,4 @@ returns-clause-again c =
     let placed = steps_of_text c.args.text.now in
     let accepted = accepted_readings c.args.formula.now (read_lines c.args.text.now) (sym (verdict_of-lines c.args.formula.now c.args.text.now) ∙ c.in_ok-inferences.ensures.accepted) in
     let well = call_trims_well formula placed c.in_ok-inferences.inferences c.len.result c.trim_inferences.result accepted c.in_ok-inferences.ensures.inferences c.len.ensures.len c.trim_inferences.ensures.trims c.trim_inferences.ensures.by_propagation in
-    if_ok (λ (log : Logged). TrimsWell formula placed log.steps) _ c.trim_inferences.result well (λ log w. w.again)
+    if_ok (λ (t : Trimming). TrimsWell formula placed t.log.steps) _ c.trim_inferences.result well (λ t w. w.again)
