@@ -15,7 +15,7 @@ use Rattle.lls_lrat.specs.declared.error.CheckError.{CheckError}
 use Rattle.lls_lrat.specs.declared.error.CheckError.TheVariants as errors
 use Rattle.lls_lrat.specs.Verdict.{Verdict, Accepted, BadLine, BadStep, NoEmpty, State, start, after_step, line_taken, take_line, step_taken, take_step, closing, verdict, log_verdict, answer_of}
 use Rattle.lls_lrat.proofs.Verdicts.{fold-ended}
-use Rattle.lls_trim.specs.Placed.{Placed, placed_from, steps_of_log}
+use Rattle.lls_trim.specs.Placed.{Placed, placed_from, steps_of_text, steps_of_log}
 use Rattle.lls_trim.specs.Inferences.{Before, behind, inference_at, put_step, inferences_from, inferences_of}
 use Rattle.lls_trim.specs.Recording.{Recording, begun, before, with_step, unless_fault, step_recorded, reading_recorded, take_reading, reading_taken, state_at, verdict_of, GoesOn}
 use Rattle.lls_trim.proofs.Founded.{steps_in}
@@ -87,8 +87,12 @@ accepted_from (Ok None ∷ rest) live lines line e = accepted_from rest live (li
 accepted_from (Ok (Some step) ∷ rest) live lines line e =
     accepted_step live lines step rest (are_accepted (after live step) (steps_in (placed_from (line + 1) rest))) (fault_of live step) e (λ h. accepted_from rest (after live step) (lines + 1) (line + 1) h)
 
-pub accepted_readings : (formula : Cnf) (readings : List Reading) → verdict_of formula readings ≡ Accepted → are_accepted (numbered formula.clauses) (steps_in (placed_from 1 readings)) ≡ true
+accepted_readings : (formula : Cnf) (readings : List Reading) → verdict_of formula readings ≡ Accepted → are_accepted (numbered formula.clauses) (steps_in (placed_from 1 readings)) ≡ true
 accepted_readings formula readings e = accepted_from readings (numbered formula.clauses) 0 1 e
+
+-- a text that is accepted has accepted steps
+pub accepted_text : (formula : Cnf) (text : List ℕ) → verdict formula text ≡ Accepted → are_accepted (numbered formula.clauses) (steps_in (steps_of_text text)) ≡ true
+accepted_text formula text e = accepted_readings formula (read_lines text) (sym (verdict_of-lines formula text) ∙ e)
 
 -- at the start
 pub goes_on-start : (formula : Cnf) (readings : List Reading) (r : Recording) → r ≡ begun formula → GoesOn formula readings r 0 readings

@@ -51,28 +51,45 @@ again_kept formula marks inferences m closed founded ends accepted =
       steps_are = steps_again given marks inferences m ordered closed ∙ ap (renumbered given (all_set (length new))) (sym same);
     }
 
--- what holds of the needed additions of an accepted proof, where each is by unit propagation
-pub record TrimsWell (formula : Cnf) (placed : Placed) (steps : List Step) : Type 0 where
-  pub well : KeepsWell (log_start formula) steps
-  pub used : AreUsed steps
-  pub sublist : IsSublist (clauses_added steps) (clauses_added (steps_in placed))
-  pub fewer : length steps ≤ count_by is_addition (steps_in placed)
-  pub again : IsTrimmed formula (steps_of_log steps) steps
+-- what holds of a trim of an accepted proof, where each needed addition is by unit propagation
+pub record TrimsWell (formula : Cnf) (placed : Placed) (trimming : Trimming) : Type 0 where
+  pub well : KeepsWell (log_start formula) trimming.log.steps
+  pub used : AreUsed trimming.log.steps
+  pub sublist : IsSublist (clauses_added trimming.log.steps) (clauses_added (steps_in placed))
+  pub fewer : length trimming.log.steps ≤ count_by is_addition (steps_in placed)
+  pub within : length trimming.log.steps ≤ trimming.additions
+  pub again : IsTrimmed formula (steps_of_log trimming.log.steps) trimming.log.steps
 
-pub trims_well : (formula : Cnf) (placed : Placed) (steps : List Step) → are_accepted (numbered formula.clauses) (steps_in placed) ≡ true → IsTrimmed formula placed steps → NeedsNoRat (inferences_of formula placed) → TrimsWell formula placed steps
-trims_well formula placed steps accepted t none =
-    let inferences = inferences_of formula placed in
-    let proof = is_proof formula placed accepted in
-    let closed = closed_at inferences t.marks t.marked none in
-    let ended = λ (k : ℕ) (e : k + 1 ≡ length inferences). (t.marked.needed k).1 (last k e) in
-    let well = kept_well formula.clauses t.marks inferences t.marked.as_many closed ended inferences [] (log_start formula) refl (kept-start formula.clauses t.marks) proof.founded proof.ends in
-    rw t.steps_are (record {
-      well = well;
-      again = again_kept formula t.marks inferences t.marked closed proof.founded proof.ends well.accepted;
-      used = are_used (length formula.clauses) t.marks inferences t.marked (ordered_founded formula.clauses inferences proof.founded);
-      sublist = kept_sublist (length formula.clauses) t.marks placed (at_start formula) 0;
-      fewer = omega (arith, length-renumbered-le (length formula.clauses) t.marks inferences, inferences_fewer placed (at_start formula));
-    })
+module _ (formula : Cnf) (placed : Placed) (accepted : are_accepted (numbered formula.clauses) (steps_in placed) ≡ true) where
+  trims_well : (trimming : Trimming) → IsTrimmed formula placed trimming.log.steps → trimming.additions ≡ length (inferences_of formula placed) → NeedsNoRat (inferences_of formula placed) → TrimsWell formula placed trimming
+  trims_well trimming t additions none =
+      let inferences = inferences_of formula placed in
+      let proof = is_proof formula placed accepted in
+      let closed = closed_at inferences t.marks t.marked none in
+      let ended = λ (k : ℕ) (e : k + 1 ≡ length inferences). (t.marked.needed k).1 (last k e) in
+      let well = kept_well formula.clauses t.marks inferences t.marked.as_many closed ended inferences [] (log_start formula) refl (kept-start formula.clauses t.marks) proof.founded proof.ends in
+      let few = length-renumbered-le (length formula.clauses) t.marks inferences in
+      rw t.steps_are (record {
+        well = well;
+        again = again_kept formula t.marks inferences t.marked closed proof.founded proof.ends well.accepted;
+        used = are_used (length formula.clauses) t.marks inferences t.marked (ordered_founded formula.clauses inferences proof.founded);
+        sublist = kept_sublist (length formula.clauses) t.marks placed (at_start formula) 0;
+        fewer = omega (arith, few, inferences_fewer placed (at_start formula));
+        within = omega (arith, few, additions);
+      })
+
+  by_result : {E : Type 0} (r : Result Trimming E) → IfOk r (λ t. IsTrimmed formula placed t.log.steps) → IfOk r (λ t. t.additions ≡ length (inferences_of formula placed)) → OnOk r (NeedsNoRat (inferences_of formula placed)) → IfOk r (TrimsWell formula placed)
+  by_result (Ok trimming) t additions none = trims_well trimming t additions none
+  by_result (Err e) t additions none = tt
+
+  -- a call that was given the additions, and so many clauses, trims well
+  pub call_trims_well : {E : Type 0} (inferences : List Inference) (given : ℕ) (r : Result Trimming E) → inferences ≡ inferences_of formula placed → given ≡ length formula.clauses
+      → IfOk r (λ t. Trims given inferences t.log.steps) → IfOk r (λ t. t.additions ≡ length inferences) → OnOk r (NeedsNoRat inferences) → IfOk r (TrimsWell formula placed)
+  call_trims_well inferences given r same len trims additions none =
+      by_result r
+      (subst (λ (is : List Inference). IfOk r (λ t. Trims (length formula.clauses) is t.log.steps)) same (subst (λ (n : ℕ). IfOk r (λ t. Trims n inferences t.log.steps)) len trims))
+      (subst (λ (is : List Inference). IfOk r (λ t. t.additions ≡ length is)) same additions)
+      (subst (λ (is : List Inference). OnOk r (NeedsNoRat is)) same none)
 
 -- a value that is Ok has what follows from what it has
 pub if_ok : {X E : Type 0} (P Q : X → Type 0) (r : Result X E) → IfOk r P → ((x : X) → P x → Q x) → IfOk r Q
@@ -89,19 +106,6 @@ not_refused r (checks.Line line f) v accepted gives answer was is fault e = let 
 not_refused r (checks.Step line f) v accepted gives answer was is fault e = let clash : Ok tt ≡ Err (checks.Step line f) = sym (ap answer_of accepted) ∙ gives (λ h. cc) in cc
 not_refused r checks.NoEmpty v accepted gives answer was is fault e = let clash : Ok tt ≡ Err checks.NoEmpty = sym (ap answer_of accepted) ∙ gives (λ h. cc) in cc
 not_refused r checks.Memory v accepted gives answer was is fault e = let clash : Memory ≡ Refused fault = cc in cc
-
--- where a call trimmed as it is defined, and no needed addition is otherwise than by unit propagation, all of this holds
-pub trims_well_if_ok : {E : Type 0} (formula : Cnf) (placed : Placed) (r : Result Trimming E) → are_accepted (numbered formula.clauses) (steps_in placed) ≡ true → IfOk r (λ t. IsTrimmed formula placed t.log.steps) → OnOk r (NeedsNoRat (inferences_of formula placed)) → IfOk r (λ t. TrimsWell formula placed t.log.steps)
-trims_well_if_ok formula placed (Ok x) accepted t none = trims_well formula placed x.log.steps accepted t none
-trims_well_if_ok formula placed (Err e) accepted t none = tt
-
--- the same of a call that was given the additions
-pub call_trims_well : {E : Type 0} (formula : Cnf) (placed : Placed) (inferences : List Inference) (given : ℕ) (r : Result Trimming E) → are_accepted (numbered formula.clauses) (steps_in placed) ≡ true → inferences ≡ inferences_of formula placed → given ≡ length formula.clauses
-    → IfOk r (λ t. Trims given inferences t.log.steps) → OnOk r (NeedsNoRat inferences) → IfOk r (λ t. TrimsWell formula placed t.log.steps)
-call_trims_well formula placed inferences given r accepted same len trims none =
-    trims_well_if_ok formula placed r accepted
-    (subst (λ (is : List Inference). IfOk r (λ t. Trims (length formula.clauses) is t.log.steps)) same (subst (λ (n : ℕ). IfOk r (λ t. Trims n inferences t.log.steps)) len trims))
-    (subst (λ (is : List Inference). OnOk r (NeedsNoRat is)) same none)
 
 -- hints that lead to a conflict have a shortest beginning that does
 abbrev front_or : {X : Type 0} → Bool → Option (List X) → Option (List X)

@@ -24,7 +24,6 @@ pub(crate) fn trim_inferences(
     requires given { AreGivenWithin given inferences.now }
     ensures trims { IfOk result (λ trimming. Trims given inferences.now trimming.log.steps) }
     ensures additions { IfOk result (λ trimming. trimming.additions ≡ length inferences.now) }
-    ensures fewer { IfOk result (λ trimming. length trimming.log.steps ≤ trimming.additions) }
     ensures by_propagation { OnOk result (NeedsNoRat inferences.now) }
     ensures rat { (line : ℕ) → result ≡ Err (TrimError.RatStep line) → IsFirstRat inferences.now line }
     ensures not_refused { (error : CheckError) → result ≢ Err (TrimError.Refused error) }
