@@ -1,51 +1,60 @@
-// Proofs over the clauses 1 2, 1 -2, -1 2 and -1 -2, and what is left of them once they are trimmed, worked by hand.
+// Proofs over the clauses 1 2, 1 -2, -1 2 and -1 -2, with the number of their additions and what is left of them once they are trimmed,
+// worked by hand.
 use crate::lrat::{formula_of, literals};
 use lls_lrat::check;
 use lls_prooflog::{Hints, Lits, Log, Step, print_log};
-use lls_trim::{TrimError, trim, trim_bytes};
+use lls_trim::{TrimError, Trimming, trim, trim_bytes};
 use std::alloc::Global;
 use std::process::Abort;
 use std::test::Fail;
 
 const CLAUSES: [&[i32]; 4] = [&[1, 2], &[1, -2], &[-1, 2], &[-1, -2]];
 
-const KEPT: [(&str, &str); 8] = [
+const KEPT: [(&str, usize, &str); 8] = [
     (
         "5 2 0 1 3 0\n6 1 0 1 2 0\n7 d 5 0\n8 0 6 3 4 0",
+        3,
         "5 1 0 1 2 0\n6 0 5 3 4 0\n",
     ),
     // An addition by its pivot that isn't needed.
     (
         "5 3 0 0\n6 1 0 1 2 0\n7 0 6 3 4 0",
+        3,
         "5 1 0 1 2 0\n6 0 5 3 4 0\n",
     ),
     // An id that is given again names the later addition.
     (
         "5 2 0 1 3 0\n6 d 5 0\n5 1 0 1 2 0\n6 0 5 3 4 0",
+        3,
         "5 1 0 1 2 0\n6 0 5 3 4 0\n",
     ),
     (
         "5 1 0 1 2 0\n6 2 0 5 3 0\n0 d 5 0\n5 0 6 2 4 0",
+        3,
         "5 1 0 1 2 0\n6 2 0 5 3 0\n7 0 6 2 4 0\n",
     ),
     // Hints behind the one that closes aren't looked at.
     (
         "5 2 0 1 3 0\n6 1 0 1 2 5 0\n7 0 6 3 4 5 0",
+        3,
         "5 1 0 1 2 0\n6 0 5 3 4 0\n",
     ),
     // The id of a clause of the formula, which was deleted, names the addition that has it.
     (
         "5 1 0 1 2 0\n5 d 1 0\n1 2 0 5 3 0\n6 0 1 2 4 0",
+        3,
         "5 1 0 1 2 0\n6 2 0 5 3 0\n7 0 6 2 4 0\n",
     ),
     // What stands behind the empty clause isn't looked at.
     (
-        "90 1 0 1 2 0\n50 0 90 3 4 0\nrubbish",
+        "90 1 0 1 2 0\n50 0 90 3 4 0\n60 1 0 1 2 0\nrubbish",
+        2,
         "5 1 0 1 2 0\n6 0 5 3 4 0\n",
     ),
     // A clause that is added twice, and needed once.
     (
         "5 1 0 1 2 0\n6 1 0 1 2 0\n7 0 6 3 4 0",
+        3,
         "5 1 0 1 2 0\n6 0 5 3 4 0\n",
     ),
 ];
@@ -69,9 +78,9 @@ const REFUSED: [(&str, &str); 8] = [
     ("5 3 0 0\n6 4 0 0\n7 1 0 6 1 2 0\n8 0 7 3 4 0", "RatStep 2"),
 ];
 
-fn outcome(alloc: Global, found: Result<Log, TrimError>) -> Result<Vec<u8>, Fail> {
+fn outcome(alloc: Global, found: Result<Trimming, TrimError>) -> Result<Vec<u8>, Fail> {
     match found {
-        Ok(log) => Ok(print_log(alloc, &log)?),
+        Ok(trimming) => Ok(print_log(alloc, &trimming.log)?),
         Err(error) => {
             let text = format!(in alloc; "{error}")?;
             Ok(Vec::from_slice(alloc, text.as_bytes())?)
@@ -82,14 +91,15 @@ fn outcome(alloc: Global, found: Result<Log, TrimError>) -> Result<Vec<u8>, Fail
 #[test]
 fn needed_additions_are_kept(rt: HostRuntime) -> Result<(), Fail> {
     let formula = formula_of(&rt, rt.alloc(), &CLAUSES)?;
-    for (text, want) in KEPT {
-        let Ok(log) = trim_bytes(rt.alloc(), &formula, text.as_bytes()) else {
+    for (text, additions, want) in KEPT {
+        let Ok(trimming) = trim_bytes(rt.alloc(), &formula, text.as_bytes()) else {
             return Err("trimmed")?;
         };
-        let printed = print_log(rt.alloc(), &log)?;
+        assert_eq!(rt; trimming.additions, additions, "given {text:?}");
+        let printed = print_log(rt.alloc(), &trimming.log)?;
         assert_eq!(rt; printed.as_slice(), want.as_bytes(), "at {text:?}");
-        assert!(rt; check(rt.alloc(), &formula, &log).is_ok());
-        let again = outcome(rt.alloc(), trim(rt.alloc(), &formula, &log))?;
+        assert!(rt; check(rt.alloc(), &formula, &trimming.log).is_ok());
+        let again = outcome(rt.alloc(), trim(rt.alloc(), &formula, &trimming.log))?;
         assert_eq!(rt; again.as_slice(), want.as_bytes(), "again {text:?}");
     }
     Ok(())
