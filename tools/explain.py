@@ -18,7 +18,7 @@ import ending
 import words as spoken
 
 WRAPPER = ("help", "posed", "quiet", "unproved", "version")
-LABELS = {"text": "RULE"}
+LABELS = {"text": "RULE", "output": "OUT"}
 # what the values may be that aren't one of a few
 A_RULE = "a rule is written as B3/S23, 23/3 or B2-a/S12"
 MEANINGS = {
@@ -208,7 +208,8 @@ def bad_rule(line, fault, place, column):
 
 def same_name(line, place):
     does = "writes both" if line.command == "make" else "reads"
-    return f"{shown(line.word(place))} is the file that {line.command} {does}: the proof needs another name"
+    written = "the trimmed proof" if line.command == "trim" else "the proof"
+    return f"{shown(line.word(place))} is the file that {line.command} {does}: {written} needs another name"
 
 
 def neighbourhood(nine):
@@ -311,7 +312,7 @@ def other_kind(line, kind, name):
     if found == "rows":
         then = ", which are read without --as rle" if is_rle else ", and cnf prints the formula of such a search file"
     elif found == "formula":
-        then = ", which sat and lrat read"
+        then = ", which sat, lrat and trim read"
     elif found == "proof":
         then = "; are the two files exchanged?"
     elif kind == "search":

@@ -7,6 +7,7 @@ Refused are each allocation, opening, read and write, one a run; and in other ru
 tools/failing.c, which a C compiler makes into a library, stands between the program and the C library. Then the program ends
 
 - with 5, `lls: memory`, nothing on the standard output and all files as before, but the search file of `make`, which may stand whole;
+- or, where memory lacks to trim the proof of a search, as it ends where nothing fails, with the whole log in the proof's place;
 - or with 4 and the call that failed: the inputs are as before, an output stands for first bytes of its text, and is whole where the
   standard output failed, which has first bytes of its own;
 - or as it ends where nothing fails, where the call that failed was of no matter, as a write to the standard error.
@@ -33,6 +34,10 @@ SAID = {
 CELL = "1\n\n1\n"
 BLOCK = "* *\n* *\n\n* *\n* *\n"
 FOUR = "p cnf 2 4\n1 2 0\n1 -2 0\n-1 2 0\n-1 -2 0\n"
+# The same behind two clauses of other variables, from which the search learns first: its log, and what is left of that when it is trimmed.
+APART = "p cnf 4 6\n1 2 0\n1 -2 0\n3 4 0\n3 -4 0\n-3 4 0\n-3 -4 0\n"
+LOG = "7 1 0 2 1 0\n8 3 0 4 3 0\n9 0 8 6 5 0\n"
+TRIMMED = "7 3 0 4 3 0\n8 0 7 6 5 0\n"
 # Words, the files f and p, the status and the two streams where nothing fails: worked out by hand. None stands for no such file.
 ROWS = (
     ("check f p", CELL, "5 0 1 2 4 0\n", 0, "accepted\n", ""),
@@ -41,11 +46,13 @@ ROWS = (
     ("check f", None, None, 2, "", "lls: words: Operands 2 1\n"),
     ("search f q --budget 0", CELL, None, 20, "no pattern\n", ""),
     ("search f q --period 1 --live 0:1-", BLOCK, None, 10, "1 1\n1 1\n\n1 1\n1 1\n", ""),
-    ("sat f q --budget 10 --keep all", FOUR, None, 20, "s UNSATISFIABLE\n", ""),
+    ("sat f q --budget 10 --keep all", APART, None, 20, "s UNSATISFIABLE\n", ""),
     ("sat f q --budget 0", FOUR, None, 30, "s UNKNOWN\n", ""),
     ("judge f p", "1\n", "1\n", 0, "meets\n", ""),
     ("cnf f", "1\n", None, 0, "p cnf 1 1\n1 0\n", ""),
     ("lrat f p", "p cnf 1 2\n1 0\n-1 0\n", "3 0 1 2 0\n", 0, "accepted\n", ""),
+    ("trim f p q", APART, LOG, 0, "kept 2 of 3\n", ""),
+    ("trim f p q", FOUR, "5 3 0 0\n6 1 0 5 1 2 0\n7 0 6 3 4 0\n", 1, "refused: RatStep 1\n", ""),
     ("rule B3/S23", None, None, 0, "B3/S23\n", ""),
     ("make 0 1 s q", None, None, 10, "size 1\nknown 1\nlive 0 0\nvariables 2\nclauses 4\nanswer pattern\n", ""),
 )
@@ -106,6 +113,12 @@ def is_same(run, whole, may_say_less=False):
     return said and (run.status, run.out, run.files) == (whole.status, whole.out, whole.files)
 
 
+def keeps_log(row, run, whole):
+    """Whether a search ended as where nothing fails, but with the whole log in place of the trimmed proof."""
+    has_log = row[0].startswith("sat ") and row[1] == APART and run.files.get("q") == LOG
+    return has_log and is_same(Run(run.status, run.out, run.err, {**run.files, "q": TRIMMED}), whole)
+
+
 def lacks_memory(row, run, whole):
     ahead = {"s": whole.files["s"]} if "s" in whole.files and "s" in run.files else {}
     return (run.out, run.err, run.files) == ("", "lls: memory\n", {**inputs_of(row), **ahead})
@@ -124,7 +137,7 @@ def fails_outside(row, run, whole):
 
 def is_right(row, kind, run, whole):
     """Whether a run may end so where a call of this kind failed."""
-    if is_same(run, whole, kind == "WRITE"):
+    if is_same(run, whole, kind == "WRITE") or kind == "ALLOCATION" and keeps_log(row, run, whole):
         return True
     if not run.err.endswith("\n") or run.err[:-1] not in SAID[kind]:
         return False
@@ -135,7 +148,7 @@ def tried(room, row):
     """Tries a row with each call failing. Returns how many runs ended with each status, and those that ended wrongly."""
     ended, wrong = {}, []
     whole, counts = room.run(row)
-    if (whole.status, whole.out, whole.err) != row[3:]:
+    if (whole.status, whole.out, whole.err) != row[3:] or row[1] == APART and whole.files.get("q") != TRIMMED:
         wrong.append(f"{row[0]}: {whole}")
     for kind in KINDS:
         for number in range(1, counts[kind] + 1):
@@ -165,7 +178,7 @@ def main():
     for line in wrong:
         print(f"failing.py: {line}", file=sys.stderr)
     # Each kind of failure is met, or nothing was tried.
-    met = {("ALLOCATION", 5), ("OPEN", 4), ("READ", 4), ("WRITE", 4)} <= ended.keys()
+    met = {("ALLOCATION", 5), ("ALLOCATION", 20), ("OPEN", 4), ("READ", 4), ("WRITE", 4)} <= ended.keys()
     return 0 if met and not wrong else 1
 
 

@@ -11,6 +11,7 @@ import string
 import ending
 
 CELL = "1\n\n1\n"
+TWO = "p cnf 1 2\n-1 0\n1 0\n"
 
 
 def names():
@@ -37,6 +38,8 @@ INPUTS = (
     ("hints", lambda: "5 0" + " 1" * 32_000_000 + " 0\n", "check cell.lls hints"),
     ("digits", lambda: "5 0 " + "1" * 64_000_000 + "\n", "check cell.lls digits"),
     ("additions", lambda: "".join(f"{number} 1 0 1 0\n" for number in range(5, 4_000_005)), "check cell.lls additions"),
+    ("chain", lambda: "".join(f"{number} 1 0 {number - 1} 0\n" for number in range(3, 4_000_003)) + "4000003 0 4000002 1 0\n", "trim two.cnf chain out"),
+    ("looked", lambda: "3 0" + " 2" * 32_000_000 + " 1 0\n", "trim two.cnf looked out"),
     ("variables.cnf", lambda: "p cnf 16777216 0\n", "sat variables.cnf proof"),
     ("empty.cnf", lambda: "p cnf 1 32000000\n" + "0\n" * 32_000_000, "sat empty.cnf proof"),
     ("units.cnf", lambda: "p cnf 1 16000000\n" + "1 0\n" * 16_000_000, "sat units.cnf proof"),
@@ -50,7 +53,7 @@ INPUTS = (
 def main():
     (folder,) = ending.words(__doc__, "FOLDER")
     os.makedirs(folder, exist_ok=True)
-    for name, text, _ in (("cell.lls", lambda: CELL, None), *INPUTS):
+    for name, text, _ in (("cell.lls", lambda: CELL, None), ("two.cnf", lambda: TWO, None), *INPUTS):
         with open(f"{folder}/{name}", "w", encoding="ascii") as file:
             file.write(text())
     for _, _, words in INPUTS:

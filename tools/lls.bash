@@ -38,7 +38,7 @@ _lls_reply() {
 }
 
 _lls() {
-    local current=${COMP_WORDS[COMP_CWORD]} previous=${COMP_WORDS[COMP_CWORD - 1]} commands='check cnf judge least lrat make open opencheck rule sat search'
+    local current=${COMP_WORDS[COMP_CWORD]} previous=${COMP_WORDS[COMP_CWORD - 1]} commands='check cnf judge least lrat make open opencheck rule sat search trim'
     local first=1 words=()
     [ "${COMP_WORDS[1]-}" != --quiet ] || first=2
     [[ "${COMP_WORDS[first]-}" != --unproved && "${COMP_WORDS[first]-}" != --posed ]] || first=$((first + 1))

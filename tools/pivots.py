@@ -1,10 +1,12 @@
 #!/usr/bin/env python3
 """Writes small random formulas, each with a random proof that adds clauses by their pivots, and says what a checker has to answer.
 
-    pivots.py FOLDER COUNT SEED
+    pivots.py FOLDER COUNT SEED [--long]
 
-FOLDER gets the files N.cnf and N.lrat for N from 0 on. A line of the standard output has N and the answer. The rules are written here once
-more, from docs/definitions.md alone; they share nothing with the crates. Where a proof is accepted, all assignments are tried, and the script
+FOLDER gets the files N.cnf and N.lrat for N from 0 on. A line of the standard output has N and the answer. With --long a formula has each
+clause over three or four variables, so that a refutation takes several lines; most lines are by unit propagation then, few have a slip,
+and an id may be one that was taken out. The rules are written here once more, from docs/definitions.md alone; they share nothing with the
+crates. Where a proof is accepted, all assignments are tried, and the script
 ends with a failure if one satisfies the formula.
 """
 import itertools
@@ -179,6 +181,55 @@ def drawn_steps(draw, count, clauses):
     return steps
 
 
+def long_formula(draw):
+    """Every clause over some variables, in any order."""
+    count = draw.choice((3, 4))
+    clauses = [list(signs) for signs in itertools.product(*((v, -v) for v in range(1, count + 1)))]
+    draw.shuffle(clauses)
+    return count, clauses
+
+
+def long_addition(draw, count, live):
+    """A clause that the live ones refute or that may stand beside them, and its hints, or None; few of them are by a pivot."""
+    hints, _ = propagated(live, ())
+    if hints is not None:
+        return [], hints
+    clause = drawn_clause(draw, count, 1)
+    if draw.random() < 0.1:
+        clause = [draw.choice((1, -1)) * (count + 1)] + clause[:2]
+    hints, _ = propagated(live, clause)
+    if hints is None and draw.random() < 0.05:
+        hints = hints_for(live, clause)
+    return None if hints is None else (clause, hints)
+
+
+def long_steps(draw, count, clauses):
+    live, free, steps = dict(enumerate(clauses, 1)), [], []
+    for _ in range(200):
+        if draw.random() < 0.03:
+            steps.append([draw.choice(sorted(live))])
+            free += steps[-1]
+            live.pop(free[-1])
+            continue
+        clause, hints = long_addition(draw, count, live) or (None, None)
+        if clause is None:
+            continue
+        number = max(free + list(live)) + 1
+        if free and draw.random() < 0.3:
+            number = free.pop(draw.randrange(len(free)))
+        if draw.random() < 0.01:
+            hints = spoilt(draw, hints)
+        elif fault_of(live, number, clause, hints):
+            continue
+        steps.append((number, clause, hints))
+        live[number] = clause
+        count = max(map(abs, clause + [count]))
+        # Lines behind the first empty clause aren't looked at.
+        if not clause and draw.random() < 0.9:
+            break
+    return steps
+
+
 def text(step):
     if isinstance(step, list):
         return " ".join(map(str, ["1 d"] + step + [0]))
@@ -194,12 +245,17 @@ def is_satisfiable(count, clauses):
 
 
 def main():
-    folder, number, seed = ending.words(__doc__, "FOLDER", "COUNT", "SEED")
+    is_long = sys.argv[4:] == ["--long"]
+    folder, number, seed = ending.words(__doc__, "FOLDER", "COUNT", "SEED", *["--long"] * is_long)[:3]
     draw = random.Random(ending.number(seed, "SEED"))
     for n in range(ending.number(number, "COUNT")):
-        count = draw.randint(1, 6)
-        clauses = [drawn_clause(draw, count, 1) for _ in range(draw.randint(1, 5 * count))]
-        steps = drawn_steps(draw, count, clauses)
+        if is_long:
+            count, clauses = long_formula(draw)
+            steps = long_steps(draw, count, clauses)
+        else:
+            count = draw.randint(1, 6)
+            clauses = [drawn_clause(draw, count, 1) for _ in range(draw.randint(1, 5 * count))]
+            steps = drawn_steps(draw, count, clauses)
         said = answer(clauses, steps)
         if said == "accepted" and is_satisfiable(count, clauses):
             sys.exit(f"the rules accept a proof of a formula that can be satisfied: {clauses} {steps}")

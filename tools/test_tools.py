@@ -366,6 +366,7 @@ class Completion(unittest.TestCase):
         self.assertEqual(self.replies("check", "a.lls", "--symmetry", "D2"), ["D2-", "D2\\|", "D2\\\\", "D2/"])
         self.assertEqual(self.replies("check", "exa"), [])
         self.assertEqual(self.replies("op"), ["open", "opencheck"])
+        self.assertEqual(self.replies("tr"), ["trim"])
         self.assertEqual(self.replies("opencheck", "a.lls", "--h"), ["--high"])
         self.assertEqual(self.replies("opencheck", "a.lls", "--b"), [])
         self.assertEqual(self.replies("open", "a.lls", "--low", "B36"), ["B36/S23", "B368/S245"])

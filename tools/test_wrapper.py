@@ -33,9 +33,9 @@ exit "${ENDS-0}"
 WORDS = [
     ("serch q.lls p", "UnknownCommand", "no command 'serch'; is it search?"),
     ("SAT f p", "UnknownCommand", "no command 'SAT'; is it sat?"),
-    ("fly", "UnknownCommand", "no command 'fly'; one of check search judge cnf sat lrat rule make least open opencheck"),
-    ("q.lls p", "UnknownCommand", "'q.lls' stands where the command has to, which is one of check search judge cnf sat lrat rule make least open opencheck"),
-    ("--edge=open check q.lls p", "UnknownCommand", "'--edge=open' stands where the command has to, which is one of check search judge cnf sat lrat rule make least open opencheck"),
+    ("fly", "UnknownCommand", "no command 'fly'; one of check search judge cnf sat lrat rule make least open opencheck trim"),
+    ("q.lls p", "UnknownCommand", "'q.lls' stands where the command has to, which is one of check search judge cnf sat lrat rule make least open opencheck trim"),
+    ("--edge=open check q.lls p", "UnknownCommand", "'--edge=open' stands where the command has to, which is one of check search judge cnf sat lrat rule make least open opencheck trim"),
     ("check q.lls ''", "BadWord 3", "word 3 is empty"),
     ("check q.lls p -rule B3/S23", "BadWord 4", "'-rule' has one dash, and options have two; is it --rule?"),
     ("lrat f -", "BadWord 3", "'-' is no option; a file whose name begins with - is written ./-name"),
@@ -81,6 +81,8 @@ WORDS = [
     ("rule B3", "Stray 2 3", "the rule 'B3', column 3: something is missing at its end; a rule is written as B3/S23, 23/3 or B2-a/S12\n    B3\n      ^"),
     ("search q.lls q.lls", "SameName 3", "'q.lls' is the file that search reads: the proof needs another name"),
     ("least q.lls q.lls", "SameName 3", "'q.lls' is the file that least reads: the proof needs another name"),
+    ("trim f p p", "SameName 4", "'p' is the file that trim reads: the trimmed proof needs another name"),
+    ("trim f p", "Operands 3 2", "trim takes FORMULA PROOF OUT, and the words have 'f', 'p'"),
     ("open q.lls p --rule B3/S2", "UnknownOption 4", "open doesn't take --rule, which is for check, search, judge, cnf, least"),
     ("least q.lls p --low B3/S2", "UnknownOption 4", "least doesn't take --low, which is for open, opencheck"),
     ("open q.lls p --low= --high B3/S2", "MissingValue 4", "'--low=' has no value: a rule is written as B3/S23, 23/3 or B2-a/S12"),
@@ -155,7 +157,7 @@ CONTENT = [
         "content: BadCell 1 1",
         "picture.cells looks like plaintext (.cells), and a search file has rows of cells; tools/pose.py poses questions of pictures",
     ),
-    ("cnf f.cnf", "content: BadCell 2 7", "f.cnf looks like a formula in DIMACS CNF, which sat and lrat read"),
+    ("cnf f.cnf", "content: BadCell 2 7", "f.cnf looks like a formula in DIMACS CNF, which sat, lrat and trim read"),
     ("check f.lrat q.lls", "content: BadCell 1 1", "f.lrat looks like an LRAT proof; are the two files exchanged?"),
     ("judge q.lls glider.rle", "content: BadCell 2 3", "glider.rle looks like RLE, which is read with --as rle"),
     ("judge q.lls p --as rle", "content: NoHeader", "p looks like rows of cells, which are read without --as rle"),
@@ -210,6 +212,7 @@ CONTENT = [
     ("opencheck larger.lls p", "limit: TooManyCells 8256", "larger.lls has 8256 cells or more, and 8192 are the most"),
     ("open q.lls folder", "outside: CreateFailed", "'folder' is a folder"),
     ("search q.lls folder", "outside: CreateFailed", "'folder' is a folder"),
+    ("trim f.cnf f.lrat folder", "outside: CreateFailed", "'folder' is a folder"),
     ("search q.lls new", "outside: WriteFailed", "'new' could be written only in part: is the disk full?"),
     ("judge q.lls open.rle --as=rle", "content: NoEnd", "open.rle ends without the ! of a picture's end"),
     (
@@ -315,7 +318,7 @@ class Explanations(Case):
         self.assertEqual(self.lls("--quiet", *given, PATH=search_path), (2, b"", before + said))
 
     def test_no_words(self):
-        why = "the first word is the command, one of check search judge cnf sat lrat rule make least open opencheck; ./lls --help says what each does"
+        why = "the first word is the command, one of check search judge cnf sat lrat rule make least open opencheck trim; ./lls --help says what each does"
         self.assertEqual(explain.explanation(2, "lls: words: NoCommand", []), why)
 
     def test_usage(self):
@@ -340,7 +343,7 @@ class Explanations(Case):
     def test_words_that_are_no_text(self):
         said = "lls: words: UnknownCommand"
         found = self.lls(b"\xff\x1b[2J", SAYS=said, ENDS="2")
-        self.assertEqual(found[2], f"{said}\nlls: no command '??[2J'; one of check search judge cnf sat lrat rule make least open opencheck\n")
+        self.assertEqual(found[2], f"{said}\nlls: no command '??[2J'; one of check search judge cnf sat lrat rule make least open opencheck trim\n")
 
     def test_nothing_is_said_where_there_is_nothing_to_say(self):
         for said, status in [
@@ -523,6 +526,7 @@ class Terminal(Case):
                 ("cnf q.lls", ":", "what it printed may not be whole"),
                 ("search q.lls new", "echo 1 > new", "written to, and perhaps not whole: new"),
                 ("make 1 8 made.lls log", "echo 1 > made.lls", "written to, and perhaps not whole: made.lls"),
+                ("trim f.cnf f.lrat new", ":", "nothing was written to new"),
             ]
         ):
             self.program(f"#!/bin/bash\n{does}\ntouch ready{number}\nexec sleep 60\n")

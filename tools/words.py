@@ -35,9 +35,10 @@ COMMANDS = {
     "least": (["search", "proof"], FORMED + EFFORT + ["as"]),
     "open": (["search", "proof"], OPEN + EFFORT + ["as"]),
     "opencheck": (["search", "proof"], OPEN),
+    "trim": (["formula", "proof", "output"], []),
 }
 # the operands that are written, none of which may have the name of a file before it
-OUTPUTS = {"search": ["proof"], "sat": ["proof"], "make": ["search", "proof"], "least": ["proof"], "open": ["proof"]}
+OUTPUTS = {"search": ["proof"], "sat": ["proof"], "make": ["search", "proof"], "least": ["proof"], "open": ["proof"], "trim": ["output"]}
 # the options whose values are rule texts
 RULES = ("rule", "low", "high")
 LIFE = "B3/S23"

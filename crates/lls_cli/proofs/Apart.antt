@@ -85,6 +85,11 @@ apart_with commands.OpenCheck [] givens = tt
 apart_with commands.OpenCheck (a ∷ []) givens = tt
 apart_with commands.OpenCheck (a ∷ b ∷ []) givens = through (settled defaults givens) _ (λ s. through (checked_ends s.low s.high) _ (λ ends. tt))
 apart_with commands.OpenCheck (a ∷ b ∷ more ∷ rest) givens = tt
+apart_with commands.Trim [] givens = tt
+apart_with commands.Trim (a ∷ []) givens = tt
+apart_with commands.Trim (a ∷ b ∷ []) givens = tt
+apart_with commands.Trim (a ∷ b ∷ c ∷ []) givens = through (names_apart a c) _ (λ names. through (names_apart b c) _ (λ others. tt))
+apart_with commands.Trim (a ∷ b ∷ c ∷ more ∷ rest) givens = tt
 
 apart_command : (command : Option Command) (words : List (List ℕ)) → AreApart (job_of_command command words)
 apart_command None words = tt

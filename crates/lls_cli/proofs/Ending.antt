@@ -64,6 +64,7 @@ LeavesShelf-refl (jobs.Make seed size one two) shelf = tt
 LeavesShelf-refl (jobs.Least one two rule demands form budget keep_all rle) shelf = tt
 LeavesShelf-refl (jobs.Loose one two low high demands form budget keep_all rle) shelf = tt
 LeavesShelf-refl (jobs.LooseCheck one two low high demands form) shelf = tt
+LeavesShelf-refl (jobs.Trim one two three) shelf = tt
 
 -- want of memory while the words are read
 words_lack : (job : Result Job WordsError) (shelf : ShelfMoment) (out err_before err_after : SinkMoment) (status : Status) → shelf.faults < 2 ^ 64
@@ -184,6 +185,7 @@ leaves_both (jobs.Make seed size one two) question files before mid after asked 
 leaves_both (jobs.Least one two rule demands form budget keep_all rle) question files before mid after asked first second = tt
 leaves_both (jobs.Loose one two low high demands form budget keep_all rle) question files before mid after asked first second = tt
 leaves_both (jobs.LooseCheck one two low high demands form) question files before mid after asked first second = tt
+leaves_both (jobs.Trim one two three) question files before mid after asked first second = tt
 
 WroteFile-after : (file : Option AnswerFile) (before mid after : ShelfMoment) → KeepsFiles before mid → mid.faults ≡ before.faults → WroteFile file mid after → WroteFile file before after
 WroteFile-after None before mid after kept same wrote = record {
@@ -331,6 +333,7 @@ leaves_shelf (jobs.Make seed size one two) before after inputs = absurd inputs
 leaves_shelf (jobs.Least one two rule demands form budget keep_all rle) before after inputs = tt
 leaves_shelf (jobs.Loose one two low high demands form budget keep_all rle) before after inputs = tt
 leaves_shelf (jobs.LooseCheck one two low high demands form) before after inputs = tt
+leaves_shelf (jobs.Trim one two three) before after inputs = tt
 
 -- the inputs of a job came to an answer, and it was given
 pub read_answered : (job : Job) (answer : Answer) (before mid after : ShelfMoment) (out_before out_after err_before err_after : SinkMoment) (status : Status) → HasInputs job

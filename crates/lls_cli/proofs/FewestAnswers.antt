@@ -12,9 +12,8 @@ use Rattle.lls_problem.specs.Bounds.{grid_size}
 use Rattle.lls_problem.specs.Problem.{AreFitting}
 use Rattle.lls_problem.specs.Solution.{IsSolution}
 use Rattle.lls_problem.proofs.Plane.{plane_law}
-use Rattle.lls_lrat.specs.Verdict.{Accepted, verdict}
 use Rattle.lls_least.specs.Fewer.{live_cells, LeavesRoom}
-use Rattle.lls_least.specs.Least.{HasFewest, IsCertificate, IsProof}
+use Rattle.lls_least.specs.Least.{HasFewest, IsCertificate}
 use Rattle.lls_least.proofs.Made.{made-fewer}
 use Rattle.lls_least.proofs.Solutions.{live_cells-le}
 use Rattle.lls_cli.specs.Questions as questions
@@ -24,21 +23,11 @@ use Rattle.lls_cli.specs.declared.answer.Answer.{Answer}
 use Rattle.lls_cli.specs.declared.asked.Asked.{Asked}
 use Rattle.lls_cli.specs.declared.status.Status.TheVariants as statuses
 use Rattle.lls_cli.specs.Question.{formula_asked}
-use Rattle.lls_cli.specs.Evidence.{HasProof}
+use Rattle.lls_cli.specs.Evidence.{HasProof, IsEvidence}
 use Rattle.lls_cli.specs.Fewest.{asked_fewer, IsAbove, IsOfFewest, whole, below, least_text, at_most_text}
 use Rattle.lls_cli.specs.Answer.{IsAnswer, shown, shown_behind, said_behind, none_live, fewest, no_solution, at_most, unsettled}
 use Rattle.lls_cli.specs.Shown.{ShowsNone}
-use Rattle.lls_cli.proofs.Searches.{log_by, short_by}
-
--- the file of a proof
-proof_by : (formula : Cnf) (effort : Effort) (steps : List Step) (file : AnswerFile) → file ≡ record { name = effort.proof; bytes = log_text steps } → KeepsAll effort.keep_all steps
-    → IsProof formula effort.budget steps → verdict formula file.bytes ≡ Accepted → HasProof formula effort file
-proof_by formula effort steps file is kept proof accepted = record {
-  steps = steps;
-  log = record { file_is = is; all_kept = kept };
-  within = proof.within;
-  accepted = accepted;
-}
+use Rattle.lls_cli.proofs.Searches.{evidence_by, log_by, short_by}
 
 pub of_fewest : (asked : Asked) (history : History) → IsSolution asked.problem history → HasFewest asked.problem history → IsOfFewest asked history
 of_fewest asked history solution least = record { solution = solution; law = plane_law asked.problem history solution; least = least }
@@ -56,29 +45,26 @@ above asked history n kept fitting room solution live = record {
   posed = made-fewer asked.problem n kept fitting room (below_cells asked history n kept solution live);
 }
 
--- the certificate of a solution with live cells is a proof
-pub certified_by : (asked : Asked) (effort : Effort) (steps : List Step) (live n : ℕ) → live ≡ suc n → IsCertificate asked.problem asked.form effort.budget steps live
-    → IsProof (formula_asked (asked_fewer asked n)) effort.budget steps
-certified_by asked effort steps live n is certified = subst (IsCertificate asked.problem asked.form effort.budget steps) is certified
+-- the certificate of a solution with live cells is evidence
+pub certified_by : (asked : Asked) (effort : Effort) (steps : List Step) (live n : ℕ) → live ≡ suc n → KeepsAll effort.keep_all steps
+    → IsCertificate asked.problem asked.form effort.budget steps live → IsEvidence (formula_asked (asked_fewer asked n)) effort steps
+certified_by asked effort steps live n is kept certified =
+    evidence_by (formula_asked (asked_fewer asked n)) effort steps kept (subst (IsCertificate asked.problem asked.form effort.budget steps) is certified)
 
 pub none_live_answer : (asked : Asked) (effort : Effort) (rle : Bool) (history : History) (answer : Answer) → IsOfFewest asked history → live_cells history ≡ 0
     → answer ≡ shown statuses.Pattern (least_text rle asked.problem.rule history) → IsAnswer (questions.Least asked effort rle) answer
 none_live_answer asked effort rle history answer least none is =
     subst (IsAnswer (questions.Least asked effort rle)) (sym is) (record { answers = none_live history least none; holds = (history, least) })
 
-pub fewest_answer : (asked : Asked) (effort : Effort) (rle : Bool) (history : History) (n : ℕ) (steps : List Step) (file : AnswerFile) (answer : Answer) → IsOfFewest asked history → IsAbove asked history n
-    → file ≡ record { name = effort.proof; bytes = log_text steps } → KeepsAll effort.keep_all steps → IsProof (formula_asked (asked_fewer asked n)) effort.budget steps
-    → verdict (formula_asked (asked_fewer asked n)) file.bytes ≡ Accepted → answer ≡ shown_behind file statuses.Pattern (least_text rle asked.problem.rule history)
+pub fewest_answer : (asked : Asked) (effort : Effort) (rle : Bool) (history : History) (n : ℕ) (file : AnswerFile) (answer : Answer) → IsOfFewest asked history → IsAbove asked history n
+    → HasProof (formula_asked (asked_fewer asked n)) effort file → answer ≡ shown_behind file statuses.Pattern (least_text rle asked.problem.rule history)
     → IsAnswer (questions.Least asked effort rle) answer
-fewest_answer asked effort rle history n steps file answer least over named kept proof accepted is =
-    subst (IsAnswer (questions.Least asked effort rle)) (sym is)
-    (record { answers = fewest history n file least over (proof_by (formula_asked (asked_fewer asked n)) effort steps file named kept proof accepted); holds = (history, least) })
+fewest_answer asked effort rle history n file answer least over proof is =
+    subst (IsAnswer (questions.Least asked effort rle)) (sym is) (record { answers = fewest history n file least over proof; holds = (history, least) })
 
-pub no_solution_answer : (asked : Asked) (effort : Effort) (rle : Bool) (steps : List Step) (answer : Answer) → KeepsAll effort.keep_all steps → IsProof (formula_asked asked) effort.budget steps
-    → ShowsNone asked effort.proof steps answer → IsAnswer (questions.Least asked effort rle) answer
-no_solution_answer asked effort rle steps answer kept proof shows =
-    subst (IsAnswer (questions.Least asked effort rle)) (sym shows.by.answer_is)
-    (record { answers = no_solution shows.by.file (proof_by (formula_asked asked) effort steps shows.by.file shows.by.file_is kept proof shows.by.accepted); holds = shows.absent })
+pub no_solution_answer : (asked : Asked) (effort : Effort) (rle : Bool) (answer : Answer) → ShowsNone asked effort answer → IsAnswer (questions.Least asked effort rle) answer
+no_solution_answer asked effort rle answer shows =
+    subst (IsAnswer (questions.Least asked effort rle)) (sym shows.by.answer_is) (record { answers = no_solution shows.by.file shows.by.proof; holds = shows.absent })
 
 pub at_most_answer : (asked : Asked) (effort : Effort) (rle : Bool) (history : History) (n : ℕ) (steps : List Step) (file : AnswerFile) (answer : Answer) → IsAbove asked history n
     → file ≡ record { name = effort.proof; bytes = log_text steps } → KeepsAll effort.keep_all steps → IsSpent (formula_asked (asked_fewer asked n)) steps effort.budget

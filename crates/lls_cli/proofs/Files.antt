@@ -92,6 +92,11 @@ asked_outputs (jobs.LooseCheck one two low high demands form) files question sta
     let second = and_then-both asked.second (λ proof. Ok (questions.LooseCheck (opened_with high form first.0) proof)) question first.1 in
     let is : question ≡ questions.LooseCheck (opened_with high form first.0) second.0 = cc in
     ap (λ q. outputs_asked q status) is
+asked_outputs (jobs.Trim one two three) files question status asked =
+    let first = and_then-both (and_then asked.first formula_in) (λ formula. and_then asked.second (λ proof. Ok (questions.Trim formula proof three))) question asked.made in
+    let second = and_then-both asked.second (λ proof. Ok (questions.Trim first.0 proof three)) question first.1 in
+    let is : question ≡ questions.Trim first.0 second.0 three = cc in
+    ap (λ q. outputs_asked q status) is
 
 -- a status at which the file of a made problem may have changed
 abbrev MayWriteAhead : Option AnswerFile → Status → Type 0
@@ -122,6 +127,7 @@ holds_writes (questions.Print rule) status holds file is = absurd cc
 holds_writes (questions.Least asked effort rle) status holds file is = absurd cc
 holds_writes (questions.Loose asked effort rle) status holds file is = absurd cc
 holds_writes (questions.LooseCheck asked bytes) status holds file is = absurd cc
+holds_writes (questions.Trim formula bytes output) status holds file is = absurd cc
 
 -- the file that is written ahead changes alone
 ahead_changes : (ahead : Option AnswerFile) (status : Status) (before mid : ShelfMoment) → MayWriteAhead ahead status → WroteAhead ahead before mid

@@ -28,10 +28,11 @@ use Rattle.lls_cli.specs.declared.status.Status.TheVariants as statuses
 use Rattle.lls_cli.specs.Question.{formula_asked, formula_opened}
 use Rattle.lls_cli.specs.Evidence.{HasLog, HasProof, HasSpentLog}
 use Rattle.lls_cli.specs.Fewest.{asked_fewer, IsAbove, IsOfFewest, whole, below}
-use Rattle.lls_cli.specs.Answer.{Answers, IsAnswer, check_answer, judge_answer, IsDecision, IsFewest, IsFinding, IsMaking, IsOpening, satisfied, unsatisfied, unknown, found, absent, undecided, solved, unsolved, none_live, fewest, no_solution, at_most, unsettled, opened, no_rule, left_open}
+use Rattle.lls_cli.specs.Answer.{Answers, IsAnswer, check_answer, judge_answer, IsDecision, IsFewest, IsFinding, IsMaking, IsOpening, IsTrim, satisfied, unsatisfied, unknown, found, absent, undecided, solved, unsolved, none_live, fewest, no_solution, at_most, unsettled, opened, no_rule, left_open, kept, not_accepted, by_pivot}
+use Rattle.lls_cli.specs.Trimming.{HasTrimmed}
 use Rattle.lls_cli.specs.Moment.{ShelfMoment, Moment, files_at}
 use Rattle.lls_cli.specs.Ends.{WroteFile, End, IsEnd}
-use Rattle.lls_cli.specs.Claims.{OfQuestion, IsAnswered, OfFile, HasLookedLog, IsCertified, LeavesCertificate, LeavesLog, LeavesProof}
+use Rattle.lls_cli.specs.Claims.{OfQuestion, IsAnswered, OfFile, HasLookedLog, IsCertified, LeavesCertificate, LeavesLog, LeavesProof, LeavesTrimmed}
 use Rattle.lls_cli.proofs.Changes.{wrote_some}
 use Rattle.lls_cli.proofs.Consequences.{meant, of_this}
 
@@ -69,6 +70,7 @@ abbrev pub Left : Status → Option Files → Question → Type 0
 Left statuses.NoPattern files question = LeavesProof files question
 Left statuses.Undecided files question = LeavesLog files question
 Left statuses.Pattern files question = LeavesCertificate files question
+Left statuses.Done files question = LeavesTrimmed files question
 Left status files question = Unit {0}
 
 -- a solution without live cells in generation 0 needs no proof, and one with some has its own
@@ -84,21 +86,25 @@ some_certified asked effort files history n is above left = record {
       subst (λ k. IsAbove asked history k × OfFile (HasProof (formula_asked (asked_fewer asked k)) effort) effort.proof files) same (above, left);
 }
 
-check_left : (question : Question) (verdict : Result (Unit {0}) CheckError) (files : Option Files) → Left (check_answer verdict).status files question
-check_left question (Ok accepted) files = tt
-check_left question (Err error) files = tt
+-- but for a trim
+abbrev LeavesNone : Question → Type 0
+LeavesNone question = (files : Option Files) → LeavesTrimmed files question
 
-judge_left : (question : Question) (judgement : Judgement) (files : Option Files) → Left (judge_answer judgement).status files question
-judge_left question judgements.Meets files = tt
-judge_left question judgements.Size files = tt
-judge_left question (judgements.Cell t y x) files = tt
-judge_left question (judgements.Name t y x) files = tt
-judge_left question (judgements.Symmetry t y x) files = tt
-judge_left question (judgements.Background t) files = tt
-judge_left question (judgements.Moved t y x) files = tt
-judge_left question (judgements.Rule t y x) files = tt
-judge_left question (judgements.Population t n) files = tt
-judge_left question judgements.Same files = tt
+check_left : (question : Question) (verdict : Result (Unit {0}) CheckError) (files : Option Files) → LeavesNone question → Left (check_answer verdict).status files question
+check_left question (Ok accepted) files none = none files
+check_left question (Err error) files none = tt
+
+judge_left : (question : Question) (judgement : Judgement) (files : Option Files) → LeavesNone question → Left (judge_answer judgement).status files question
+judge_left question judgements.Meets files none = none files
+judge_left question judgements.Size files none = tt
+judge_left question (judgements.Cell t y x) files none = tt
+judge_left question (judgements.Name t y x) files none = tt
+judge_left question (judgements.Symmetry t y x) files none = tt
+judge_left question (judgements.Background t) files none = tt
+judge_left question (judgements.Moved t y x) files none = tt
+judge_left question (judgements.Rule t y x) files none = tt
+judge_left question (judgements.Population t n) files none = tt
+judge_left question judgements.Same files none = tt
 
 finding_left : (asked : Asked) (effort : Effort) (rle : Bool) (answer : Answer) (before after : ShelfMoment) → IsFinding asked effort rle answer → WroteFile answer.file before after
     → Left answer.status (files_at after) (questions.Search asked effort rle)
@@ -134,11 +140,18 @@ opening_left asked effort rle _ before after (opened history rule is) wrote = tt
 opening_left asked effort rle _ before after (no_rule file proof) wrote = proof_left (formula_opened asked) effort file before after proof wrote
 opening_left asked effort rle _ before after (left_open file log) wrote = log_left (formula_opened asked) effort file before after log wrote
 
+trim_left : (formula : Cnf) (proof output : List ℕ) (answer : Answer) (before after : ShelfMoment) → IsTrim formula proof output answer → WroteFile answer.file before after
+    → Left answer.status (files_at after) (questions.Trim formula proof output)
+trim_left formula proof output _ before after (kept file has) wrote =
+    of_written (HasTrimmed formula proof output) file output before after (ap (λ (f : AnswerFile). f.name) has.file_is) has wrote
+trim_left formula proof output _ before after (not_accepted error is) wrote = tt
+trim_left formula proof output _ before after (by_pivot line accepted first) wrote = tt
+
 -- what a right answer leaves
 left_by : (question : Question) (answer : Answer) (before after : ShelfMoment) → Answers question answer → WroteFile answer.file before after → Left answer.status (files_at after) question
-left_by (questions.Check asked bytes) answer before after right wrote = subst (λ (a : Answer). Left a.status (files_at after) (questions.Check asked bytes)) (sym right) (check_left _ _ (files_at after))
-left_by (questions.Refute formula bytes) answer before after right wrote = subst (λ (a : Answer). Left a.status (files_at after) (questions.Refute formula bytes)) (sym right) (check_left _ _ (files_at after))
-left_by (questions.Judge problem history) answer before after right wrote = subst (λ (a : Answer). Left a.status (files_at after) (questions.Judge problem history)) (sym right.2) (judge_left _ right.0 (files_at after))
+left_by (questions.Check asked bytes) answer before after right wrote = subst (λ (a : Answer). Left a.status (files_at after) (questions.Check asked bytes)) (sym right) (check_left _ _ (files_at after) (λ files. tt))
+left_by (questions.Refute formula bytes) answer before after right wrote = subst (λ (a : Answer). Left a.status (files_at after) (questions.Refute formula bytes)) (sym right) (check_left _ _ (files_at after) (λ files. tt))
+left_by (questions.Judge problem history) answer before after right wrote = subst (λ (a : Answer). Left a.status (files_at after) (questions.Judge problem history)) (sym right.2) (judge_left _ right.0 (files_at after) (λ files. tt))
 left_by (questions.Search asked effort rle) answer before after right wrote = finding_left asked effort rle answer before after right wrote
 left_by (questions.Decide formula effort) answer before after right wrote = decision_left formula effort answer before after right wrote
 left_by (questions.Encode asked) answer before after right wrote = subst (λ (a : Answer). Left a.status (files_at after) (questions.Encode asked)) (sym right) tt
@@ -146,7 +159,8 @@ left_by (questions.Print rule) answer before after right wrote = subst (λ (a : 
 left_by (questions.Make seed size name effort) answer before after right wrote = making_left seed size name effort answer before after right wrote
 left_by (questions.Least asked effort rle) answer before after right wrote = fewest_left asked effort rle answer before after right wrote
 left_by (questions.Loose asked effort rle) answer before after right wrote = opening_left asked effort rle answer before after right wrote
-left_by (questions.LooseCheck asked bytes) answer before after right wrote = subst (λ (a : Answer). Left a.status (files_at after) (questions.LooseCheck asked bytes)) (sym right) (check_left _ _ (files_at after))
+left_by (questions.LooseCheck asked bytes) answer before after right wrote = subst (λ (a : Answer). Left a.status (files_at after) (questions.LooseCheck asked bytes)) (sym right) (check_left _ _ (files_at after) (λ files. tt))
+left_by (questions.Trim formula proof output) answer before after right wrote = trim_left formula proof output answer before after right wrote
 
 leaves_at : (job : Result Job WordsError) (before after : Moment) (status : Status) → (end : End) × IsEnd job before after status end → IsAnswered status
     → OfQuestion (Left status (files_at after.shelf)) job (files_at before.shelf)
@@ -172,4 +186,10 @@ leaves_log job before after status ended is =
 pub leaves_certificate : (job : Result Job WordsError) (before after : Moment) (status : Status) → (end : End) × IsEnd job before after status end → status ≡ statuses.Pattern
     → OfQuestion (LeavesCertificate (files_at after.shelf)) job (files_at before.shelf)
 leaves_certificate job before after status ended is =
+    subst (λ s. OfQuestion (Left s (files_at after.shelf)) job (files_at before.shelf)) is (leaves_at job before after status ended (subst IsAnswered (sym is) tt))
+
+-- where a trim is done, its file has what the empty clause rests on
+pub leaves_trimmed : (job : Result Job WordsError) (before after : Moment) (status : Status) → (end : End) × IsEnd job before after status end → status ≡ statuses.Done
+    → OfQuestion (LeavesTrimmed (files_at after.shelf)) job (files_at before.shelf)
+leaves_trimmed job before after status ended is =
     subst (λ s. OfQuestion (Left s (files_at after.shelf)) job (files_at before.shelf)) is (leaves_at job before after status ended (subst IsAnswered (sym is) tt))

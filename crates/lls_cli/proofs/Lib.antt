@@ -23,3 +23,4 @@ pub mod Published
 pub mod Limits
 pub mod Why
 pub mod Begun
+pub mod Trims

@@ -33,11 +33,9 @@ opened_answer asked effort rle history rule answer solution is =
     let found : IsFoundBetween asked history rule = record { solution = solution; law = plane_law (with_rule asked.problem rule) history solution.solution } in
     subst (IsAnswer (questions.Loose asked effort rle)) (sym is) (record { answers = opened history rule found; holds = (history, (rule, found)) })
 
-pub no_rule_answer : (asked : OpenAsked) (effort : Effort) (rle : Bool) (steps : List Step) (answer : Answer) → KeepsAll effort.keep_all steps → IsRefutation (formula_opened asked) effort.budget steps
-    → ShowsNoRule asked effort.proof steps answer → IsAnswer (questions.Loose asked effort rle) answer
-no_rule_answer asked effort rle steps answer kept refutation shows =
-    subst (IsAnswer (questions.Loose asked effort rle)) (sym shows.by.answer_is)
-    (record { answers = no_rule shows.by.file (proof_of (formula_opened asked) effort steps shows.by.file shows.by.file_is kept refutation shows.by.accepted); holds = shows.absent })
+pub no_rule_answer : (asked : OpenAsked) (effort : Effort) (rle : Bool) (answer : Answer) → ShowsNoRule asked effort answer → IsAnswer (questions.Loose asked effort rle) answer
+no_rule_answer asked effort rle answer shows =
+    subst (IsAnswer (questions.Loose asked effort rle)) (sym shows.by.answer_is) (record { answers = no_rule shows.by.file shows.by.proof; holds = shows.absent })
 
 pub left_open_answer : (asked : OpenAsked) (effort : Effort) (rle : Bool) (steps : List Step) (file : AnswerFile) (answer : Answer) → file ≡ record { name = effort.proof; bytes = log_text steps }
     → KeepsAll effort.keep_all steps → IsExhausted (formula_opened asked) effort.budget steps → answer ≡ said_behind file statuses.Undecided (codes "undecided")

@@ -15,8 +15,8 @@ use Rattle.lls_cli.specs.declared.asked.OpenAsked.{OpenAsked}
 use Rattle.lls_cli.specs.declared.status.Status.{Status}
 use Rattle.lls_cli.specs.declared.status.Status.TheVariants as statuses
 use Rattle.lls_cli.specs.Evidence.{HasLog}
-use Rattle.lls_cli.specs.Answer.{check_answer, judge_answer, Answers, IsDecision, IsFewest, IsFinding, IsMaking, IsOpening, satisfied, unsatisfied, unknown, found, absent, undecided, solved, unsolved, none_live, fewest, no_solution, at_most, unsettled, opened, no_rule, left_open}
-use Rattle.lls_cli.specs.Claims.{log_at, certificate_at}
+use Rattle.lls_cli.specs.Answer.{check_answer, judge_answer, Answers, IsDecision, IsFewest, IsFinding, IsMaking, IsOpening, IsTrim, satisfied, unsatisfied, unknown, found, absent, undecided, solved, unsolved, none_live, fewest, no_solution, at_most, unsettled, opened, no_rule, left_open, kept, not_accepted, by_pivot}
+use Rattle.lls_cli.specs.Claims.{log_at, certificate_at, trimmed_at}
 
 -- the file that the answer to a question may write, by its status
 abbrev pub written_at : Question → Status → List (List ℕ)
@@ -25,6 +25,7 @@ written_at (questions.Decide formula effort) status = log_at status effort.proof
 written_at (questions.Make seed size name effort) status = log_at status effort.proof
 written_at (questions.Least asked effort rle) status = certificate_at status effort.proof
 written_at (questions.Loose asked effort rle) status = log_at status effort.proof
+written_at (questions.Trim formula proof output) status = trimmed_at status output
 written_at question status = []
 
 -- it is an answer's file, at its status and where the writing of it fails
@@ -94,6 +95,12 @@ opening_writes asked effort rle _ (no_rule file proof) =
 opening_writes asked effort rle _ (left_open file log) =
     let name = one_name effort log.steps file log.log in inr (record { file = file; file_is = refl; at_status = name; at_failure = name })
 
+trim_writes : (formula : Cnf) (proof output : List ℕ) (answer : Answer) → IsTrim formula proof output answer → WritesAtMost (questions.Trim formula proof output) answer
+trim_writes formula proof output _ (kept file has) =
+    let name = ap (λ (f : AnswerFile). f.name ∷ []) (sym has.file_is) in inr (record { file = file; file_is = refl; at_status = name; at_failure = name })
+trim_writes formula proof output _ (not_accepted error is) = inl refl
+trim_writes formula proof output _ (by_pivot line accepted first) = inl refl
+
 pub writes : (question : Question) (answer : Answer) → Answers question answer → WritesAtMost question answer
 writes (questions.Check asked bytes) answer right = subst (WritesAtMost (questions.Check asked bytes)) (sym right) (check_writes _ _)
 writes (questions.Refute formula bytes) answer right = subst (WritesAtMost (questions.Refute formula bytes)) (sym right) (check_writes _ _)
@@ -106,3 +113,4 @@ writes (questions.Make seed size name effort) answer right = making_writes seed 
 writes (questions.Least asked effort rle) answer right = fewest_writes asked effort rle answer right
 writes (questions.Loose asked effort rle) answer right = opening_writes asked effort rle answer right
 writes (questions.LooseCheck asked bytes) answer right = subst (WritesAtMost (questions.LooseCheck asked bytes)) (sym right) (check_writes _ _)
+writes (questions.Trim formula proof output) answer right = trim_writes formula proof output answer right

@@ -163,6 +163,7 @@ publishes (Ok (jobs.Lrat one two)) before after status is apart nowhere leaves o
 publishes (Ok (jobs.Rule rule)) before after status is apart nowhere leaves only = tt
 publishes (Ok (jobs.Make seed size one two)) before after status is apart nowhere leaves only = tt
 publishes (Ok (jobs.LooseCheck one two low high demands form)) before after status is apart nowhere leaves only = tt
+publishes (Ok (jobs.Trim one two three)) before after status is apart nowhere leaves only = tt
 publishes (Err error) before after status is apart nowhere leaves only = tt
 
 demanded-ok : (made : Result PosedProblem DemandError) (problem : PosedProblem) → demanded made ≡ Ok problem → made ≡ Ok problem
@@ -230,4 +231,5 @@ publishes_fewest (Ok (jobs.Lrat one two)) before after status is apart leaves on
 publishes_fewest (Ok (jobs.Rule rule)) before after status is apart leaves only = tt
 publishes_fewest (Ok (jobs.Make seed size one two)) before after status is apart leaves only = tt
 publishes_fewest (Ok (jobs.LooseCheck one two low high demands form)) before after status is apart leaves only = tt
+publishes_fewest (Ok (jobs.Trim one two three)) before after status is apart leaves only = tt
 publishes_fewest (Err error) before after status is apart leaves only = tt

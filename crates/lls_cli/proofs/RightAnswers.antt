@@ -95,6 +95,7 @@ leaves_printing (questions.Make seed size name effort) answer before after right
 leaves_printing (questions.Least asked effort rle) answer before after right alone = tt
 leaves_printing (questions.Loose asked effort rle) answer before after right alone = tt
 leaves_printing (questions.LooseCheck asked proof) answer before after right alone = tt
+leaves_printing (questions.Trim formula proof output) answer before after right alone = tt
 
 -- nor does a run that gives no answer touch the shelf
 pub leaves_printing-refl : (question : Question) (shelf : ShelfMoment) → LeavesPrinting question shelf shelf
@@ -109,3 +110,4 @@ leaves_printing-refl (questions.Make seed size name effort) shelf = tt
 leaves_printing-refl (questions.Least asked effort rle) shelf = tt
 leaves_printing-refl (questions.Loose asked effort rle) shelf = tt
 leaves_printing-refl (questions.LooseCheck asked proof) shelf = tt
+leaves_printing-refl (questions.Trim formula proof output) shelf = tt

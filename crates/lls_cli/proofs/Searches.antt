@@ -1,7 +1,8 @@
 -- What a search comes to is a right answer.
-use Rattle.std.proofs.Common.{◌≡◌, ◌≤◌, ◌+◌, ◌++◌, ℕ, Bool, cond, List, [], ◌∷◌, length, sym, ap, subst, ◌∙◌, arith}
+use Rattle.std.proofs.Common.{◌≡◌, ◌≤◌, ◌+◌, ℕ, Bool, true, List, length, sym, subst, arith}
 use Rattle.std.specs.Prelude.{codes}
-use Rattle.std.proofs.lemmas.List.Sums.{count_by-le-length, sum_by-append}
+use Rattle.std.proofs.lemmas.List.Sums.{count_by-le-length}
+use Rattle.std.specs.List.{list_all}
 use Rattle.lls_lit.specs.Formula.{Cnf, IsUnsatisfiable}
 use Rattle.lls_grid.specs.History.{History}
 use Rattle.lls_problem.specs.Solution.{IsSolution, IsAbsent}
@@ -9,10 +10,14 @@ use Rattle.lls_problem.proofs.Plane.{plane_law}
 use Rattle.lls_encode.specs.Formula.{formula_of}
 use Rattle.lls_prooflog.specs.declared.step.Step.{Step}
 use Rattle.lls_prooflog.specs.Log.{log_text}
-use Rattle.lls_prooflog.specs.Spent.{IsSpent, is_addition}
+use Rattle.lls_prooflog.specs.Spent.{EachStep, IsGood, IsSpent, is_addition, log_start}
+use Rattle.lls_prooflog.specs.Steps.{are_accepted}
+use Rattle.lls_prooflog.specs.UnitWalk.{numbered}
 use Rattle.lls_counting.proofs.Logs.{budgets_decide, kept_budgets_decide}
 use Rattle.lls_solver.specs.Searching.{IsModel, IsRefutation, IsExhausted, KeepsAll, additions}
 use Rattle.lls_lrat.specs.Verdict.{Accepted, verdict}
+use Rattle.lls_least.specs.Least.{IsProof}
+use Rattle.lls_least.proofs.Searched.{proof_from}
 use Rattle.lls_cli.specs.Questions as questions
 use Rattle.lls_cli.specs.declared.effort.Effort.{Effort}
 use Rattle.lls_cli.specs.declared.answer_file.AnswerFile.{AnswerFile}
@@ -20,18 +25,28 @@ use Rattle.lls_cli.specs.declared.answer.Answer.{Answer}
 use Rattle.lls_cli.specs.declared.asked.Asked.{Asked}
 use Rattle.lls_cli.specs.declared.status.Status.TheVariants as statuses
 use Rattle.lls_cli.specs.Question.{formula_asked}
-use Rattle.lls_cli.specs.Evidence.{HasProof, HasSpentLog}
+use Rattle.lls_cli.specs.Evidence.{HasProof, HasSpentLog, IsEvidence}
 use Rattle.lls_cli.specs.ModelText.{model_text}
 use Rattle.lls_cli.specs.Shown.{ShowsNone}
 use Rattle.lls_cli.specs.PatternText.{pattern_text}
 use Rattle.lls_cli.specs.Answer.{IsAnswer, IsShort, shown, said_behind, satisfied, unsatisfied, unknown, found, absent, undecided}
 
--- steps with one more behind them
-one_more : (learnt : List Step) (last : Step) (steps : List Step) (budget : ℕ) → steps ≡ learnt ++ last ∷ [] → additions learnt ≤ budget → additions steps ≤ budget + 1
-one_more learnt last steps budget ends within =
-    let split : additions steps ≡ additions learnt + additions (last ∷ []) = ap additions ends ∙ sum_by-append (λ s. cond (is_addition s) 1 0) learnt (last ∷ []) in
-    let few = count_by-le-length is_addition (last ∷ []) in
-    omega (arith, split, few, within)
+-- a proof within the budget is what a search leaves evidence by
+pub evidence_by : (formula : Cnf) (effort : Effort) (steps : List Step) → KeepsAll effort.keep_all steps → IsProof formula effort.budget steps → IsEvidence formula effort steps
+evidence_by formula effort steps kept proof = record { accepted = proof.accepted; good = proof.good; within = proof.within; all_kept = kept }
+
+pub evidence_of : (formula : Cnf) (effort : Effort) (steps : List Step) → KeepsAll effort.keep_all steps → IsRefutation formula effort.budget steps → IsEvidence formula effort steps
+evidence_of formula effort steps kept refutation = evidence_by formula effort steps kept (proof_from formula effort.budget steps refutation)
+
+-- and so are fewer additions
+pub evidence_trimmed : (formula : Cnf) (effort : Effort) (steps trimmed : List Step) → are_accepted (numbered formula.clauses) trimmed ≡ true → EachStep IsGood (log_start formula) trimmed
+    → list_all is_addition trimmed ≡ true → length trimmed ≤ additions steps → IsEvidence formula effort steps → IsEvidence formula effort trimmed
+evidence_trimmed formula effort steps trimmed accepted good added fewer evidence = record {
+  accepted = accepted;
+  good = good;
+  within = omega (arith, count_by-le-length is_addition trimmed, fewer, evidence.within);
+  all_kept = λ keeps. added;
+}
 
 -- a spent budget needn't decide
 pub short_by : (formula : Cnf) (effort : Effort) (steps : List Step) → KeepsAll effort.keep_all steps → IsSpent formula steps effort.budget → IsShort formula effort
@@ -43,13 +58,13 @@ short_by formula effort steps kept spent = record {
 pub short_of : (formula : Cnf) (effort : Effort) (steps : List Step) → KeepsAll effort.keep_all steps → IsExhausted formula effort.budget steps → IsShort formula effort
 short_of formula effort steps kept exhausted = short_by formula effort steps kept exhausted.spent
 
--- the file of a refutation has a proof
-pub proof_of : (formula : Cnf) (effort : Effort) (steps : List Step) (file : AnswerFile) → file ≡ record { name = effort.proof; bytes = log_text steps } → KeepsAll effort.keep_all steps → IsRefutation formula effort.budget steps
+-- the file of evidence has a proof
+pub proof_of : (formula : Cnf) (effort : Effort) (steps : List Step) (file : AnswerFile) → file ≡ record { name = effort.proof; bytes = log_text steps } → IsEvidence formula effort steps
     → verdict formula file.bytes ≡ Accepted → HasProof formula effort file
-proof_of formula effort steps file is kept refutation accepted = record {
+proof_of formula effort steps file is evidence accepted = record {
   steps = steps;
-  log = record { file_is = is; all_kept = kept };
-  within = one_more refutation.learnt refutation.last steps effort.budget refutation.ends refutation.log.within;
+  log = record { file_is = is; all_kept = evidence.all_kept };
+  within = evidence.within;
   accepted = accepted;
 }
 
@@ -71,11 +86,9 @@ pub satisfied_answer : (formula : Cnf) (effort : Effort) (values : List Bool) (a
 satisfied_answer formula effort values answer model is =
     subst (IsAnswer (questions.Decide formula effort)) (sym is) (record { answers = satisfied values model; holds = (values, model) })
 
-pub unsatisfied_answer : (formula : Cnf) (effort : Effort) (steps : List Step) (file : AnswerFile) (answer : Answer) → file ≡ record { name = effort.proof; bytes = log_text steps }
-    → KeepsAll effort.keep_all steps → IsRefutation formula effort.budget steps → verdict formula file.bytes ≡ Accepted → IsUnsatisfiable formula → answer ≡ said_behind file statuses.NoPattern (codes "s UNSATISFIABLE")
-    → IsAnswer (questions.Decide formula effort) answer
-unsatisfied_answer formula effort steps file answer named kept refutation accepted none is =
-    subst (IsAnswer (questions.Decide formula effort)) (sym is) (record { answers = unsatisfied file (proof_of formula effort steps file named kept refutation accepted); holds = none })
+pub unsatisfied_answer : (formula : Cnf) (effort : Effort) (file : AnswerFile) (answer : Answer) → HasProof formula effort file → IsUnsatisfiable formula
+    → answer ≡ said_behind file statuses.NoPattern (codes "s UNSATISFIABLE") → IsAnswer (questions.Decide formula effort) answer
+unsatisfied_answer formula effort file answer proof none is = subst (IsAnswer (questions.Decide formula effort)) (sym is) (record { answers = unsatisfied file proof; holds = none })
 
 pub unknown_answer : (formula : Cnf) (effort : Effort) (steps : List Step) (file : AnswerFile) (answer : Answer) → file ≡ record { name = effort.proof; bytes = log_text steps }
     → KeepsAll effort.keep_all steps → IsExhausted formula effort.budget steps → answer ≡ said_behind file statuses.Undecided (codes "s UNKNOWN") → IsAnswer (questions.Decide formula effort) answer
@@ -89,12 +102,10 @@ found_answer asked effort rle history answer solution is =
     let law = plane_law asked.problem history solution in
     subst (IsAnswer (questions.Search asked effort rle)) (sym is) (record { answers = found history solution law; holds = (history, solution, law) })
 
--- an absence that is shown by a refutation
-pub absent_answer : (asked : Asked) (effort : Effort) (rle : Bool) (steps : List Step) (answer : Answer) → KeepsAll effort.keep_all steps → IsRefutation (formula_asked asked) effort.budget steps
-    → ShowsNone asked effort.proof steps answer → IsAnswer (questions.Search asked effort rle) answer
-absent_answer asked effort rle steps answer kept refutation shows =
-    subst (IsAnswer (questions.Search asked effort rle)) (sym shows.by.answer_is)
-    (record { answers = absent shows.by.file (proof_of (formula_asked asked) effort steps shows.by.file shows.by.file_is kept refutation shows.by.accepted); holds = shows.absent })
+-- an absence that is shown
+pub absent_answer : (asked : Asked) (effort : Effort) (rle : Bool) (answer : Answer) → ShowsNone asked effort answer → IsAnswer (questions.Search asked effort rle) answer
+absent_answer asked effort rle answer shows =
+    subst (IsAnswer (questions.Search asked effort rle)) (sym shows.by.answer_is) (record { answers = absent shows.by.file shows.by.proof; holds = shows.absent })
 
 pub undecided_answer : (asked : Asked) (effort : Effort) (rle : Bool) (steps : List Step) (file : AnswerFile) (answer : Answer) → file ≡ record { name = effort.proof; bytes = log_text steps }
     → KeepsAll effort.keep_all steps → IsExhausted (formula_asked asked) effort.budget steps → answer ≡ said_behind file statuses.Undecided (codes "undecided")

@@ -15,7 +15,7 @@ use Rattle.lls_cli.specs.declared.answer_file.AnswerFile.{AnswerFile}
 use Rattle.lls_cli.specs.declared.answer.Answer.{Answer}
 use Rattle.lls_cli.specs.declared.status.Status.{Status}
 use Rattle.lls_cli.specs.declared.status.Status.TheVariants as statuses
-use Rattle.lls_cli.specs.Question.{asked_with, default_effort, effort_of, roomy_problem_in, Asks}
+use Rattle.lls_cli.specs.Question.{asked_with, default_effort, effort_of, formula_in, roomy_problem_in, Asks}
 use Rattle.lls_cli.specs.Answer.{Answers}
 use Rattle.lls_cli.specs.Making.{made_file}
 use Rattle.lls_cli.specs.Moment.{ShelfMoment, Moment, files_at}
@@ -55,6 +55,11 @@ made_apart job files seed size name effort apart asked = by_job job apart asked 
       absurd cc
   by_job (jobs.Loose one two low high demands form budget keep_all rle) apart asked same = absurd cc
   by_job (jobs.LooseCheck one two low high demands form) apart asked same = absurd cc
+  by_job (jobs.Trim one two three) apart asked same =
+      let first = and_then-both (and_then asked.first formula_in) (λ formula. and_then asked.second (λ proof. Ok (questions.Trim formula proof three))) (questions.Make seed size name effort) asked.made in
+      let second = and_then-both asked.second (λ proof. Ok (questions.Trim first.0 proof three)) (questions.Make seed size name effort) first.1 in
+      let other = second.1 in
+      absurd cc
 
 names_apart : (job : Result Job WordsError) (files : Option Files) (question : Question) → AreApart job → IsAsked job files question → NamesApart question
 names_apart (Ok job) files (questions.Make seed size name effort) apart asked = made_apart job files seed size name effort apart asked
@@ -68,6 +73,7 @@ names_apart (Ok job) files (questions.Print rule) apart asked = tt
 names_apart (Ok job) files (questions.Least of effort rle) apart asked = tt
 names_apart (Ok job) files (questions.Loose of effort rle) apart asked = tt
 names_apart (Ok job) files (questions.LooseCheck of bytes) apart asked = tt
+names_apart (Ok job) files (questions.Trim formula bytes output) apart asked = tt
 names_apart (Err error) files question apart asked = absurd asked
 
 nothing_ahead : (files : Option Files) → HasWhole files None
@@ -102,6 +108,7 @@ stands_in (questions.Print rule) answer before mid after apart right ahead wrote
 stands_in (questions.Least asked effort rle) answer before mid after apart right ahead wrote = nothing_ahead (files_at after)
 stands_in (questions.Loose asked effort rle) answer before mid after apart right ahead wrote = nothing_ahead (files_at after)
 stands_in (questions.LooseCheck asked bytes) answer before mid after apart right ahead wrote = nothing_ahead (files_at after)
+stands_in (questions.Trim formula bytes output) answer before mid after apart right ahead wrote = nothing_ahead (files_at after)
 
 pub stands : (job : Result Job WordsError) (before after : Moment) (status : Status) → AreApart job → (end : End) × IsEnd job before after status end → IsAnswered status
     → OfQuestion (λ question. HasWhole (files_at after.shelf) (ahead_of question)) job (files_at before.shelf)

@@ -1,5 +1,5 @@
 -- Which answers to a question are right.
-use Rattle.std.specs.Prelude.{◌≡◌, ◌<◌, ◌^◌, ℕ, ◌++◌, Bool, true, List, codes, None, Some, Result, Ok, Err}
+use Rattle.std.specs.Prelude.{◌≡◌, ◌<◌, ◌^◌, ℕ, ◌++◌, Bool, true, List, codes, length, None, Some, Result, Ok, Err}
 use Rattle.lls_grid.specs.History.{History}
 use Rattle.lls_solver.specs.Searching.{IsModel}
 use Rattle.lls_hensel.specs.Printing.{rule_text}
@@ -18,6 +18,9 @@ use Rattle.lls_open.specs.Between.{with_rule, IsOpenSolution, IsOpenlyAbsent}
 use Rattle.lls_lrat.specs.declared.error.CheckError.{CheckError}
 use Rattle.lls_lrat.specs.FaultText.{check_error_text}
 use Rattle.lls_lrat.specs.Verdict.{Accepted, verdict, answer_of}
+use Rattle.lls_trim.specs.declared.error.TrimError.TheVariants.{RatStep}
+use Rattle.lls_trim.specs.FaultText.{trim_error_text}
+use Rattle.lls_trim.specs.Needed.{IsFirstRat, NeedsNoRat}
 use Rattle.lls_cli.specs.Questions.{Question}
 use Rattle.lls_cli.specs.Questions as questions
 use Rattle.lls_cli.specs.declared.effort.Effort.{Effort}
@@ -36,6 +39,7 @@ use Rattle.lls_cli.specs.PatternText.{pattern_text}
 use Rattle.lls_cli.specs.Fewest.{asked_fewer, IsAbove, IsLookedAt, IsOfFewest, least_text, at_most_text}
 use Rattle.lls_cli.specs.Opened.{opened_text}
 use Rattle.lls_cli.specs.Making.{summary_text}
+use Rattle.lls_cli.specs.Trimming.{HasTrimmed, inferences_in, kept_text}
 
 -- a status and a text, and no file
 abbrev pub shown : Status → List ℕ → Answer
@@ -118,8 +122,18 @@ pub data IsMaking (seed size : ℕ) (effort : Effort) : Answer → Type 0 where
   unsolved : (file : AnswerFile) → HasSpentLog (formula_of (made_problem seed size) Rows) effort file
       → IsMaking seed size effort (shown_behind file statuses.Undecided (summary_text seed size (codes "undecided")))
 
+-- how a trim ends: with what the empty clause rests on in the file; with the first fault of a proof that isn't accepted; or with the first
+-- addition that it rests on and that isn't by unit propagation
+pub data IsTrim (formula : Cnf) (proof output : List ℕ) : Answer → Type 0 where
+  kept : (file : AnswerFile) (has : HasTrimmed formula proof output file)
+      → IsTrim formula proof output (shown_behind file statuses.Done (kept_text (length has.steps) (length (inferences_in formula proof))))
+  not_accepted : (error : CheckError) → answer_of (verdict formula proof) ≡ Err error → IsTrim formula proof output (check_answer (Err error))
+  by_pivot : (line : ℕ) → verdict formula proof ≡ Accepted → IsFirstRat (inferences_in formula proof) line
+      → IsTrim formula proof output (said statuses.Refused (codes "refused: " ++ trim_error_text (RatStep line)))
+
 -- what the yes of a question says: of a check that the proof is accepted, and that there is no solution, by no rule between two, or that no
--- assignment satisfies the formula; of a judging that the pattern is a solution, and keeps the rule on the whole plane where it has to
+-- assignment satisfies the formula; of a judging that the pattern is a solution, and keeps the rule on the whole plane where it has to; of a
+-- trim that the proof is accepted and rests on unit propagation alone, and that no assignment satisfies the formula
 abbrev pub YesHolds : Question → Type 0
 YesHolds (questions.Check asked proof) = (verdict (formula_asked asked) proof ≡ Accepted) × IsAbsent asked.problem
 YesHolds (questions.Refute formula proof) = (verdict formula proof ≡ Accepted) × IsUnsatisfiable formula
@@ -132,8 +146,10 @@ YesHolds (questions.Make seed size name effort) = ⊥
 YesHolds (questions.Least asked effort rle) = ⊥
 YesHolds (questions.Loose asked effort rle) = ⊥
 YesHolds (questions.LooseCheck asked proof) = (verdict (formula_opened asked) proof ≡ Accepted) × IsOpenlyAbsent asked.problem asked.high
+YesHolds (questions.Trim formula proof output) = (verdict formula proof ≡ Accepted) × NeedsNoRat (inferences_in formula proof) × IsUnsatisfiable formula
 
--- what its no says: of a check that the proof isn't accepted, of a judging that the pattern is no solution
+-- what its no says: of a check that the proof isn't accepted, of a judging that the pattern is no solution, of a trim that the proof isn't
+-- accepted or doesn't rest on unit propagation alone
 abbrev pub NoHolds : Question → Type 0
 NoHolds (questions.Check asked proof) = verdict (formula_asked asked) proof ≡ Accepted → ⊥
 NoHolds (questions.Refute formula proof) = verdict formula proof ≡ Accepted → ⊥
@@ -146,6 +162,7 @@ NoHolds (questions.Make seed size name effort) = ⊥
 NoHolds (questions.Least asked effort rle) = ⊥
 NoHolds (questions.Loose asked effort rle) = ⊥
 NoHolds (questions.LooseCheck asked proof) = verdict (formula_opened asked) proof ≡ Accepted → ⊥
+NoHolds (questions.Trim formula proof output) = verdict formula proof ≡ Accepted → NeedsNoRat (inferences_in formula proof) → ⊥
 
 -- what it says that a search found something: there is a solution, which keeps the rule on the whole plane where it has to, with the fewest live
 -- cells or by some rule between two where that was asked, or an assignment that satisfies the formula
@@ -201,6 +218,7 @@ Answers (questions.Make seed size name effort) answer = IsMaking seed size effor
 Answers (questions.Least asked effort rle) answer = IsFewest asked effort rle answer
 Answers (questions.Loose asked effort rle) answer = IsOpening asked effort rle answer
 Answers (questions.LooseCheck asked bytes) answer = answer ≡ check_answer (answer_of (verdict (formula_opened asked) bytes))
+Answers (questions.Trim formula proof output) answer = IsTrim formula proof output answer
 
 -- an answer is right, and what its status says holds
 pub record IsAnswer (question : Question) (answer : Answer) : Type 0 where

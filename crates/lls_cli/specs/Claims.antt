@@ -31,6 +31,7 @@ use Rattle.lls_cli.specs.Fault.{fault_line, status_of}
 use Rattle.lls_cli.specs.Ends.{GrewBy, ahead_of, with_file}
 use Rattle.lls_cli.specs.Evidence.{HasProof, HasSpentLog}
 use Rattle.lls_cli.specs.Fewest.{asked_fewer, IsAbove, IsLookedAt, IsOfFewest}
+use Rattle.lls_cli.specs.Trimming.{HasTrimmed}
 use Rattle.lls_cli.specs.Answer.{Holds, IsAnswer, YesHolds}
 use Rattle.lls_cli.specs.Moment.{SinkMoment, Moment, files_at}
 
@@ -86,6 +87,12 @@ certificate_at statuses.NoPattern name = name ∷ []
 certificate_at statuses.Undecided name = name ∷ []
 certificate_at status name = []
 
+-- the file of a trimmed proof, at the statuses at which it may have changed
+abbrev pub trimmed_at : Status → List ℕ → List (List ℕ)
+trimmed_at statuses.Outside name = name ∷ []
+trimmed_at statuses.Done name = name ∷ []
+trimmed_at status name = []
+
 -- the search file of a made problem, at the statuses at which it may have changed
 abbrev pub search_file_at : Status → List ℕ → List (List ℕ)
 search_file_at statuses.Outside name = name ∷ []
@@ -101,6 +108,7 @@ outputs_of (jobs.Sat formula proof budget keep_all) status = log_at status proof
 outputs_of (jobs.Make seed size search_file proof) status = search_file_at status search_file ++ log_at status proof
 outputs_of (jobs.Least search_file proof rule demands form budget keep_all rle) status = certificate_at status proof
 outputs_of (jobs.Loose search_file proof low high demands form budget keep_all rle) status = log_at status proof
+outputs_of (jobs.Trim formula proof output) status = trimmed_at status output
 outputs_of job status = []
 
 abbrev pub outputs_of_words : Result Job WordsError → Status → List (List ℕ)
@@ -167,6 +175,11 @@ pub record IsCertified (asked : Asked) (effort : Effort) (files : Option Files) 
 abbrev pub LeavesCertificate : Option Files → Question → Type 0
 LeavesCertificate files (questions.Least asked effort rle) = (history : History) × IsCertified asked effort files history
 LeavesCertificate files question = Unit {0}
+
+-- what a trim leaves where it is done
+abbrev pub LeavesTrimmed : Option Files → Question → Type 0
+LeavesTrimmed files (questions.Trim formula proof output) = OfFile (HasTrimmed formula proof output) output files
+LeavesTrimmed files question = Unit {0}
 
 -- a file that is written before the answer is looked for stands whole
 abbrev pub HasWhole : Option Files → Option AnswerFile → Type 0

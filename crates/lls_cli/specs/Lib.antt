@@ -12,6 +12,7 @@ pub mod PatternText
 pub mod Making
 pub mod Fewest
 pub mod Opened
+pub mod Trimming
 pub mod Answer
 pub mod Shown
 pub mod Moment

@@ -179,6 +179,10 @@ abbrev pub loose_check_question : List Bool → List Bool → Demands → Form �
 loose_check_question low high demands form first second =
     and_then (and_then first (small_problem_in low demands)) (λ problem. and_then second (λ proof. Ok (questions.LooseCheck (opened_with high form problem) proof)))
 
+abbrev pub trim_question : List ℕ → Result (List ℕ) Fault → Result (List ℕ) Fault → Result Question Fault
+trim_question output first second =
+    and_then (and_then first formula_in) (λ formula. and_then second (λ proof. Ok (questions.Trim formula proof output)))
+
 -- what a job asks of its inputs: of none, of one or of two, each by its name and with at most so many bytes, and the question that
 -- what was read of them makes
 pub data Asking : Type 0 where
@@ -202,6 +206,7 @@ asking_of (jobs.Loose search_file proof low high demands form budget keep_all rl
     of_one search_file search_limit (loose_question low high demands form (effort_of budget keep_all proof) rle)
 asking_of (jobs.LooseCheck search_file proof low high demands form) =
     of_two search_file search_limit proof proof_limit (loose_check_question low high demands form)
+asking_of (jobs.Trim formula proof output) = of_two formula formula_limit proof proof_limit (trim_question output)
 
 -- the question, or the first refusal, where each input is read so, by its name and its limit
 abbrev pub question_by : (List ℕ → ℕ → Result (List ℕ) Fault) → Asking → Result Question Fault

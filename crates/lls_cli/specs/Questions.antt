@@ -27,3 +27,4 @@ pub data Question : Type 0 where
   Least : Asked → Effort → Bool → Question
   Loose : OpenAsked → Effort → Bool → Question
   LooseCheck : OpenAsked → List ℕ → Question
+  Trim : Cnf → List ℕ → List ℕ → Question

@@ -12,9 +12,12 @@ use crate::check::{check, check_open, refute};
 use crate::decide::decide;
 use crate::effort::Effort;
 use crate::fault::Fault;
-use crate::input::{read_formula, read_pattern, read_problem, read_small_problem};
+use crate::input::{
+    PROOF_LIMIT, read_formula, read_input, read_pattern, read_problem, read_small_problem,
+};
 use crate::judge::judge;
 use crate::print::print_formula;
+use crate::trim::trim;
 use lls_base::{Name, Shelf};
 use lls_problem::{Demands, Form};
 use lls_rule::Rule;
@@ -98,6 +101,21 @@ pub fn answer_lrat<S: Shelf>(
 {
     let formula = read_formula(alloc, shelf, formula)?;
     refute(alloc, shelf, &formula, proof)
+}
+
+/// The answer to `trim`: the formula is read, and then the proof.
+pub fn answer_trim<S: Shelf>(
+    alloc: Global,
+    shelf: &mut S,
+    formula: &Name,
+    proof: &Name,
+    output: Name,
+) -> Result<Answer<'static>, Fault>
+    ensures { Reads (ComesTo (jobs.Trim formula.now proof.now output) (files_of S.Shelf shelf.old)) result (shelf_at S.Shelf shelf.old) (shelf_at S.Shelf shelf.new) }
+{
+    let formula = read_formula(alloc, shelf, formula)?;
+    let proof = read_input(alloc, shelf, proof, PROOF_LIMIT)?;
+    Ok(trim(alloc, &formula, proof.items(), output)?)
 }
 
 /// The answer to `opencheck`: the problem is read, and then the proof.

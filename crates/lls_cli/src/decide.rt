@@ -6,7 +6,7 @@ ghost use Rattle.lls_cli.specs.Answer.{IsAnswer};
 
 use crate::answer::Answer;
 use crate::effort::Effort;
-use crate::evidence::{check_proof, log_file};
+use crate::evidence::{log_file, proof_file};
 use crate::model::print_model;
 use crate::status::Status;
 use crate::text::Text;
@@ -31,8 +31,7 @@ pub fn decide(alloc: Global, formula: &Formula, effort: Effort) -> Result<Answer
             file: None,
         }),
         Outcome::Unsat => {
-            let _checked = check_proof(alloc, formula, &log)?;
-            let file = log_file(alloc, &log, effort.proof)?;
+            let (_checked, file) = proof_file(alloc, formula, log, effort)?;
             Answer::of_text(alloc, Status::NoPattern, b"s UNSATISFIABLE\n", Some(file))
         }
         Outcome::Undecided => {

@@ -1,12 +1,15 @@
 // What a search leaves in its file, the check of a proof before it is told of, and the answers that there is nothing.
 ghost use Rattle.std.specs.Prelude.{◌≡◌, ℕ, List, true, IfOk, OnOk};
+ghost use Rattle.lls_prooflog.specs.Spent.{EachStep, IsGood, log_start};
 ghost use Rattle.lls_lit.specs.Formula.{IsUnsatisfiable};
 ghost use Rattle.lls_prooflog.specs.Log.{ReadsAs, log_text};
 ghost use Rattle.lls_prooflog.specs.UnitWalk.{numbered};
 ghost use Rattle.lls_prooflog.specs.Steps.{are_accepted};
 ghost use Rattle.lls_lrat.specs.Verdict.{Accepted, verdict};
 ghost use Rattle.lls_open.specs.Between.{AreEnds};
+ghost use Rattle.lls_cli.specs.Evidence.{HasProof, IsEvidence};
 ghost use Rattle.lls_cli.specs.Question.{formula_asked, formula_opened};
+ghost use Rattle.lls_cli.specs.declared.effort.Effort.{Effort};
 ghost use Rattle.lls_cli.specs.Shown.{ShowsNoRule, ShowsNone};
 
 use crate::absence::{Absence, OpenAbsence};
@@ -14,12 +17,14 @@ use crate::answer::Answer;
 use crate::answer_file::AnswerFile;
 use crate::asked::{Asked, OpenAsked};
 use crate::bytes::Bytes;
+use crate::effort::Effort;
 use crate::status::Status;
 use crate::text::Text;
 use lls_base::{Memory, Name};
 use lls_cnf::Formula;
 use lls_lrat::{CheckError, Checked, check};
 use lls_prooflog::{Log, print_log};
+use lls_trim::{TrimError, trim};
 use std::alloc::Global;
 
 /// The file of a log.
@@ -31,12 +36,21 @@ pub fn log_file(alloc: Global, log: &Log, name: Name) -> Result<AnswerFile, Memo
     Ok(AnswerFile { name, bytes })
 }
 
-/// Checks a log that a search calls a proof. The checker refuses it for want of memory alone.
-pub fn check_proof<'f>(
-    alloc: Global,
-    formula: &'f Formula,
-    log: &Log,
-) -> Result<Checked<'f>, Memory>
+// What the empty clause of a search's log rests on, or the whole log where there is no memory to find that.
+fn trimmed(alloc: Global, formula: &Formula, log: Log) -> Log
+    requires accepted { are_accepted (numbered formula.now.clauses) log.steps ≡ true }
+    requires good { EachStep IsGood (log_start formula.now) log.steps }
+    ensures { (effort : Effort) → IsEvidence formula.now effort log.steps → IsEvidence formula.now effort result.steps }
+{
+    match trim(alloc, formula, &log) {
+        Ok(trimming) => trimming.log,
+        Err(TrimError::Memory) => log,
+        Err(_) => unreachable!(),
+    }
+}
+
+// Checks a log that a search calls a proof. The checker refuses it for want of memory alone.
+fn check_proof<'f>(alloc: Global, formula: &'f Formula, log: &Log) -> Result<Checked<'f>, Memory>
     requires { are_accepted (numbered formula.now.clauses) log.now.steps ≡ true }
     ensures formula { IfOk result (λ checked. checked ≡ formula.now) }
     ensures unsatisfiable { OnOk result (IsUnsatisfiable formula.now) }
@@ -49,24 +63,41 @@ pub fn check_proof<'f>(
     }
 }
 
+/// The file of a proof that nothing satisfies a formula, by the log of a search: what its empty clause rests on, which is checked before.
+pub fn proof_file<'f>(
+    alloc: Global,
+    formula: &'f Formula,
+    log: Log,
+    effort: Effort,
+) -> Result<(Checked<'f>, AnswerFile), Memory>
+    requires { IsEvidence formula.now effort log.steps }
+    ensures formula { IfOk result (λ made. made.0 ≡ formula.now) }
+    ensures unsatisfiable { OnOk result (IsUnsatisfiable formula.now) }
+    ensures proof { IfOk result (λ made. HasProof formula.now effort made.1) }
+{
+    let log = trimmed(alloc, formula, log);
+    let checked = check_proof(alloc, formula, &log)?;
+    let file = log_file(alloc, &log, effort.proof)?;
+    Ok((checked, file))
+}
+
 /// The answer that a problem has no solution, by an accepted log over the problem's formula.
 pub fn absence_of<'f>(
     alloc: Global,
     asked: &'f Asked,
     formula: &'f Formula,
-    log: &Log,
-    proof: Name,
+    log: Log,
+    effort: Effort,
 ) -> Result<Answer<'f>, Memory>
     requires formula { formula.now ≡ formula_asked asked.now }
-    requires accepted { are_accepted (numbered formula.now.clauses) log.now.steps ≡ true }
-    ensures { IfOk result (ShowsNone asked.now proof log.now.steps) }
+    requires evidence { IsEvidence formula.now effort log.steps }
+    ensures { IfOk result (ShowsNone asked.now effort) }
 {
     // What the type of a problem keeps is known from here on.
     let problem = &asked.problem;
     let _posed = problem.posed();
     let _demands = problem.demands();
-    let checked = check_proof(alloc, formula, log)?;
-    let file = log_file(alloc, log, proof)?;
+    let (checked, file) = proof_file(alloc, formula, log, effort)?;
     Ok(Answer {
         status: Status::NoPattern,
         text: Text::absence(Absence::new(checked, asked)),
@@ -79,20 +110,19 @@ pub fn no_rule_of<'f>(
     alloc: Global,
     asked: &'f OpenAsked,
     formula: &'f Formula,
-    log: &Log,
-    proof: Name,
+    log: Log,
+    effort: Effort,
 ) -> Result<Answer<'f>, Memory>
     requires formula { formula.now ≡ formula_opened asked.now }
     requires ends { AreEnds asked.now.problem.rule asked.now.high }
-    requires accepted { are_accepted (numbered formula.now.clauses) log.now.steps ≡ true }
-    ensures { IfOk result (ShowsNoRule asked.now proof log.now.steps) }
+    requires evidence { IsEvidence formula.now effort log.steps }
+    ensures { IfOk result (ShowsNoRule asked.now effort) }
 {
     // What the type of a problem keeps is known from here on.
     let problem = &asked.problem;
     let _posed = problem.posed();
     let _demands = problem.demands();
-    let checked = check_proof(alloc, formula, log)?;
-    let file = log_file(alloc, log, proof)?;
+    let (checked, file) = proof_file(alloc, formula, log, effort)?;
     Ok(Answer {
         status: Status::NoPattern,
         text: Text::open_absence(OpenAbsence::new(checked, asked)),

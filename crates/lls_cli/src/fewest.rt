@@ -1,18 +1,15 @@
 // The search for a solution with the fewest live cells in generation 0.
-ghost use Rattle.std.specs.Prelude.{◌≡◌, ◌<◌, ◌≤◌, true, length, IfOk};
+ghost use Rattle.std.specs.Prelude.{◌≡◌, ◌<◌, ◌≤◌, length, IfOk};
 ghost use Rattle.lls_hensel.specs.Isotropy.{IsIsotropic};
 ghost use Rattle.lls_least.specs.Fewer.{LeavesRoom};
 ghost use Rattle.lls_least.specs.Least.{HasFewest, IsShown};
 ghost use Rattle.lls_problem.specs.Bounds.{grid_size};
-ghost use Rattle.lls_prooflog.specs.Log.{log_text};
-ghost use Rattle.lls_prooflog.specs.UnitWalk.{numbered};
-ghost use Rattle.lls_prooflog.specs.Steps.{are_accepted};
-ghost use Rattle.lls_lrat.specs.Verdict.{Accepted, verdict};
 ghost use Rattle.lls_solver.specs.Searching.{KeepsAll};
 ghost use Rattle.lls_solver.specs.declared.solving.TheConstants.{MOST_BUDGET};
 ghost use Rattle.lls_cli.specs.Questions as questions;
 ghost use Rattle.lls_cli.specs.Answer.{IsAnswer};
 ghost use Rattle.lls_cli.specs.Ends.{End, IsEndOf};
+ghost use Rattle.lls_cli.specs.Evidence.{HasProof, IsEvidence};
 ghost use Rattle.lls_cli.specs.Fewest.{asked_fewer, counted_text};
 ghost use Rattle.lls_cli.specs.Outside.{BorrowsSame, moment_of};
 ghost use Rattle.lls_cli.specs.Question.{formula_asked};
@@ -22,12 +19,12 @@ use crate::answer_file::AnswerFile;
 use crate::asked::Asked;
 use crate::deliver::{give, lack};
 use crate::effort::Effort;
-use crate::evidence::{absence_of, check_proof, log_file};
+use crate::evidence::{absence_of, log_file, proof_file};
 use crate::outside::Outside;
 use crate::pattern::print_pattern;
 use crate::status::Status;
 use crate::text::Text;
-use lls_base::{Memory, Name, Shelf, Sink};
+use lls_base::{Memory, Shelf, Sink};
 use lls_cnf::Formula;
 use lls_encode::encode;
 use lls_grid::History;
@@ -60,19 +57,18 @@ fn certificate(
     alloc: Global,
     asked: &Asked,
     k: u32,
-    log: &Log,
-    proof: Name,
+    log: Log,
+    effort: Effort,
 ) -> Result<AnswerFile, Memory>
     requires room { LeavesRoom asked.now.problem }
     requires below { k < grid_size asked.now.problem.posed }
-    requires accepted { are_accepted (numbered (formula_asked (asked_fewer asked.now k)).clauses) log.now.steps ≡ true }
-    ensures file { IfOk result (λ file. file ≡ record { name = proof; bytes = log_text log.now.steps }) }
-    ensures accepted { IfOk result (λ file. verdict (formula_asked (asked_fewer asked.now k)) file.bytes ≡ Accepted) }
+    requires evidence { IsEvidence (formula_asked (asked_fewer asked.now k)) effort log.steps }
+    ensures { IfOk result (HasProof (formula_asked (asked_fewer asked.now k)) effort) }
 {
     let bounded = fewer(alloc, &asked.problem, k)?;
     let formula = encode(alloc, &bounded, asked.form)?;
-    let _checked = check_proof(alloc, &formula, log)?;
-    log_file(alloc, log, proof)
+    let (_checked, file) = proof_file(alloc, &formula, log, effort)?;
+    Ok(file)
 }
 
 // The answer of a solution with the fewest live cells, and of the log that shows that none has fewer.
@@ -82,13 +78,13 @@ fn shown<'f>(
     effort: Effort,
     rle: bool,
     history: &History,
-    log: &Log,
+    log: Log,
 ) -> Result<Answer<'f>, Memory>
     requires room { LeavesRoom asked.now.problem }
     requires isotropic { IsIsotropic asked.now.problem.rule }
-    requires shown { IsShown asked.now.problem asked.now.form effort.budget history.now log.now.steps }
+    requires shown { IsShown asked.now.problem asked.now.form effort.budget history.now log.steps }
     requires fewest { HasFewest asked.now.problem history.now }
-    requires kept { KeepsAll effort.keep_all log.now.steps }
+    requires kept { KeepsAll effort.keep_all log.steps }
     ensures { IfOk result (IsAnswer (questions.Least asked.now effort rle)) }
 {
     // What the type of a problem keeps is known from here on.
@@ -105,7 +101,7 @@ fn shown<'f>(
             file: None,
         });
     }
-    let file = Some(certificate(alloc, asked, live - 1, log, effort.proof)?);
+    let file = Some(certificate(alloc, asked, live - 1, log, effort)?);
     Ok(Answer { status, text, file })
 }
 
@@ -128,8 +124,8 @@ fn fewest<'f>(
     let _posed = problem.posed();
     let _demands = problem.demands();
     match least(alloc, problem, asked.form, effort.budget, effort.keep_all)? {
-        Least::Shown { history, log } => shown(alloc, asked, effort, rle, &history, &log),
-        Least::Absent { log } => absence_of(alloc, asked, formula, &log, effort.proof),
+        Least::Shown { history, log } => shown(alloc, asked, effort, rle, &history, log),
+        Least::Absent { log } => absence_of(alloc, asked, formula, log, effort),
         Least::AtMost { history, log } => {
             let text = counted(alloc, "at most", &history, problem.rule(), rle)?;
             let file = log_file(alloc, &log, effort.proof)?;

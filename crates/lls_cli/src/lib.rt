@@ -28,5 +28,6 @@ pub mod run;
 mod search;
 pub mod status;
 mod text;
+mod trim;
 
 pub use deliver::lack;

@@ -6,7 +6,7 @@ ghost use Rattle.lls_words.specs.Job.{AreOpen, AreWithinLimits, KeepsLimits};
 ghost use Rattle.lls_words.specs.declared.job.Job as jobs;
 ghost use Rattle.lls_words.specs.declared.job.Job.TheVariants as all_jobs;
 ghost use Rattle.lls_cli.specs.Answer.{HasShortBudget, NoHolds, NoneHolds, SomeHolds, YesHolds};
-ghost use Rattle.lls_cli.specs.Claims.{ChangesOnly, CountsNeverFall, HasCause, IsAnswered, IsComplete, IsFaultStatus, IsSilent, LeavesBegun, LeavesCertificate, LeavesLog, LeavesProof, NothingFailed, OfQuestion, Publishes, PublishesFewest, SaysWhy, HasWhole, outputs_of_words};
+ghost use Rattle.lls_cli.specs.Claims.{ChangesOnly, CountsNeverFall, HasCause, IsAnswered, IsComplete, IsFaultStatus, IsSilent, LeavesBegun, LeavesCertificate, LeavesLog, LeavesProof, LeavesTrimmed, NothingFailed, OfQuestion, Publishes, PublishesFewest, SaysWhy, HasWhole, outputs_of_words};
 ghost use Rattle.lls_cli.specs.CommandLine.{job_in};
 ghost use Rattle.lls_cli.specs.Ends.{End, HasInputs, IsEnd, ahead_of};
 ghost use Rattle.lls_cli.specs.Making.{IsSize};
@@ -17,6 +17,7 @@ ghost use Rattle.lls_cli.specs.Steps.{ComesTo, Reads};
 use crate::answer::Answer;
 use crate::answering::{
     answer_check, answer_cnf, answer_judge, answer_loose_check, answer_lrat, answer_sat,
+    answer_trim,
 };
 use crate::asked::{Asked, OpenAsked};
 use crate::deliver::{give, refuse};
@@ -305,6 +306,14 @@ fn run_job<S: Shelf, O: Sink, E: Sink>(
             );
             give_read(alloc, answer, outside)
         }
+        Job::Trim {
+            formula,
+            proof,
+            output,
+        } => {
+            let answer = answer_trim(alloc, outside.shelf, &formula, &proof, output);
+            give_read(alloc, answer, outside)
+        }
     }
 }
 
@@ -353,7 +362,9 @@ pub fn run<S: Shelf, O: Sink, E: Sink>(
 
     // What follows from it. The yes of a check says that the proof is accepted and no history is a solution, or no
     // assignment satisfies the formula, and that of a judging that the pattern is a solution. The no of a check says
-    // that the proof isn't accepted, and that of a judging that the pattern is no solution.
+    // that the proof isn't accepted, and that of a judging that the pattern is no solution. The yes of a trim says that the
+    // proof is accepted and rests on unit propagation alone, and its file has what the empty clause rests on; its no says
+    // that the proof isn't accepted, or rests on something else too.
     ensures yes { result ≡ Status.Done → OfQuestion YesHolds (job_in words.now) (files_of S.Shelf shelf.old) }
     ensures no { result ≡ Status.Refused → OfQuestion NoHolds (job_in words.now) (files_of S.Shelf shelf.old) }
 
@@ -366,6 +377,7 @@ pub fn run<S: Shelf, O: Sink, E: Sink>(
     ensures proof { result ≡ Status.NoPattern → OfQuestion (LeavesProof (files_of S.Shelf shelf.new)) (job_in words.now) (files_of S.Shelf shelf.old) }
     ensures log { result ≡ Status.Undecided → OfQuestion (LeavesLog (files_of S.Shelf shelf.new)) (job_in words.now) (files_of S.Shelf shelf.old) }
     ensures certified { result ≡ Status.Pattern → OfQuestion (LeavesCertificate (files_of S.Shelf shelf.new)) (job_in words.now) (files_of S.Shelf shelf.old) }
+    ensures trimmed { result ≡ Status.Done → OfQuestion (LeavesTrimmed (files_of S.Shelf shelf.new)) (job_in words.now) (files_of S.Shelf shelf.old) }
     ensures made { IsAnswered result → OfQuestion (λ question. HasWhole (files_of S.Shelf shelf.new) (ahead_of question)) (job_in words.now) (files_of S.Shelf shelf.old) }
     ensures published { result ≡ Status.NoPattern → Publishes (job_in words.now) (files_of S.Shelf shelf.old) (files_of S.Shelf shelf.new) }
     ensures published_fewest { result ≡ Status.Pattern → PublishesFewest (job_in words.now) (files_of S.Shelf shelf.old) (files_of S.Shelf shelf.new) }

@@ -12,6 +12,7 @@ mod outside;
 mod pieces;
 mod places;
 mod searches;
+mod trims;
 
 use lls_base::{MemShelf, MemSink, Name, Plan};
 use lls_cli::run::run;

@@ -1,3 +1,3 @@
 pub mod Made
 pub mod Solutions
-mod Searched
+pub mod Searched

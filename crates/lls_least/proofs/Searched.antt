@@ -26,9 +26,10 @@ one_more learnt last steps budget ends within =
     let few = count_by-le-length is_addition (last ∷ []) in
     omega (arith, split, few, within)
 
-proof_from : (formula : Cnf) (budget : ℕ) (steps : List Step) → IsRefutation formula budget steps → IsProof formula budget steps
+pub proof_from : (formula : Cnf) (budget : ℕ) (steps : List Step) → IsRefutation formula budget steps → IsProof formula budget steps
 proof_from formula budget steps refutation = record {
   accepted = refutation.accepted;
+  good = refutation.good;
   within = one_more refutation.learnt refutation.last steps budget refutation.ends refutation.log.within;
 }
 

@@ -5,7 +5,7 @@ use Rattle.lls_grid.specs.History.{History}
 use Rattle.lls_prooflog.specs.declared.step.Step.{Step}
 use Rattle.lls_prooflog.specs.Log.{Logged}
 use Rattle.lls_prooflog.specs.Steps.{are_accepted, numbered}
-use Rattle.lls_prooflog.specs.Spent.{IsSpent}
+use Rattle.lls_prooflog.specs.Spent.{EachStep, IsGood, IsSpent, log_start}
 use Rattle.lls_problem.specs.declared.form.Form.{Form}
 use Rattle.lls_problem.specs.Problem.{PosedProblem}
 use Rattle.lls_problem.specs.Solution.{IsSolution, IsAbsent}
@@ -19,9 +19,10 @@ use Rattle.lls_least.specs.Fewer.{fewer, live_cells}
 abbrev pub HasFewest : PosedProblem → History → Type 0
 HasFewest p history = (other : History) → IsSolution p other → live_cells history ≤ live_cells other
 
--- the steps are accepted against the formula, and add the empty clause and as many others as the budget allows at the most
+-- the steps are accepted against the formula, by unit propagation, and add the empty clause and as many others as the budget allows at the most
 pub record IsProof (formula : Cnf) (budget : ℕ) (steps : List Step) : Type 0 where
   pub accepted : are_accepted (numbered formula.clauses) steps ≡ true
+  pub good : EachStep IsGood (log_start formula) steps
   pub within : additions steps ≤ budget + 1
 
 -- steps that show that no solution has fewer than so many live cells: none where that is 0, else a proof against the formula of

@@ -126,6 +126,12 @@ make 1 8 f > Operands 4 3
 make x 0 f f f > Operands 4 5
 make > Operands 4 0
 make --as=rle 1 8 f p > UnknownOption 2
+trim f p > Operands 3 2
+trim f p f q > Operands 3 4
+trim > Operands 3 0
+trim f p f > SameName 4
+trim f p p > SameName 4
+trim f p o --keep all > UnknownOption 5
 least f f > SameName 3
 least --rule=B3 f f > Stray 2 3
 open f f --high B3/S2 > SameName 3
@@ -217,6 +223,7 @@ fn each_command_takes_its_options_alone(rt: HostRuntime) -> Result<(), Fail> {
             "opencheck f p",
             "formula low high edge symmetry period live differ ",
         ),
+        ("trim f p o", ""),
     ];
     for (line, want) in rows {
         assert_eq!(rt; options_of(alloc, line)?.as_str(), want, "at {line:?}");
@@ -249,24 +256,35 @@ fn options_and_operands_stand_in_any_order(rt: HostRuntime) -> Result<(), Fail> 
     Ok(())
 }
 
-// What a job to make a problem says, with blanks between.
-fn made_by(alloc: Global, job: Job) -> Result<String, Fail> {
-    let Job::Make {
-        seed,
-        size,
-        search,
-        proof,
-    } = job
-    else {
-        return Err(Fail::from("a problem to make"));
-    };
-    let search = search.text();
-    let proof = proof.text();
-    Ok(format!(in alloc; "{seed} {size} {search} {proof}")?)
+// What a job to make a problem or to trim a proof says, with blanks between.
+fn operands_of(alloc: Global, job: Job) -> Result<String, Fail> {
+    match job {
+        Job::Make {
+            seed,
+            size,
+            search,
+            proof,
+        } => {
+            let search = search.text();
+            let proof = proof.text();
+            Ok(format!(in alloc; "{seed} {size} {search} {proof}")?)
+        }
+        Job::Trim {
+            formula,
+            proof,
+            output,
+        } => {
+            let formula = formula.text();
+            let proof = proof.text();
+            let output = output.text();
+            Ok(format!(in alloc; "{formula} {proof} {output}")?)
+        }
+        _ => Err(Fail::from("a job of operands alone")),
+    }
 }
 
 #[test]
-fn numbers_and_names_of_what_is_made(rt: HostRuntime) -> Result<(), Fail> {
+fn operands_stand_in_their_order(rt: HostRuntime) -> Result<(), Fail> {
     let alloc = rt.alloc();
     let rows = [
         ("make 0 1 f p", "0 1 f p"),
@@ -284,10 +302,12 @@ fn numbers_and_names_of_what_is_made(rt: HostRuntime) -> Result<(), Fail> {
         ),
         ("make 7 8 8 7", "7 8 8 7"),
         ("make 7 7 8 7", "7 7 8 7"),
+        ("trim f p o", "f p o"),
+        ("trim f f o", "f f o"),
     ];
     for (line, want) in rows {
         assert_eq!(rt;
-            made_by(alloc, job_of(alloc, line)?)?.as_str(),
+            operands_of(alloc, job_of(alloc, line)?)?.as_str(),
             want,
             "at {line:?}"
         );
@@ -344,6 +364,7 @@ fn choices_of_a_search(rt: HostRuntime) -> Result<(), Fail> {
         ("least f p --as rle --keep=all", (Some(100_000), true, true)),
         ("open f --budget 7 p", (Some(7), false, false)),
         ("opencheck f f", (None, false, false)),
+        ("trim f f o", (None, false, false)),
     ];
     for (line, want) in rows {
         assert!(rt; choices_of(job_of(alloc, line)?) == want, "at {line:?}");
@@ -380,6 +401,7 @@ fn forms_of_formulas(rt: HostRuntime) -> Result<(), Fail> {
         ("cnf --formula 1 f", Some(Form::Rows)),
         ("judge f p", None),
         ("make 1 8 f p", None),
+        ("trim f p o", None),
         ("least f p", Some(Form::Cover)),
         ("open f p --formula 1", Some(Form::Rows)),
         ("opencheck --formula=1 f f", Some(Form::Rows)),

@@ -54,6 +54,11 @@ other_count commands.OpenCheck [] givens other = refl
 other_count commands.OpenCheck (o ∷ []) givens other = refl
 other_count commands.OpenCheck (o ∷ p ∷ []) givens other = absurd (other refl)
 other_count commands.OpenCheck (o ∷ p ∷ q ∷ more) givens other = refl
+other_count commands.Trim [] givens other = refl
+other_count commands.Trim (o ∷ []) givens other = refl
+other_count commands.Trim (o ∷ p ∷ []) givens other = refl
+other_count commands.Trim (o ∷ p ∷ q ∷ []) givens other = absurd (other refl)
+other_count commands.Trim (o ∷ p ∷ q ∷ r ∷ more) givens other = refl
 
 -- the same of operands as contracts see them
 pub refused : {X : Type 0} (command : Command) (seen : X → Operand) (operands : List X) (givens : List Given) → length operands ≢ operand_count command

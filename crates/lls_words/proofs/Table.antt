@@ -57,6 +57,7 @@ finds commands.Make = refl
 finds commands.Least = refl
 finds commands.Open = refl
 finds commands.OpenCheck = refl
+finds commands.Trim = refl
 
 pub arg_by_long-option : (command : Command) (s : Setting) → takes command s ≡ true → arg_by_long (rules command) (option_name s) ≡ Some (filled (option_rule s))
 arg_by_long-option command s taken =
@@ -74,3 +75,4 @@ is_simple-parser commands.Make = refl
 is_simple-parser commands.Least = refl
 is_simple-parser commands.Open = refl
 is_simple-parser commands.OpenCheck = refl
+is_simple-parser commands.Trim = refl

@@ -10,7 +10,7 @@ use Rattle.lls_words.specs.declared.command.Setting.TheVariants as settings
 abbrev pub all_commands : List Command
 all_commands =
     commands.Check ∷ commands.Search ∷ commands.Judge ∷ commands.Cnf ∷ commands.Sat ∷ commands.Lrat ∷ commands.Rule ∷ commands.Make
-    ∷ commands.Least ∷ commands.Open ∷ commands.OpenCheck ∷ []
+    ∷ commands.Least ∷ commands.Open ∷ commands.OpenCheck ∷ commands.Trim ∷ []
 
 abbrev pub command_name : Command → List ℕ
 command_name commands.Check = codes "check"
@@ -24,6 +24,7 @@ command_name commands.Make = codes "make"
 command_name commands.Least = codes "least"
 command_name commands.Open = codes "open"
 command_name commands.OpenCheck = codes "opencheck"
+command_name commands.Trim = codes "trim"
 
 -- the command that has the name
 abbrev pub command_of : List ℕ → Option Command
@@ -41,6 +42,7 @@ operand_count commands.Make = 4
 operand_count commands.Least = 2
 operand_count commands.Open = 2
 operand_count commands.OpenCheck = 2
+operand_count commands.Trim = 3
 
 -- what the operands of a command are called, by their places
 abbrev pub operand_names : Command → List (List ℕ)
@@ -92,6 +94,7 @@ rule_options commands.Make = []
 rule_options commands.Least = one_rule
 rule_options commands.Open = two_rules
 rule_options commands.OpenCheck = two_rules
+rule_options commands.Trim = []
 
 -- a command's other options
 abbrev pub other_options : Command → List Setting
@@ -106,6 +109,7 @@ other_options commands.Make = []
 other_options commands.Least = search_options
 other_options commands.Open = search_options
 other_options commands.OpenCheck = check_options
+other_options commands.Trim = []
 
 -- the options that a command takes
 abbrev pub options_of : Command → List Setting

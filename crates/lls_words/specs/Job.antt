@@ -129,6 +129,9 @@ job_with commands.Open (search_file ∷ proof ∷ []) givens =
 job_with commands.OpenCheck (search_file ∷ proof ∷ []) givens =
     and_then (settled defaults givens) (λ s.
     and_then (checked_ends s.low s.high) (λ _. Ok (jobs.LooseCheck search_file.word proof.word s.low s.high s.demands s.form)))
+job_with commands.Trim (formula ∷ proof ∷ output ∷ []) givens =
+    and_then (names_apart formula output) (λ names.
+    and_then (names_apart proof output) (λ others. Ok (jobs.Trim names.0 others.0 others.1)))
 job_with command operands givens = Err (Operands (operand_count command) (length operands))
 
 abbrev pub job_of_command : Option Command → List (List ℕ) → Result Job WordsError
@@ -177,3 +180,4 @@ KeepsLimits (jobs.Make seed size search_file proof) = (1 ≤ size) × (size ≤ 
 KeepsLimits (jobs.Least search_file proof rule demands form budget keep_all rle) = AreAllowed rule demands budget
 KeepsLimits (jobs.Loose search_file proof low high demands form budget keep_all rle) = AreOpen low high demands × (budget ≤ most_budget)
 KeepsLimits (jobs.LooseCheck search_file proof low high demands form) = AreOpen low high demands
+KeepsLimits (jobs.Trim formula proof output) = Unit {0}

@@ -19,6 +19,7 @@ pub enum Command {
     Least,
     Open,
     OpenCheck,
+    Trim,
 }
 
 /// An option. Those that say a command's rule stand side by side, and so do its others.
@@ -43,7 +44,7 @@ static OPERANDS: [&str; 4] = ["first", "second", "third", "fourth"];
 
 impl Command {
     // The table of commands.
-    const ALL: [Command; 11] = [
+    const ALL: [Command; 12] = [
         Command::Check,
         Command::Search,
         Command::Judge,
@@ -55,6 +56,7 @@ impl Command {
         Command::Least,
         Command::Open,
         Command::OpenCheck,
+        Command::Trim,
     ];
 
     // What the command is called.
@@ -73,6 +75,7 @@ impl Command {
             Command::Least => b"least",
             Command::Open => b"open",
             Command::OpenCheck => b"opencheck",
+            Command::Trim => b"trim",
         }
     }
 
@@ -103,6 +106,7 @@ impl Command {
             | Command::Least
             | Command::Open
             | Command::OpenCheck => &OPERANDS[..2],
+            Command::Trim => &OPERANDS[..3],
             Command::Make => &OPERANDS[..],
         }
     }
@@ -125,7 +129,7 @@ impl Command {
             Command::Open | Command::OpenCheck => {
                 &Setting::ALL[Setting::Low as usize..=Setting::High as usize]
             }
-            Command::Sat | Command::Lrat | Command::Rule | Command::Make => &[],
+            Command::Sat | Command::Lrat | Command::Rule | Command::Make | Command::Trim => &[],
         }
     }
 
@@ -142,7 +146,7 @@ impl Command {
             }
             Command::Judge => &Setting::ALL[Setting::Edge as usize..=Setting::As as usize],
             Command::Sat => &Setting::ALL[Setting::Budget as usize..],
-            Command::Lrat | Command::Rule | Command::Make => &[],
+            Command::Lrat | Command::Rule | Command::Make | Command::Trim => &[],
         }
     }
 

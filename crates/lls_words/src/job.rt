@@ -119,4 +119,11 @@ pub enum Job {
         /// The form of the problem's formula, of which it is a proof.
         form: Form,
     },
+    /// Write what the empty clause of a proof rests on.
+    Trim {
+        formula: Name,
+        proof: Name,
+        /// The file that gets the trimmed proof.
+        output: Name,
+    },
 }

@@ -51,6 +51,23 @@ fn posing(
     Ok((name_of(alloc, first)?, name_of(alloc, second)?, settings))
 }
 
+// The same where the second is written, so that the names have to differ.
+fn searching(
+    alloc: Global,
+    file: &Operand,
+    written: &Operand,
+    givens: &[Given],
+) -> Result<(Name, Name, Settings), WordsError>
+    ensures posed { Gives WordsError.Memory (λ posed. posed) result
+        (and_then (settled defaults (map seen_given givens.now)) (λ settings.
+        and_then (names_apart (seen_operand file.now) (seen_operand written.now)) (λ names. Ok (names.0, names.1, settings)))) }
+    ensures allowed { IfOk result (λ posed. AreSettled posed.2) }
+{
+    let settings = settle(alloc, givens)?;
+    let (file, written) = names_apart(alloc, file, written)?;
+    Ok((file, written, settings))
+}
+
 /// The job of `check`.
 pub fn check_job(
     alloc: Global,
@@ -89,8 +106,7 @@ pub fn search_job(
         (job_with Command.Search (seen_operand search.now ∷ seen_operand proof.now ∷ []) (map seen_given givens.now)) }
     ensures limits { IfOk result KeepsLimits }
 {
-    let settings = settle(alloc, givens)?;
-    let (search, proof) = names_apart(alloc, search, proof)?;
+    let (search, proof, settings) = searching(alloc, search, proof, givens)?;
     let Settings {
         rule,
         demands,
@@ -171,12 +187,12 @@ pub fn sat_job(
         (job_with Command.Sat (seen_operand formula.now ∷ seen_operand proof.now ∷ []) (map seen_given givens.now)) }
     ensures limits { IfOk result KeepsLimits }
 {
+    let (formula, proof, settings) = searching(alloc, formula, proof, givens)?;
     let Settings {
         budget,
         keep_all,
         ..
-    } = settle(alloc, givens)?;
-    let (formula, proof) = names_apart(alloc, formula, proof)?;
+    } = settings;
     Ok(Job::Sat {
         formula,
         proof,
@@ -235,8 +251,7 @@ pub fn least_job(
         (job_with Command.Least (seen_operand search.now ∷ seen_operand proof.now ∷ []) (map seen_given givens.now)) }
     ensures limits { IfOk result KeepsLimits }
 {
-    let settings = settle(alloc, givens)?;
-    let (search, proof) = names_apart(alloc, search, proof)?;
+    let (search, proof, settings) = searching(alloc, search, proof, givens)?;
     let Settings {
         rule,
         demands,
@@ -269,8 +284,7 @@ pub fn open_job(
         (job_with Command.Open (seen_operand search.now ∷ seen_operand proof.now ∷ []) (map seen_given givens.now)) }
     ensures limits { IfOk result KeepsLimits }
 {
-    let settings = settle(alloc, givens)?;
-    let (search, proof) = names_apart(alloc, search, proof)?;
+    let (search, proof, settings) = searching(alloc, search, proof, givens)?;
     check_ends(&settings.low, &settings.high)?;
     let Settings {
         low,
@@ -322,5 +336,25 @@ pub fn open_check_job(
         high,
         demands,
         form,
+    })
+}
+
+/// The job of `trim`.
+pub fn trim_job(
+    alloc: Global,
+    formula: &Operand,
+    proof: &Operand,
+    output: &Operand,
+) -> Result<Job, WordsError>
+    ensures job { Gives WordsError.Memory (λ job. job) result
+        (job_with Command.Trim (seen_operand formula.now ∷ seen_operand proof.now ∷ seen_operand output.now ∷ []) []) }
+    ensures limits { IfOk result KeepsLimits }
+{
+    let (formula, _) = names_apart(alloc, formula, output)?;
+    let (proof, output) = names_apart(alloc, proof, output)?;
+    Ok(Job::Trim {
+        formula,
+        proof,
+        output,
     })
 }

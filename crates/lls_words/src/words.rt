@@ -11,7 +11,7 @@ use crate::error::WordsError;
 use crate::job::Job;
 use crate::jobs::{
     check_job, cnf_job, judge_job, least_job, make_job, name_of, open_check_job, open_job, sat_job,
-    search_job,
+    search_job, trim_job,
 };
 use crate::parser::read_words;
 use crate::scan::{Scan, scan_words};
@@ -44,6 +44,7 @@ fn job_with(alloc: Global, command: Command, scan: &Scan) -> Result<Job, WordsEr
         (Command::Least, [search, proof]) => least_job(alloc, search, proof, givens),
         (Command::Open, [search, proof]) => open_job(alloc, search, proof, givens),
         (Command::OpenCheck, [search, proof]) => open_check_job(alloc, search, proof, givens),
+        (Command::Trim, [formula, proof, output]) => trim_job(alloc, formula, proof, output),
         (_, operands) => Err(WordsError::Operands(command.operand_count(), operands.len() as u64)),
     }
 }

@@ -165,6 +165,14 @@ fn every_place_fails(rt: HostRuntime) -> Result<(), Fail> {
             Status::Done,
         ),
         case_of("rule B3/S23", "", "", 0, "B3/S23\n", Status::Done),
+        case_of(
+            "trim f p q",
+            "p cnf 1 2\n1 0\n-1 0\n",
+            "4 1 0 1 0\n9 0 1 2 0\n",
+            2,
+            "kept 1 of 2\n",
+            Status::Done,
+        ),
     ];
     for case in &cases {
         inputs_fail(&rt, alloc, case)?;

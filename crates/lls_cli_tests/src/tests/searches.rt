@@ -48,7 +48,7 @@ fn looks(
     Ok(())
 }
 
-const SQUARE: &str = "p cnf 2 4\n1 2 0\n1 -2 0\n-1 2 0\n-1 -2 0\n";
+pub(super) const SQUARE: &str = "p cnf 2 4\n1 2 0\n1 -2 0\n-1 2 0\n-1 -2 0\n";
 
 // Each has one assignment that satisfies it, or none, or no clause; then a decision makes each variable false.
 #[test]

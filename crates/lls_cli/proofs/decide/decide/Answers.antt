@@ -2,7 +2,7 @@ use Rattle.std.proofs.Common.{ap, arith, Ok, ◌∙◌}
 use Rattle.std.proofs.lemmas.Result.{IfOk-weaker}
 use Rattle.lls_cli.specs.declared.status.Status.TheVariants as statuses
 use Rattle.lls_cli.specs.Answer.{shown}
-use Rattle.lls_cli.proofs.Searches.{satisfied_answer, unsatisfied_answer, unknown_answer}
+use Rattle.lls_cli.proofs.Searches.{evidence_of, satisfied_answer, unsatisfied_answer, unknown_answer}
 use Rattle.lls_cli.proofs.decide.decide.Goals as goal
 
 pub print_model-requires : goal.print_model-requires
@@ -17,12 +17,13 @@ returns-in-Sat c =
 
 pub returns-in-Unsat : goal.returns-in-Unsat
 returns-in-Unsat c =
-    let file = c.in_ok-file-in-Unsat.file in
-    let made = c.in_ok-file-in-Unsat.ensures in
-    let checked = c.in_ok-_checked-in-Unsat.ensures in
+    let made = c.in_ok-_checked-in-Unsat.ensures in
     IfOk-weaker c.of_text.result _ _ (λ answer is.
-    unsatisfied_answer c.args.formula.now c.args.effort c.solve.new.log.steps file answer
-    made.file c.solve.ensures.all_kept (c.in_ok-assignment.ensures.unsat (ap Ok c.in-Unsat.is)) (checked.accepted file.bytes made.read_again) checked.unsatisfiable is) c.of_text.ensures
+    unsatisfied_answer c.args.formula.now c.args.effort c.in_ok-_checked-in-Unsat.file answer made.proof made.unsatisfiable is) c.of_text.ensures
+
+pub proof_file-requires : goal.proof_file-requires
+proof_file-requires c =
+    evidence_of c.args.formula.now c.args.effort c.solve.new.log.steps c.solve.ensures.all_kept (c.in_ok-assignment.ensures.unsat (ap Ok c.in-Unsat.is))
 
 pub returns : goal.returns
 returns c =

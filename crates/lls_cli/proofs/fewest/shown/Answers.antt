@@ -15,6 +15,11 @@ certificate-requires-clause-below c =
     let live : live_cells c.args.history.now ≡ suc (c.population-live.result - 1) = omega (arith, c.population-live.ensures, c.if-live-eq0.false) in
     below_cells c.args.asked.now c.args.history.now (c.population-live.result - 1) c.posed-posed.ensures.kept c.requires.shown.solution live
 
+pub certificate-requires-clause-evidence : goal.certificate-requires-clause-evidence
+certificate-requires-clause-evidence c =
+    let live : live_cells c.args.history.now ≡ suc (c.population-live.result - 1) = omega (arith, c.population-live.ensures, c.if-live-eq0.false) in
+    certified_by c.args.asked.now c.args.effort c.args.log.steps (live_cells c.args.history.now) (c.population-live.result - 1) live c.requires.kept c.requires.shown.certified
+
 pub returns-then-live-eq0 : goal.returns-then-live-eq0
 returns-then-live-eq0 c =
     let asked = c.args.asked.now in
@@ -27,12 +32,10 @@ pub returns : goal.returns
 returns c =
     let asked = c.args.asked.now in
     let history = c.args.history.now in
-    let steps = c.args.log.now.steps in
     let n = c.population-live.result - 1 in
     let live : live_cells history ≡ suc n = omega (arith, c.population-live.ensures, c.if-live-eq0.false) in
     let solution = c.requires.shown.solution in
     let file = c.in_ok-certificate.field-0 in
-    fewest_answer asked c.args.effort c.args.rle history n steps file _ (of_fewest asked history solution c.requires.fewest)
-    (above asked history n c.posed-posed.ensures.kept c.demands-demands.ensures.kept c.requires.room solution live) c.in_ok-certificate.ensures.file c.requires.kept
-    (certified_by asked c.args.effort steps (live_cells history) n live c.requires.shown.certified) c.in_ok-certificate.ensures.accepted
+    fewest_answer asked c.args.effort c.args.rle history n file _ (of_fewest asked history solution c.requires.fewest)
+    (above asked history n c.posed-posed.ensures.kept c.demands-demands.ensures.kept c.requires.room solution live) c.in_ok-certificate.ensures
     (ap (shown_behind file statuses.Pattern) (c.plain-text.ensures ∙ c.in_ok-counted.ensures ∙ ap (λ (rule : List Bool). counted_text (codes "least") c.args.rle rule history) c.rule.ensures))

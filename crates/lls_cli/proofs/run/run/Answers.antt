@@ -3,7 +3,7 @@ use Rattle.std.specs.Prelude.{map, string_bytes}
 use Rattle.lls_cli.specs.Moment.{SinkMoment}
 use Rattle.lls_cli.proofs.Consequences.{yes_means, no_means, found_means, none_means, short_means, words_alone, words_all, caused, meant, stays_silent, counts_stay}
 use Rattle.lls_cli.proofs.Files.{changes_only}
-use Rattle.lls_cli.proofs.Lefts.{leaves_proof, leaves_log, leaves_certificate}
+use Rattle.lls_cli.proofs.Lefts.{leaves_proof, leaves_log, leaves_certificate, leaves_trimmed}
 use Rattle.lls_cli.proofs.Stands.{stands}
 use Rattle.lls_cli.proofs.Begun.{leaves_begun}
 use Rattle.lls_cli.proofs.Why.{says_why}
@@ -65,6 +65,9 @@ returns-clause-log g c = leaves_log _ _ _ _ c.run_words.ensures
 
 pub returns-clause-complete : goal.returns-clause-complete
 returns-clause-complete g c = completes _ _ _ _ _ refl c.run_words.ensures
+
+pub returns-clause-trimmed : goal.returns-clause-trimmed
+returns-clause-trimmed g c = leaves_trimmed _ _ _ _ c.run_words.ensures
 
 pub returns-clause-published : goal.returns-clause-published
 returns-clause-published g c = λ is.

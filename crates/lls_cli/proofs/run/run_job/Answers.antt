@@ -24,3 +24,7 @@ returns-in-Lrat-clause-end g c =
 pub returns-in-LooseCheck-clause-end : goal.returns-in-LooseCheck-clause-end
 returns-in-LooseCheck-clause-end g c =
     rw c.in-LooseCheck.is (c.give_read-in-LooseCheck.ensures.end (jobs.LooseCheck c.in-LooseCheck.search c.in-LooseCheck.proof c.in-LooseCheck.low c.in-LooseCheck.high c.in-LooseCheck.demands c.in-LooseCheck.form) _ tt c.answer_loose_check-answer.ensures)
+
+pub returns-in-Trim-clause-end : goal.returns-in-Trim-clause-end
+returns-in-Trim-clause-end g c =
+    rw c.in-Trim.is (c.give_read-in-Trim.ensures.end (jobs.Trim c.in-Trim.formula c.in-Trim.proof c.in-Trim.output) _ tt c.answer_trim-answer.ensures)

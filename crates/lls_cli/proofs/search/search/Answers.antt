@@ -1,12 +1,12 @@
 use Rattle.std.proofs.Common.{◌≡◌, ap, subst, arith, Bool, List, Ok, ℕ, ◌∙◌}
 use Rattle.std.proofs.lemmas.Result.{IfOk-weaker}
 use Rattle.lls_lit.specs.Formula.{Cnf}
-use Rattle.lls_solver.specs.Searching.{IsModel, IsRefutation, IsExhausted}
+use Rattle.lls_solver.specs.Searching.{IsModel, IsExhausted}
 use Rattle.lls_cli.specs.declared.status.Status.TheVariants as statuses
 use Rattle.lls_cli.specs.Answer.{shown}
 use Rattle.lls_cli.specs.PatternText.{pattern_text}
 use Rattle.lls_cli.specs.Question.{formula_asked}
-use Rattle.lls_cli.proofs.Searches.{found_answer, absent_answer, undecided_answer, cells_fit}
+use Rattle.lls_cli.proofs.Searches.{found_answer, absent_answer, evidence_of, undecided_answer, cells_fit}
 use Rattle.lls_cli.proofs.search.search.Goals as goal
 
 pub decode-requires : goal.decode-requires
@@ -14,8 +14,9 @@ decode-requires c =
     let model = c.in_ok-assignment.ensures.sat c.in-Sat.assignment (ap Ok c.in-Sat.is) in
     omega (arith, model.many, ap (λ (f : Cnf). f.vars) c.requires.formula, cells_fit c.args.asked.now)
 
-pub absence_of-requires-clause-accepted : goal.absence_of-requires-clause-accepted
-absence_of-requires-clause-accepted c = (c.in_ok-assignment.ensures.unsat (ap Ok c.in-Unsat.is)).accepted
+pub absence_of-requires-clause-evidence : goal.absence_of-requires-clause-evidence
+absence_of-requires-clause-evidence c =
+    evidence_of c.args.formula.now c.args.effort c.solve.new.log.steps c.solve.ensures.all_kept (c.in_ok-assignment.ensures.unsat (ap Ok c.in-Unsat.is))
 
 pub returns-in-Sat : goal.returns-in-Sat
 returns-in-Sat c =
@@ -27,10 +28,7 @@ returns-in-Sat c =
 
 pub returns-in-Unsat : goal.returns-in-Unsat
 returns-in-Unsat c =
-    let asked = c.args.asked.now in
-    let refutation : IsRefutation (formula_asked asked) c.args.effort.budget c.solve.new.log.steps =
-    subst (λ (f : Cnf). IsRefutation f c.args.effort.budget c.solve.new.log.steps) c.requires.formula (c.in_ok-assignment.ensures.unsat (ap Ok c.in-Unsat.is)) in
-    IfOk-weaker c.absence_of.result _ _ (λ answer shows. absent_answer asked c.args.effort c.args.rle c.solve.new.log.steps answer c.solve.ensures.all_kept refutation shows) c.absence_of.ensures
+    IfOk-weaker c.absence_of.result _ _ (λ answer shows. absent_answer c.args.asked.now c.args.effort c.args.rle answer shows) c.absence_of.ensures
 
 pub returns : goal.returns
 returns c =
