@@ -1,13 +1,13 @@
--- A clause forces one literal at most, and none while all of its literals are false.
-use Rattle.std.proofs.Common.{◌≡◌, ℕ, Bool, true, false, ◌||◌, List, ◌∷◌, ◌++◌, Some, refl, sym, ap, ◌∙◌}
+-- A clause forces one literal at most, whose others are false, and none while all of its literals are false.
+use Rattle.std.proofs.Common.{◌≡◌, ◌≢◌, ℕ, Bool, true, false, ◌||◌, List, ◌∷◌, ◌++◌, Some, refl, sym, ap, ◌∙◌}
 use Rattle.std.specs.Prelude.{ℤ}
 use Rattle.std.specs.Ordering.{int_eq}
 use Rattle.std.specs.FinSet as set
 use Rattle.std.proofs.lemmas.List.Folds.{list_any-append}
 use Rattle.std.proofs.lemmas.Bool.Decides.{Decides-int_eq}
 use Rattle.lls_lit.specs.Literal.{variable_of, negation}
-use Rattle.lls_store.specs.Trail.{Entry, TrailState, has, IsTrail, reason_of}
-use Rattle.lls_store.specs.Clauses.{LiveClause, IsIn}
+use Rattle.lls_store.specs.Trail.{Entry, TrailState, has, HasNegated, IsTrail, reason_of}
+use Rattle.lls_store.specs.Clauses.{LiveClause, IsIn, clause_numbered}
 use Rattle.lls_store.specs.Sound.{IsSound}
 use Rattle.lls_store.specs.Store.{IsConflict}
 use Rattle.lls_store.proofs.ReasonFound.{IsReason, reason_found}
@@ -23,6 +23,14 @@ has-middle es before after e splits =
       or_true : (b : Bool) → (b || (true || has after e.lit)) ≡ true
       or_true true = refl
       or_true false = refl
+
+-- the other literals of the clause that forced a variable's literal are false
+pub others_false : (live : List LiveClause) (trail : TrailState) (v reason : ℕ) (clause : LiveClause) (m : ℤ) → IsSound live trail → reason_of trail.entries v ≡ Some reason → clause_numbered live reason ≡ Some clause → IsIn clause.lits m → variable_of m ≢ v → HasNegated trail.entries m
+others_false live trail v reason clause m sound is found inside other =
+    let r = reason_found live trail v reason sound is in
+    let same : r.forced.clause ≡ clause = same_found r.forced.clause clause r.forced.is_live found in
+    let early = r.forced.others_false m (ap (λ (c : LiveClause). set.contains c.lits m) same ∙ inside) (λ at. other (ap variable_of at ∙ r.stands.of_variable)) in
+    has-left trail.entries r.stands.before (r.entry ∷ r.stands.after) (negation m) r.stands.splits early
 
 pub forces_one : (live : List LiveClause) (trail : TrailState) (u v reason : ℕ) → IsTrail trail → IsSound live trail → reason_of trail.entries u ≡ Some reason → reason_of trail.entries v ≡ Some reason → u ≡ v
 forces_one live trail u v reason kept sound of_u of_v = by_test (int_eq b.entry.lit a.entry.lit) refl where

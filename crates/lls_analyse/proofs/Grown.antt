@@ -1,7 +1,7 @@
 -- What stays where false literals are visited and follow, and how that is taken back.
 use Rattle.std.proofs.Common.{◌≡◌, ℕ, zero, suc, ◌-◌, ◌<◌, ◌≤◌, Bool, true, false, cond, List, [], ◌∷◌, ◌++◌, length, get_or, set, take, refl, sym, ap, subst, ◌∙◌, inl, inr, arith}
 use Rattle.std.specs.Prelude.{ℤ, pos, ◌⊎◌, Contains, count_by}
-use Rattle.std.proofs.lemmas.List.{length-set, length_push, get_or-set_other, set-get_or, get_or_push, take-append-le, take_all}
+use Rattle.std.proofs.lemmas.List.{length-set, length_push, get_or-set_other, set-get_or, get_or_push, get_or_append_left, take-append-le, take_all}
 use Rattle.std.proofs.lemmas.Grind.{get_or-set_at}
 use Rattle.std.proofs.lemmas.List.Elements.{Contains-append_left, Contains-push_cases}
 use Rattle.std.proofs.lemmas.Bool.Decides.{eqb_tells}
@@ -75,6 +75,16 @@ grown_origin es a b m (more s l rest false_ bounds unseen) inside = elim (Contai
   | inr t ↦
       let P : ℤ → Type 0 = λ x. HasNegated es x in
       inr (ap (λ x. is_seen (status a.seen x)) (sym t) ∙ not_seen (is_seen (status a.seen l)) (λ seen. unlike (grown_seen es a s l rest seen) unseen), subst P t false_)
+]
+
+-- the literals that were added are false
+pub grown_false : (es : List Entry) (a b : VisitedState) (k : ℕ) (d : ℤ) → IsGrown es a b → length a.lits ≤ k → k < length b.lits → HasNegated es (get_or b.lits k d)
+grown_false es a b k d same le lt = absurd (omega (arith, le, lt))
+grown_false es a b k d (more s l rest false_ bounds unseen) le lt = elim (eqb_tells k (length s.lits)) [
+  | inl t ↦ subst (HasNegated es) (sym (get_or_push s.lits l d k (sym t.1))) false_
+  | inr t ↦
+      let early : k < length s.lits = omega (arith, lt, t.1, length_push s.lits l) in
+      subst (HasNegated es) (sym (get_or_append_left s.lits (l ∷ []) d k early)) (grown_false es a s k d rest le early)
 ]
 
 pub grown_lits : (es : List Entry) (a b : VisitedState) (m : ℤ) → IsGrown es a b → Contains a.lits m → Contains b.lits m

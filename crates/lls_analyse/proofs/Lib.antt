@@ -7,6 +7,7 @@ pub mod Opens
 pub mod Resolving
 pub mod Followed
 pub mod Forcing
+pub mod Valued
 pub mod Traces
 pub mod Resolvents
 pub mod HintLists

@@ -1,24 +1,19 @@
 -- A clause whose literals went where the others imply them: what stays of the analysis.
-use Rattle.std.proofs.Common.{◌≡◌, ◌≢◌, ℕ, ◌+◌, ◌-◌, ◌<◌, ◌≤◌, Bool, true, false, ◌||◌, cond, List, [], ◌∷◌, ◌++◌, length, get_or, set, take, Some, refl, sym, ap, subst, ◌∙◌, inl, inr, arith}
+use Rattle.std.proofs.Common.{◌≡◌, ◌≢◌, ℕ, ◌+◌, ◌-◌, ◌<◌, ◌≤◌, Bool, true, false, cond, List, [], ◌∷◌, ◌++◌, length, get_or, set, take, refl, sym, ap, subst, ◌∙◌, inl, inr, arith}
 use Rattle.std.proofs.Common.{rules}
 use Rattle.std.specs.Prelude.{ℤ, pos, ◌⊎◌, Contains, count_by, IsTrue}
-use Rattle.std.specs.FinSet as set'
-use Rattle.std.specs.Ordering.{int_eq}
 use Rattle.std.proofs.lemmas.List.{length-set, get_or-set_other, get_or_append_left, get_or_default, set-set, set-get_or}
 use Rattle.std.proofs.lemmas.Grind.{get_or-set_at}
-use Rattle.std.proofs.lemmas.List.Folds.{list_any-append}
 use Rattle.std.proofs.lemmas.Bool.{ltb-true, ltb-false}
 use Rattle.std.proofs.Math.Dec.{ltb}
 use Rattle.std.proofs.lemmas.Bool.Decides.{eqb_tells}
-use Rattle.lls_lit.specs.Literal.{variable_of, negation}
+use Rattle.lls_lit.specs.Literal.{variable_of}
 use Rattle.std.proofs.lemmas.List.{take_more}
 use Rattle.std.proofs.lemmas.List.Elements.{All-contains, Contains-push_cases}
 use Rattle.std.proofs.lemmas.List.Sums.{AllPass-from_list_all}
 use Rattle.lls_lit.specs.Formula.{is_literal_of, is_within}
-use Rattle.lls_store.specs.Trail.{Entry, TrailState, has, HasNegated, IsTrail, reason_of}
-use Rattle.lls_store.specs.Clauses.{LiveClause, IsIn, clause_numbered}
-use Rattle.lls_store.specs.Sound.{IsSound}
-use Rattle.lls_store.proofs.ReasonFound.{reason_found}
+use Rattle.lls_store.specs.Trail.{Entry, TrailState, HasNegated, IsTrail}
+use Rattle.lls_store.specs.Clauses.{LiveClause}
 use Rattle.lls_analyse.specs.declared.visited.Seen.{Seen}
 use Rattle.lls_analyse.specs.declared.visited.Seen.TheVariants.{No, Open, Kept, Followed}
 use Rattle.lls_analyse.specs.Visited.{VisitedState, AreVisited, is_seen, is_open, is_held, status, status_of}
@@ -27,18 +22,7 @@ use Rattle.lls_analyse.specs.Minimised.{IsGrown, Minimises}
 use Rattle.lls_analyse.specs.Minimised.IsGrown.{same, more}
 use Rattle.lls_analyse.proofs.Visits.{unlike, count_by-set}
 use Rattle.lls_analyse.proofs.Trails.{false_within}
-use Rattle.lls_analyse.proofs.Resolving.{same_found}
 use Rattle.lls_analyse.proofs.Grown.{grown_vars, grown_longer, grown_stays, grown_seen, grown_newly, grown_opens, grown_origin, gives_way_still}
-
--- the other literals of the clause that forced a variable's literal are false
-pub others_false : (live : List LiveClause) (trail : TrailState) (v reason : ℕ) (clause : LiveClause) (m : ℤ) → IsSound live trail → reason_of trail.entries v ≡ Some reason → clause_numbered live reason ≡ Some clause → IsIn clause.lits m → variable_of m ≢ v → HasNegated trail.entries m
-others_false live trail v reason clause m sound is found inside other =
-    let r = reason_found live trail v reason sound is in
-    let same : r.forced.clause ≡ clause = same_found r.forced.clause clause r.forced.is_live found in
-    let early = r.forced.others_false m (ap (λ (c : LiveClause). set'.contains c.lits m) same ∙ inside) (λ at. other (ap variable_of at ∙ r.stands.of_variable)) in
-    ap (λ (es : List Entry). has es (negation m)) r.stands.splits
-    ∙ list_any-append (λ (e : Entry). int_eq e.lit (negation m)) r.stands.before (r.entry ∷ r.stands.after)
-    ∙ ap (λ b. b || has (r.entry ∷ r.stands.after) (negation m)) early
 
 followed_not : {x : Seen} → x ≡ Followed → x ≡ Kept → ⊥
 followed_not a b = clash (sym a ∙ b) where

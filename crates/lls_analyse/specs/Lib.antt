@@ -1,6 +1,7 @@
 pub mod Spelled
 pub mod Learnt
 pub mod Hinted
+pub mod Valued
 pub mod Visited
 pub mod Marked
 pub mod Gathered

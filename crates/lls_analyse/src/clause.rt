@@ -7,40 +7,25 @@ ghost use Rattle.lls_store.specs.Trail.{TrailState};
 ghost use Rattle.lls_store.specs.Sound.{IsSound};
 ghost use Rattle.lls_store.specs.Store.{IsLearnt, IsNewId, sealed};
 ghost use Rattle.lls_analyse.specs.Visited.{is_open, status, AreVisited};
-ghost use Rattle.lls_analyse.specs.Gathered.{back_of, latest_of, is_later, is_other, level_or_zero, place_or_zero, Gathers};
+ghost use Rattle.lls_analyse.specs.Gathered.{back_of, latest_of, is_later, is_other, Gathers};
+ghost use Rattle.lls_analyse.specs.Valued.{HaveValues, HasValue};
 
 use crate::visited::Visited;
 use lls_lit::Lit;
 use lls_store::{MOST_CLAUSES, Store, Trail};
 
-// The level of a literal's variable, 0 where it has no value.
-fn level_or_zero(trail: &Trail, lit: Lit) -> u32
-    requires { variable_of lit ≤ trail.now.vars }
-    ensures { result ≡ level_or_zero trail.now.entries lit }
-{
-    trail.level(lit.var()).unwrap_or(0)
-}
-
-// Where a literal's variable stands in the trail, 0 where it has no value.
-fn place_or_zero(trail: &Trail, lit: Lit) -> usize
-    requires { variable_of lit ≤ trail.now.vars }
-    ensures { result ≡ place_or_zero trail.now.entries lit }
-{
-    trail.place(lit.var()).unwrap_or(0)
-}
-
 // Whether the literal is kept, and became false later than the latest so far.
 fn is_later(visited: &Visited, trail: &Trail, latest: &Option<Lit>, lit: Lit) -> bool
-    requires vars { visited.now.vars ≡ trail.now.vars }
-    requires within { variable_of lit ≤ trail.now.vars }
-    requires latest { IfSome latest.now (λ l. variable_of l ≤ trail.now.vars) }
+    requires within { variable_of lit ≤ visited.now.vars }
+    requires has_value { HasValue trail.now.entries lit }
+    requires latest { IfSome latest.now (HasValue trail.now.entries) }
     ensures { result ≡ is_later trail.now.entries visited.now.seen latest.now lit }
 {
     if !visited.is_kept(lit.var()) {
         return false;
     }
     match latest {
-        Some(other) => place_or_zero(trail, *other) < place_or_zero(trail, lit),
+        Some(other) => trail.known_place(other.var()) < trail.known_place(lit.var()),
         None => true,
     }
 }
@@ -48,7 +33,7 @@ fn is_later(visited: &Visited, trail: &Trail, latest: &Option<Lit>, lit: Lit) ->
 // Of the literals that are kept the one that became false last: none is of a higher level. The store watches it, and what is learnt
 // is propagated from there on.
 fn latest(visited: &Visited, trail: &Trail) -> Option<Lit>
-    requires { visited.now.vars ≡ trail.now.vars }
+    requires { HaveValues trail.now.entries visited.now.lits }
     ensures { result ≡ latest_of trail.now.entries visited.now }
 {
     let mut latest = None;
@@ -98,7 +83,7 @@ fn push_others(visited: &Visited, second: Lit, clause: &mut Vec<Lit>)
 
 // Gathers the literals of the clause.
 pub(crate) fn gather_clause(visited: &Visited, trail: &Trail, clause: &mut Vec<Lit>)
-    requires vars { visited.now.vars ≡ trail.now.vars }
+    requires have_values { HaveValues trail.now.entries visited.now.lits }
     requires some { 1 ≤ count_by is_open visited.now.seen }
     requires empty { clause.old.items ≡ [] }
     requires room { visited.now.vars ≤ vec_capacity clause.old }
@@ -114,11 +99,11 @@ pub(crate) fn gather_clause(visited: &Visited, trail: &Trail, clause: &mut Vec<L
 
 // The level of the second literal, 0 where there is none.
 pub(crate) fn back_of(trail: &Trail, clause: &[Lit]) -> u32
-    requires { is_within trail.now.vars clause.now ≡ true }
+    requires { HaveValues trail.now.entries clause.now }
     ensures { result ≡ back_of trail.now.entries clause.now }
 {
     match clause {
-        [_, second, ..] => level_or_zero(trail, *second),
+        [_, second, ..] => trail.known_level(second.var()),
         _ => 0,
     }
 }

@@ -6,6 +6,7 @@ ghost use Rattle.lls_store.specs.Trail.{IsTrail};
 ghost use Rattle.lls_store.specs.Clauses.{clause_numbered};
 ghost use Rattle.lls_store.specs.Store.{AreLive};
 ghost use Rattle.lls_analyse.specs.Hinted.{hint_at, hint_of, place_followed, AreHints, IsForcedPlace};
+ghost use Rattle.lls_analyse.specs.Valued.{HaveValues, HasValue};
 ghost use Rattle.lls_analyse.specs.Visited.{AreVisited};
 ghost use Rattle.lls_analyse.specs.Marked.{IsAnalysed};
 
@@ -15,19 +16,19 @@ use lls_store::{Store, Trail};
 
 // Where the literal stands in the trail, if it gave way.
 fn place_followed(visited: &Visited, trail: &Trail, lit: Lit) -> Option<usize>
-    requires vars { visited.now.vars ≡ trail.now.vars }
-    requires within { variable_of lit ≤ trail.now.vars }
+    requires within { variable_of lit ≤ visited.now.vars }
+    requires has_value { HasValue trail.now.entries lit }
     ensures { result ≡ place_followed trail.now.entries visited.now.seen lit }
 {
     match visited.seen(lit.var()) {
-        Seen::Followed => trail.place(lit.var()),
+        Seen::Followed => Some(trail.known_place(lit.var())),
         Seen::No | Seen::Open | Seen::Kept => None,
     }
 }
 
 // The places of the literals that gave way.
 fn gather_places(visited: &Visited, trail: &Trail, places: &mut Vec<usize>)
-    requires vars { visited.now.vars ≡ trail.now.vars }
+    requires have_values { HaveValues trail.now.entries visited.now.lits }
     requires empty { places.old.items ≡ [] }
     requires room { visited.now.vars ≤ vec_capacity places.old }
     ensures places { places.new.items ≡ filter_map (place_followed trail.now.entries visited.now.seen) visited.now.lits }

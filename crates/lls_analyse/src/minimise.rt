@@ -1,12 +1,13 @@
 // Minimises a clause: a literal goes where the others imply it, by the clauses that forced literals (Sörensson and Biere,
 // Minimizing Learned Clauses, 2009).
-ghost use Rattle.std.specs.Prelude.{◌≡◌, ◌≤◌, ◌<◌, ℕ, ℤ, ◌-◌, true, false, length, slice_index_or, slice_set, pos, IsTrue, IfOk};
+ghost use Rattle.std.specs.Prelude.{◌≡◌, ◌≤◌, ◌<◌, ℕ, ℤ, ◌-◌, true, false, length, slice_index_or, slice_set, pos, IsSome, IsTrue, IfOk};
 ghost use Rattle.lls_lit.specs.Literal.{variable_of};
 ghost use Rattle.lls_lit.specs.Formula.{is_literal_of};
-ghost use Rattle.lls_store.specs.Trail.{HasNegated, IsTrail};
+ghost use Rattle.lls_store.specs.Trail.{entry_of, HasNegated, IsTrail};
 ghost use Rattle.lls_store.specs.Sound.{IsSound};
 ghost use Rattle.lls_store.specs.Store.{AreLive};
 ghost use Rattle.lls_analyse.specs.Visited.{is_seen, status, status_of, AreVisited, VisitedState};
+ghost use Rattle.lls_analyse.specs.Valued.{HaveValues};
 ghost use Rattle.lls_analyse.specs.Marked.{AreMarked, GivesWay};
 ghost use Rattle.lls_analyse.specs.Minimised.{IsGrown, Minimises};
 
@@ -16,14 +17,14 @@ use lls_store::{Store, Trail};
 
 // The bit of a variable's level in a set of levels, where levels that are equal modulo 64 share one.
 fn level_bit(trail: &Trail, var: Var) -> u64
-    requires { var ≤ trail.now.vars }
+    requires { IsSome (entry_of trail.now.entries var) }
 {
-    1 << (trail.level(var).unwrap_or(0) % 64)
+    1 << (trail.known_level(var) % 64)
 }
 
 // The levels of what was visited.
 fn levels_of(visited: &Visited, trail: &Trail) -> u64
-    requires { visited.now.vars ≡ trail.now.vars }
+    requires { HaveValues trail.now.entries visited.now.lits }
 {
     let mut levels = 0;
     for lit in visited.lits() {
@@ -34,9 +35,9 @@ fn levels_of(visited: &Visited, trail: &Trail) -> u64
 
 // Whether a literal may follow: a clause forced its negation, and its level is one of those of the clause.
 fn may_follow(trail: &Trail, levels: u64, var: Var) -> bool
-    requires { var ≤ trail.now.vars }
+    requires { IsSome (entry_of trail.now.entries var) }
 {
-    trail.reason(var).is_some() && levels & level_bit(trail, var) != 0
+    trail.known_reason(var).is_some() && levels & level_bit(trail, var) != 0
 }
 
 // Lets a false literal follow, where nothing is known of its variable. It may give up.
@@ -67,7 +68,7 @@ fn follow_others<S: Store>(
     var: Var,
 ) -> bool
     requires vars { visited.old.vars ≡ trail.now.vars }
-    requires within { var ≤ trail.now.vars }
+    requires has_value { IsSome (entry_of trail.now.entries var) }
     requires store_vars { (S.state store.now).vars ≡ trail.now.vars }
     requires live { AreLive (S.state store.now) }
     requires sound { IsSound (S.state store.now).live trail.now }
@@ -75,7 +76,7 @@ fn follow_others<S: Store>(
     ensures grown { IsGrown trail.now.entries visited.old visited.new }
     ensures all { IsTrue result → (l : ℤ) → variable_of l ≡ var → GivesWay (S.state store.now).live trail.now.entries visited.new.seen l }
 {
-    if let Some(reason) = trail.reason(var) {
+    if let Some(reason) = trail.known_reason(var) {
         for lit in store.lits(reason) {
             if !follow(visited, trail, levels, *lit) {
                 return false;
@@ -95,7 +96,7 @@ fn follow_all<S: Store>(
     var: Var,
 ) -> bool
     requires vars { visited.old.vars ≡ trail.now.vars }
-    requires within { var ≤ trail.now.vars }
+    requires has_value { IsSome (entry_of trail.now.entries var) }
     requires store_vars { (S.state store.now).vars ≡ trail.now.vars }
     requires live { AreLive (S.state store.now) }
     requires sound { IsSound (S.state store.now).live trail.now }

@@ -1,11 +1,12 @@
 // From a conflict back along reasons (Marques-Silva and Sakallah, GRASP, 1996).
-ghost use Rattle.std.specs.Prelude.{◌≡◌, ◌⊎◌, ◌≤◌, ◌<◌, true, [], fold, count_by, replicate, Some, IsSome, vec_capacity};
+ghost use Rattle.std.specs.Prelude.{◌≡◌, ◌⊎◌, ◌≤◌, ◌<◌, true, [], fold, count_by, replicate, Some, IfSome, IsSome, vec_capacity};
 ghost use Rattle.lls_lit.specs.Literal.{variable_of};
 ghost use Rattle.lls_lit.specs.Formula.{is_within};
 ghost use Rattle.lls_store.specs.Trail.{IsTrail, reason_of};
 ghost use Rattle.lls_store.specs.Clauses.{clause_numbered};
 ghost use Rattle.lls_store.specs.Sound.{IsSound};
 ghost use Rattle.lls_store.specs.Store.{AreLive, IsConflict};
+ghost use Rattle.lls_analyse.specs.Valued.{HaveValues, AllHaveValues, HasValue};
 ghost use Rattle.lls_analyse.specs.Visited.{status_of, AreVisited};
 ghost use Rattle.lls_analyse.specs.Marked.{holding, held_in, nothing_seen, CanLeave, Follows, HoldsClause, IsResolved};
 ghost use Rattle.lls_analyse.specs.Traced.{IsTraced};
@@ -16,25 +17,20 @@ use lls_store::{Store, Trail};
 
 // How a literal of the clause is held.
 fn holding(trail: &Trail, lit: Lit) -> Seen
-    requires { variable_of lit ≤ trail.now.vars }
+    requires { HasValue trail.now.entries lit }
     ensures { result ≡ holding trail.now lit }
 {
-    match trail.level(lit.var()) {
-        Some(level) => {
-            if level == trail.current() {
-                Seen::Open
-            } else {
-                Seen::Kept
-            }
-        }
-        None => Seen::Kept,
+    if trail.known_level(lit.var()) == trail.current() {
+        Seen::Open
+    } else {
+        Seen::Kept
     }
 }
 
 // Makes a literal one of the clause, where nothing is known of its variable.
 fn hold(visited: &mut Visited, trail: &Trail, lit: Lit)
-    requires vars { visited.old.vars ≡ trail.now.vars }
-    requires within { variable_of lit ≤ trail.now.vars }
+    requires within { variable_of lit ≤ visited.old.vars }
+    requires has_value { HasValue trail.now.entries lit }
     ensures { visited.new ≡ held_in trail.now visited.old lit }
 {
     if visited.seen(lit.var()) == Seen::No {
@@ -46,6 +42,7 @@ fn hold(visited: &mut Visited, trail: &Trail, lit: Lit)
 fn hold_all(visited: &mut Visited, trail: &Trail, lits: &[Lit])
     requires vars { visited.old.vars ≡ trail.now.vars }
     requires within { is_within trail.now.vars lits.now ≡ true }
+    requires have_values { HaveValues trail.now.entries lits.now }
     ensures { visited.new ≡ fold (held_in trail.now) visited.old lits.now }
 {
     for lit in lits {
@@ -59,6 +56,7 @@ fn hold_clause<S: Store>(visited: &mut Visited, trail: &Trail, store: &S, number
     requires store_vars { (S.state store.now).vars ≡ trail.now.vars }
     requires live { AreLive (S.state store.now) }
     requires is_live { IsSome (clause_numbered (S.state store.now).live number) }
+    requires have_values { IfSome (clause_numbered (S.state store.now).live number) (AllHaveValues trail.now.entries) }
     ensures { HoldsClause (S.state store.now).live trail.now visited.old visited.new number }
 {
     hold_all(visited, trail, store.lits(number));

@@ -11,14 +11,15 @@ use Rattle.lls_analyse.specs.Visited.{is_seen, status_of}
 use Rattle.lls_analyse.specs.Minimised.IsGrown.{same}
 use Rattle.lls_analyse.proofs.Visits.{unlike}
 use Rattle.lls_analyse.proofs.LiveClauses.{IsSome-from, number_given, told}
+use Rattle.lls_analyse.proofs.Forcing.{others_false}
 use Rattle.lls_analyse.proofs.Grown.{grown_then, grown_vars}
-use Rattle.lls_analyse.proofs.Minimising.{others_false, literal_at, seen_more, seen_take_more, is_true}
+use Rattle.lls_analyse.proofs.Minimising.{literal_at, seen_more, seen_take_more, is_true}
 use Rattle.lls_analyse.proofs.minimise.follow_others.Goals as goal
 
 pub lits-lit-items-requires : goal.lits-lit-items-requires
 lits-lit-items-requires g c =
     let store = g.S.Store.state c.args.store.now in
-    let r = reason_found store.live c.args.trail.now c.args.var c.in-Some.reason c.requires.sound (sym c.reason.ensures ∙ c.in-Some.is) in
+    let r = reason_found store.live c.args.trail.now c.args.var c.in-Some.reason c.requires.sound (sym c.known_reason.ensures ∙ c.in-Some.is) in
     number_given store c.in-Some.reason c.requires.live (IsSome-from (clause_numbered store.live c.in-Some.reason) r.forced.clause r.forced.is_live)
 
 pub loop-lit-init : goal.loop-lit-init
@@ -28,7 +29,7 @@ pub follow-requires-clause-within : goal.follow-requires-clause-within
 follow-requires-clause-within g c =
     let store = g.S.Store.state c.args.store.now in
     let lits = c.lits-lit-items.result.now in
-    let r = reason_found store.live c.args.trail.now c.args.var c.in-Some.reason c.requires.sound (sym c.reason.ensures ∙ c.in-Some.is) in
+    let r = reason_found store.live c.args.trail.now c.args.var c.in-Some.reason c.requires.sound (sym c.known_reason.ensures ∙ c.in-Some.is) in
     let t = told store c.in-Some.reason lits c.requires.live (IsSome-from (clause_numbered store.live c.in-Some.reason) r.forced.clause r.forced.is_live) c.lits-lit-items.ensures in
     literal_at c.args.trail.now.vars lits c.loop-lit.lit-index c.lit-item.result (ap (λ n. is_within n lits) (sym c.requires.store_vars) ∙ t.within) c.loop-lit-test.true c.lit-item.is
 
@@ -37,7 +38,7 @@ follow-requires-clause-is_false g c = λ unseen.
     let store = g.S.Store.state c.args.store.now in
     let lits = c.lits-lit-items.result.now in
     let l = c.lit-item.result in
-    let is = sym c.reason.ensures ∙ c.in-Some.is in
+    let is = sym c.known_reason.ensures ∙ c.in-Some.is in
     let r = reason_found store.live c.args.trail.now c.args.var c.in-Some.reason c.requires.sound is in
     let t = told store c.in-Some.reason lits c.requires.live (IsSome-from (clause_numbered store.live c.in-Some.reason) r.forced.clause r.forced.is_live) c.lits-lit-items.ensures in
     let inside = ap (λ (ls : Literals). set.contains ls l) (sym t.spelled) ∙ IsIn-from_Contains lits l (c.loop-lit.lit-index, c.loop-lit-test.true, sym c.lit-item.is) in
@@ -58,7 +59,7 @@ pub returns-in-Some-clause-all : goal.returns-in-Some-clause-all
 returns-in-Some-clause-all g c = λ _ l var.
     let store = g.S.Store.state c.args.store.now in
     let lits = c.lits-lit-items.result.now in
-    let is = sym c.reason.ensures ∙ c.in-Some.is in
+    let is = sym c.known_reason.ensures ∙ c.in-Some.is in
     let r = reason_found store.live c.args.trail.now c.args.var c.in-Some.reason c.requires.sound is in
     let t = told store c.in-Some.reason lits c.requires.live (IsSome-from (clause_numbered store.live c.in-Some.reason) r.forced.clause r.forced.is_live) c.lits-lit-items.ensures in
     let all : take c.loop-lit.lit-index lits ≡ lits = take_all c.loop-lit.lit-index lits (omega (arith, c.loop-lit-test.false)) in

@@ -1,4 +1,5 @@
 use Rattle.lls_analyse.proofs.Minimising.{minimises_then}
+use Rattle.lls_analyse.proofs.Valued.{all_have_values}
 use Rattle.lls_analyse.proofs.minimise.minimise.Goals as goal
 use Rattle.lls_analyse.proofs.minimise.minimise.Goals.{then-is_kept, else-is_kept}
 
@@ -9,3 +10,6 @@ loop-k-preserved g c =
       | then-is_kept w ↦ rw w.visited-is (minimises_then live c.args.trail.now c.args.visited.now c.loop-k.visited w.release.new.visited c.loop-k.invariant w.release.ensures)
       | else-is_kept w ↦ rw w.visited-is c.loop-k.invariant
     ]
+
+pub levels_of-levels-requires : goal.levels_of-levels-requires
+levels_of-levels-requires g c = all_have_values c.args.trail.now.entries c.args.visited.now.lits c.requires.marked.all_false

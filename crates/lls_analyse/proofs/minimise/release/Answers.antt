@@ -1,11 +1,12 @@
 use Rattle.std.proofs.Common.{◌≡◌, ◌<◌, ◌≤◌, ◌-◌, ap, sym, subst, ◌∙◌, arith, length, set, get_or}
 use Rattle.std.specs.Prelude.{ℤ, ℕ, List, pos}
 use Rattle.lls_analyse.specs.declared.visited.Seen.TheVariants.{Kept}
-use Rattle.lls_analyse.specs.Visited.{VisitedState}
+use Rattle.lls_analyse.specs.Visited.{VisitedState, is_seen}
 use Rattle.lls_analyse.specs.Marked.{GivesWay}
 use Rattle.lls_analyse.specs.Minimised.{IsGrown, Minimises}
 use Rattle.lls_analyse.proofs.Grown.{grown_longer}
 use Rattle.lls_analyse.proofs.Minimising.{releases, kept_again, minimises_same, is_true}
+use Rattle.lls_analyse.proofs.Valued.{seen_has_value}
 use Rattle.lls_analyse.proofs.minimise.release.Goals as goal
 
 pub forget_behind-requires : goal.forget_behind-requires
@@ -35,3 +36,7 @@ returns-else-not-follow_all g c =
     let Q : VisitedState → Type 0 = λ s. (k : ℕ) → length s.lits ≤ k → k < length new.lits → GivesWay live es new.seen (get_or new.lits k (pos 0)) in
     releases live c.args.trail.now old new v c.requires.kept c.lits-count.ensures.visited (c.follow_all.ensures.visited yes_) c.requires.marked c.requires.low (omega (arith, c.requires.within, c.requires.vars)) c.requires.is_kept
     (subst P c.release.ensures c.follow_all.ensures.grown) (c.follow_all.ensures.first yes_) (subst Q c.release.ensures (c.follow_all.ensures.rest yes_))
+
+pub follow_all-requires-clause-has_value : goal.follow_all-requires-clause-has_value
+follow_all-requires-clause-has_value g c =
+    seen_has_value c.args.trail.now c.args.visited.now c.args.var c.lits-count.ensures.visited c.requires.marked c.requires.low (ap is_seen c.requires.is_kept)

@@ -12,6 +12,7 @@ use Rattle.lls_analyse.proofs.Resolving.{begins, held_first, same_found}
 use Rattle.lls_analyse.proofs.Followed.{follow_step, held_step, skip_step, var_bounds, forced_step, not_at_end, var_within, ends}
 use Rattle.lls_analyse.proofs.Forcing.{forces_one}
 use Rattle.lls_analyse.proofs.Traces.{grown_by, traced_first, traced_on}
+use Rattle.lls_analyse.proofs.Valued.{conflict_has_values}
 use Rattle.lls_analyse.proofs.resolve.resolve.Goals as goal
 
 pub loop-place-init : goal.loop-place-init
@@ -114,3 +115,6 @@ returns-clause-resolved g c =
 
 pub returns-clause-traced : goal.returns-clause-traced
 returns-clause-traced g c = c.loop-place.invariant.traced
+
+pub hold_clause-requires-clause-have_values : goal.hold_clause-requires-clause-have_values
+hold_clause-requires-clause-have_values g c = conflict_has_values (g.S.Store.state c.args.store.now).live c.args.trail.now c.args.conflict c.requires.conflict

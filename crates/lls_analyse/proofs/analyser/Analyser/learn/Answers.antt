@@ -6,8 +6,10 @@ use Rattle.lls_prooflog.specs.Spent.{has_variables_once}
 use Rattle.lls_prooflog.specs.declared.step.Step.TheVariants.{Add}
 use Rattle.lls_store.specs.Store.{IsLearnt, sealed}
 use Rattle.lls_analyse.specs.Gathered.{back_of}
+use Rattle.lls_analyse.specs.Valued.{HaveValues}
+use Rattle.lls_analyse.proofs.Valued.{all_have_values}
 use Rattle.lls_analyse.proofs.Steps.{learns}
-use Rattle.lls_analyse.proofs.Learned.{within_clause, once_clause, learnt_clause, few_clause}
+use Rattle.lls_analyse.proofs.Learned.{false_member, within_clause, once_clause, learnt_clause, few_clause}
 use Rattle.lls_analyse.proofs.Traces.{resolved_given}
 use Rattle.lls_analyse.proofs.analyser.Analyser.learn.Goals as goal
 
@@ -42,7 +44,7 @@ store_clause-requires-clause-learnt g c =
 pub back_of-requires : goal.back_of-requires
 back_of-requires g c =
     let a = c.analyse.ensures.analysis in
-    ap (is_within c.args.trail.now.vars) c.as_slice-4.ensures.value ∙ within_clause c.args.trail.now a.seen c.analyse.new.clause.items c.len.ensures.kept a.visited a.resolved.analysed.marked a.resolved.opens a.gathered
+    subst (HaveValues c.args.trail.now.entries) (sym c.as_slice-4.ensures.value) (all_have_values c.args.trail.now.entries c.analyse.new.clause.items (false_member c.args.trail.now a.seen c.analyse.new.clause.items c.len.ensures.kept a.visited a.resolved.analysed.marked a.resolved.opens a.gathered))
 
 pub returns-clause-learns : goal.returns-clause-learns
 returns-clause-learns g c =
