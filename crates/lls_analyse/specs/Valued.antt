@@ -1,4 +1,4 @@
--- For private contracts: literals whose variables have values.
+-- For private contracts, of crates above too: literals whose variables have values.
 use Rattle.std.specs.Prelude.{ℤ, List, All, IsSome}
 use Rattle.lls_lit.specs.Literal.{variable_of}
 use Rattle.lls_store.specs.Trail.{Entry, entry_of}

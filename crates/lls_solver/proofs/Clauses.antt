@@ -1,6 +1,6 @@
 -- A store's clauses and those of a proof, one by one.
 use Rattle.std.proofs.Common.{◌≡◌, ℕ, zero, suc, ◌+◌, ◌<◌, ◌≤◌, List, [], ◌∷◌, ◌++◌, length, length-append, map, get_or, take, Some, refl, sym, ap, subst, ◌∙◌, arith}
-use Rattle.std.specs.Prelude.{ℤ, IsSome, slice_get}
+use Rattle.std.specs.Prelude.{ℤ, slice_get}
 use Rattle.std.specs.List.{enumerate_from}
 use Rattle.std.specs.FinSet as set
 use Rattle.std.proofs.lemmas.List.{get_or-map, length-map, map-append}
@@ -109,7 +109,8 @@ fresh_id formula steps store m k h m_is k_is most =
     subst (λ (n : ℕ). IsNewId store.live (n + 1)) same (next_id store formula.vars (live_after formula steps) (length formula.clauses + additions steps) h (omega (arith, same, most)))
 
 -- the clause that was sealed is the one of its number
-pub sealed_live : (store : StoreState) (id : ℕ) (lits : List ℤ) → AreLive (sealed (record store { tail = lits }) id) → IsSome (clause_numbered (sealed (record store { tail = lits }) id).live store.count)
-sealed_live store id lits live =
+pub sealed_clause : (store : StoreState) (id : ℕ) (lits : List ℤ) → AreLive (sealed (record store { tail = lits }) id)
+    → clause_numbered (sealed (record store { tail = lits }) id).live store.count ≡ Some (record { number = store.count; id = id; lits = set.from_list lits })
+sealed_clause store id lits live =
     let clause : LiveClause = record { number = store.count; id = id; lits = set.from_list lits } in
-    rw (clause_numbered-contained (store.live ++ clause ∷ []) clause live.numbers (Contains-append_right store.live (clause ∷ []) clause (0, omega arith, refl))) refl
+    clause_numbered-contained (store.live ++ clause ∷ []) clause live.numbers (Contains-append_right store.live (clause ∷ []) clause (0, omega arith, refl))

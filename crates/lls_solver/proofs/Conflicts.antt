@@ -1,11 +1,11 @@
 -- The highest level of literals, and what a cut to it leaves of a conflict.
-use Rattle.std.proofs.Common.{◌≡◌, inl, inr, ℕ, ◌+◌, ◌<◌, ◌≤◌, Bool, true, false, cond, List, [], ◌∷◌, ◌++◌, map, get_or, Option, Some, None, refl, sym, ap, subst, ◌∙◌, arith}
-use Rattle.std.specs.Prelude.{ℤ, All, Contains, IsSome, max, nat_le, option_map}
+use Rattle.std.proofs.Common.{◌≡◌, inl, inr, ℕ, ◌+◌, ◌<◌, ◌≤◌, Bool, true, false, cond, List, [], ◌∷◌, ◌++◌, map, Option, Some, None, refl, sym, ap, subst, ◌∙◌, arith}
+use Rattle.std.specs.Prelude.{ℤ, Contains, max, nat_le, option_map}
 use Rattle.std.specs.Option.{unwrap_or}
 use Rattle.std.specs.Ordering.{ord_max, nat_cmp}
 use Rattle.std.proofs.lemmas.Bool.Decides.{nat_tests, eqb_tells}
 use Rattle.std.proofs.lemmas.List.Sums.{count_by-le-length, take_while-cons}
-use Rattle.std.proofs.lemmas.List.Elements.{All-contains_itself, Contains-push_cases, Contains-append_left, Contains-append_right}
+use Rattle.std.proofs.lemmas.List.Elements.{Contains-push_cases, Contains-append_left, Contains-append_right}
 use Rattle.std.proofs.lemmas.Bool.{cases_lt}
 use Rattle.lls_lit.specs.Literal.{variable_of, negation}
 use Rattle.lls_store.specs.Trail.{Entry, IsTrail, TrailState, HasNegated, has, decisions, is_decision, entry_of, level_of, levels_after}
@@ -126,20 +126,6 @@ worth_most t v h = at (level_of t.entries v) refl where
 -- the greater of two numbers, as code finds it
 pub ord_max-nat : (a b : ℕ) → ord_max nat_cmp a b ≡ max a b
 ord_max-nat a b = grind (arith, nat_tests)
-
-false_literal_known : (t : TrailState) (l : ℤ) → IsTrail t → HasNegated t.entries l → IsSome (entry_of t.entries (variable_of l))
-false_literal_known t l h negated = at (entry_of t.entries (variable_of l)) refl where
-  at : (o : Option Entry) → entry_of t.entries (variable_of l) ≡ o → IsSome (entry_of t.entries (variable_of l))
-  at None found =
-      let clash : false ≡ true = sym (has-entry_of t.entries (negation l) h.once ∙ ap (λ v. has_found (entry_of t.entries v) (negation l)) (variable_of-negation l) ∙ ap (λ o. has_found o (negation l)) found) ∙ negated in
-      absurd cc
-  at (Some e) found = rw found refl
-
--- the variables of a false clause have values
-pub false_known : (live : List LiveClause) (t : TrailState) (number : ℕ) (lits : List ℤ) → IsTrail t → (conflict : IsConflict live t number) → set.from_list lits ≡ conflict.clause.lits → All (λ l. IsSome (entry_of t.entries (variable_of l))) lits
-false_known live t number lits h conflict same k d lt =
-    let l = get_or lits k d in
-    false_literal_known t l h (conflict.all_false l (subst (λ ls. IsIn ls l) same (IsIn-from_Contains lits l (All-contains_itself lits k d lt))))
 
 -- a false literal up to the level stays false where the trail is cut to it
 pub negated_up_to : (t : TrailState) (level : ℕ) (l : ℤ) → IsTrail t → IsTrail (cut_to t level) → ((n : ℕ) → level_of t.entries (variable_of l) ≡ Some n → n ≤ level) → HasNegated t.entries l → HasNegated (entries_up_to level t.entries) l

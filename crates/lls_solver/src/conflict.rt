@@ -1,11 +1,11 @@
 // The level of a conflict.
-ghost use Rattle.std.specs.Prelude.{◌≡◌, ◌<◌, ◌≤◌, All, IsSome};
-ghost use Rattle.lls_lit.specs.Literal.{variable_of};
-ghost use Rattle.lls_store.specs.Trail.{IsTrail, entry_of};
+ghost use Rattle.std.specs.Prelude.{◌≡◌, ◌<◌, ◌≤◌};
+ghost use Rattle.lls_store.specs.Trail.{IsTrail};
 ghost use Rattle.lls_store.specs.Store.{IsConflict};
 ghost use Rattle.lls_solver.specs.Course.{IsOnCourse};
 ghost use Rattle.lls_solver.specs.Conflict.{IsHighest};
 ghost use Rattle.lls_analyse.specs.Learnt.{IsCurrentConflict};
+ghost use Rattle.lls_analyse.specs.Valued.{HaveValues};
 
 use crate::course::Course;
 use lls_lit::Lit;
@@ -33,7 +33,7 @@ pub(crate) fn go_to_conflict<S: Store>(store: &mut S, course: &mut Course, confl
 // The highest level of literals that have values: 0 where there is none above.
 fn highest_level(trail: &Trail, lits: &[Lit]) -> u32
     requires trail { IsTrail trail.now }
-    requires known { All (λ l. IsSome (entry_of trail.now.entries (variable_of l))) lits.now }
+    requires have_values { HaveValues trail.now.entries lits.now }
     ensures highest { IsHighest trail.now lits.now result }
     ensures most { result ≤ trail.now.current }
 {

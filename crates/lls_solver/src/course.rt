@@ -10,6 +10,7 @@ ghost use Rattle.lls_store.specs.Store.{IsConflict};
 ghost use Rattle.lls_store.specs.Changes.{cut_to, empty_trail};
 ghost use Rattle.lls_store.specs.Removal.{compacted, renamed};
 ghost use Rattle.lls_order.specs.Order.{is_in};
+ghost use Rattle.lls_analyse.specs.Valued.{HaveValues};
 ghost use Rattle.lls_solver.specs.Course.{IsDecision, IsNext, IsOnCourse, AreWaiting, AllSet};
 
 use lls_base::Memory;
@@ -91,11 +92,12 @@ impl Course {
 
     /// Has the variables of these literals be decided before all others, the last of them first, but for those of level 0.
     pub(crate) fn bump(&mut self, lits: &[Lit])
-        requires { is_within self.old.vars lits.now ≡ true }
+        requires within { is_within self.old.vars lits.now ≡ true }
+        requires have_values { HaveValues self.old.entries lits.now }
         ensures { self.new ≡ self.old }
     {
         for lit in lits {
-            if self.trail.level(lit.var()).unwrap_or(0) > 0 {
+            if self.trail.known_level(lit.var()) > 0 {
                 self.order.bump(lit.var());
             }
         }

@@ -1,6 +1,6 @@
 // How many levels the literals of a clause are of.
-ghost use Rattle.std.specs.Prelude.{◌≡◌, ◌≤◌, ◌+◌, true, IfOk, length};
-ghost use Rattle.lls_lit.specs.Formula.{is_within};
+ghost use Rattle.std.specs.Prelude.{◌≡◌, ◌≤◌, ◌+◌, IfOk, length};
+ghost use Rattle.lls_analyse.specs.Valued.{HaveValues};
 
 use lls_base::Memory;
 use lls_lit::{Lit, Var};
@@ -24,10 +24,10 @@ impl LevelStamps {
         Ok(LevelStamps { stamps, stamp: 0 })
     }
 
-    /// The glue of a clause: how many levels its literals are of, where those without a value count as of level 0.
+    /// The glue of a clause whose literals have values: how many levels they are of.
     pub(crate) fn glue(&mut self, trail: &Trail, lits: &[Lit]) -> usize
         requires stamps { length self.old.stamps.items ≡ trail.now.vars + 1 }
-        requires within { is_within trail.now.vars lits.now ≡ true }
+        requires have_values { HaveValues trail.now.entries lits.now }
         ensures stamps { length self.new.stamps.items ≡ length self.old.stamps.items }
         ensures most { result ≤ length lits.now }
     {
@@ -37,7 +37,7 @@ impl LevelStamps {
         self.stamp = self.stamp.wrapping_add(1);
         let mut glue = 0;
         for lit in lits {
-            let level = trail.level(lit.var()).unwrap_or(0) as usize;
+            let level = trail.known_level(lit.var()) as usize;
             if self.stamps[level] != self.stamp {
                 self.stamps[level] = self.stamp;
                 glue += 1;

@@ -1,6 +1,6 @@
 // What a search goes by where its contracts leave it free: when it restarts, when it forgets clauses, and which.
-ghost use Rattle.std.specs.Prelude.{◌≡◌, ◌≤◌, ◌<◌, ◌+◌, All, IfOk, OnErr, OnOk, true, length};
-ghost use Rattle.lls_lit.specs.Formula.{is_within};
+ghost use Rattle.std.specs.Prelude.{◌≡◌, ◌≤◌, ◌<◌, ◌+◌, All, IfOk, OnErr, OnOk, length};
+ghost use Rattle.lls_analyse.specs.Valued.{HaveValues};
 
 use crate::glue::LevelStamps;
 use crate::restarts::Restarts;
@@ -60,10 +60,11 @@ impl Policy {
         Ok(())
     }
 
-    /// A clause of these literals was learnt from a conflict that was resolved with the clauses of these numbers.
+    /// A clause of these literals, all of which have values, was learnt from a conflict that was resolved with the clauses of these
+    /// numbers.
     pub(crate) fn learn(&mut self, trail: &Trail, lits: &[Lit], resolved: &[u32])
         requires levels { self.old.levels ≡ trail.now.vars + 1 }
-        requires within { is_within trail.now.vars lits.now ≡ true }
+        requires have_values { HaveValues trail.now.entries lits.now }
         requires resolved { All (λ c. c < self.old.clauses) resolved.now }
         ensures { self.new ≡ self.old }
     {

@@ -7,10 +7,11 @@ use Rattle.lls_store.specs.Clauses.{LiveClause, clause_numbered}
 use Rattle.lls_store.specs.Store.{IsConflict}
 use Rattle.lls_store.proofs.Live.{number_given}
 use Rattle.lls_analyse.specs.Learnt.{IsCurrentConflict}
+use Rattle.lls_analyse.proofs.Valued.{clause_has_values, conflict_has_values}
 use Rattle.lls_solver.specs.Conflict.{IsHighest}
 use Rattle.lls_solver.proofs.Kept.{closed_below_moved}
 use Rattle.lls_solver.proofs.Below.{closed_below_cut}
-use Rattle.lls_solver.proofs.Conflicts.{conflict_up_to, current_up_to, false_known}
+use Rattle.lls_solver.proofs.Conflicts.{conflict_up_to, current_up_to}
 use Rattle.lls_solver.proofs.conflict.go_to_conflict.Goals as goal
 
 read_is : (live : List LiveClause) (number : ℕ) (clause : LiveClause) (lits : List ℤ) → clause_numbered live number ≡ Some clause → IfSome (clause_numbered live number) (λ c. set.from_list lits ≡ c.lits) → set.from_list lits ≡ clause.lits
@@ -19,11 +20,12 @@ read_is live number clause lits is read = subst (λ o. IfSome o (λ c. set.from_
 pub lits-requires : goal.lits-requires
 lits-requires g c = number_given (g.S.Store.state c.args.store.now) c.args.conflict c.requires.conflict.clause c.count-count.ensures.live c.requires.conflict.is_live
 
-pub highest_level-level-requires-clause-known : goal.highest_level-level-requires-clause-known
-highest_level-level-requires-clause-known g c =
+pub highest_level-level-requires-clause-have_values : goal.highest_level-level-requires-clause-have_values
+highest_level-level-requires-clause-have_values g c =
     let s = g.S.Store.state c.args.store.now in
     let conflict = subst (λ (t : TrailState). IsConflict s.live t c.args.conflict) (sym c.course.view_is) c.requires.conflict in
-    false_known s.live c.course.inside.trail c.args.conflict c.lits.result.now c.course.invariant.is_trail conflict (read_is s.live c.args.conflict conflict.clause c.lits.result.now conflict.is_live c.lits.ensures)
+    let t = c.course.inside.trail in
+    clause_has_values t.entries s.live c.args.conflict conflict.clause c.lits.result.now (conflict_has_values s.live t c.args.conflict conflict) conflict.is_live (read_is s.live c.args.conflict conflict.clause c.lits.result.now conflict.is_live c.lits.ensures)
 
 pub returns-clause-conflict : goal.returns-clause-conflict
 returns-clause-conflict g c =

@@ -12,7 +12,7 @@ pub known_level-requires : goal.known_level-requires
 known_level-requires c =
     let entries = c.args.trail.now.entries in
     let l = c.lit-item.result in
-    let known = All-contains (λ m. IsSome (entry_of entries (variable_of m))) c.args.lits.now l c.requires.known (c.loop-lit.lit-index, c.loop-lit-test.true, sym c.lit-item.is) in
+    let known = All-contains (λ m. IsSome (entry_of entries (variable_of m))) c.args.lits.now l c.requires.have_values (c.loop-lit.lit-index, c.loop-lit-test.true, sym c.lit-item.is) in
     subst (λ v. IsSome (entry_of entries v)) (sym c.var.ensures.var) known
 
 pub loop-lit-preserved : goal.loop-lit-preserved

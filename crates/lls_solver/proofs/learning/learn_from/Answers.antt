@@ -1,21 +1,18 @@
-use Rattle.std.proofs.Common.{◌≡◌, ◌<◌, ◌+◌, ◌++◌, ◌∷◌, [], ℕ, List, length, sym, ap, ◌∙◌, subst, arith, true}
-use Rattle.std.specs.Prelude.{IsSome}
-use Rattle.lls_lit.specs.Formula.{is_within}
+use Rattle.std.proofs.Common.{◌≡◌, ◌<◌, ◌+◌, ◌++◌, ◌∷◌, [], List, length, sym, ap, ◌∙◌, subst, arith}
 use Rattle.lls_prooflog.specs.Spent.{live_after, AddsByPropagation}
 use Rattle.lls_prooflog.specs.declared.step.Step.{Step}
 use Rattle.lls_prooflog.specs.declared.step.Step.TheVariants.{Add}
 use Rattle.lls_store.specs.Trail.{TrailState}
 use Rattle.lls_store.specs.Changes.{cut_to}
-use Rattle.lls_store.specs.Clauses.{clause_numbered}
-use Rattle.lls_store.specs.Store.{StoreState, AreLive, IsNewId, sealed}
-use Rattle.lls_store.proofs.Live.{AreWithin-read}
-use Rattle.lls_store.proofs.Sets.{is_within-from_AreWithin}
+use Rattle.lls_store.specs.Store.{StoreState, IsNewId, sealed}
+use Rattle.lls_analyse.specs.Valued.{HaveValues}
+use Rattle.lls_analyse.proofs.Valued.{all_have_values}
 use Rattle.lls_solver.specs.Searching.{additions, HoldsClauses, IsGoodLog, KeepsAll}
 use Rattle.lls_solver.proofs.Kept.{sound_kept, sound_moved, closed_below_kept, closed_below_moved}
 use Rattle.lls_solver.proofs.Below.{closed_below_learnt}
-use Rattle.lls_solver.proofs.Clauses.{count_most, fresh_id, sealed_live}
+use Rattle.lls_solver.proofs.Clauses.{count_most, fresh_id}
 use Rattle.lls_solver.proofs.Logs.{additions-push, good_push, holds_learnt, kept_push}
-use Rattle.lls_solver.proofs.LearntClauses.{back_most, adds_learnt}
+use Rattle.lls_solver.proofs.LearntClauses.{back_most, adds_learnt, learnt_values}
 use Rattle.lls_solver.proofs.learning.learn_from.Goals as goal
 
 pub learn-learnt-requires-clause-sound : goal.learn-learnt-requires-clause-sound
@@ -51,23 +48,19 @@ returns-clause-kept g c =
     let logged = learns.step.logged ∙ ap (λ (ss : List Step). ss ++ Add id learns.lits learns.hints ∷ []) c.in_ok-reserve_conflict.ensures.steps.steps_stay in
     λ keep_all kept. subst (KeepsAll keep_all) (sym logged) (kept_push keep_all steps id learns.lits learns.hints kept)
 
-pub learn-requires-clause-within : goal.learn-requires-clause-within
-learn-requires-clause-within g c =
+pub learn-requires-clause-have_values : goal.learn-requires-clause-have_values
+learn-requires-clause-have_values g c =
     let middle = g.S.Store.state c.reserve_conflict.new.store in
     let new = g.S.Store.state c.learn-learnt.new.store in
-    let learns = c.learn-learnt.ensures.learns in
-    let id = c.len.result + c.additions.result + 1 in
-    let number = c.learn-learnt.result.clause in
-    let lits = c.lits.result.now in
-    let at_sealed : IsSome (clause_numbered (sealed (record middle { tail = learns.lits }) id).live middle.count) = sealed_live middle id learns.lits (subst AreLive learns.store c.count-count.ensures.live) in
-    let some : IsSome (clause_numbered new.live number) =
-    subst (λ (n : ℕ). IsSome (clause_numbered new.live n)) (sym c.learn-learnt.ensures.clause) (subst (λ (s : StoreState). IsSome (clause_numbered s.live middle.count)) (sym learns.store) at_sealed)
-    in
-    let within : is_within new.vars lits ≡ true = is_within-from_AreWithin new.vars lits (AreWithin-read new number lits c.count-count.ensures.live some c.lits.ensures) in
-    let vars : c.args.course.now.vars ≡ new.vars =
-    g.met.S.Store.tracks_vars c.args.store.now c.args.course.now c.requires.tracked ∙ sym (ap (λ (s : StoreState). s.vars) learns.store ∙ ap (λ (s : StoreState). s.vars) c.in_ok-reserve_conflict.ensures.state)
-    in
-    ap (λ n. is_within n lits) (ap (λ (t : TrailState). t.vars) c.course.view_is ∙ vars) ∙ within
+    let learnt = c.learn-learnt.result in
+    learnt_values middle new c.course.inside.trail c.args.conflict (c.len.result + c.additions.result + 1) learnt.back learnt.clause c.reserve_conflict.new.log.steps c.learn-learnt.new.log.steps c.lits.result.now c.learn-learnt.ensures.learns c.count-count.ensures.live c.learn-learnt.ensures.clause c.lits.ensures
+
+pub bump-requires-clause-have_values : goal.bump-requires-clause-have_values
+bump-requires-clause-have_values g c =
+    let t = c.course.inside.trail in
+    let met = c.learn-learnt.new.self.met in
+    let values = all_have_values t.entries met c.learn-learnt.ensures.comes_by.are_met.all_false in
+    subst (λ (x : TrailState). HaveValues x.entries c.met.result.now) c.course.view_is (subst (HaveValues t.entries) (sym c.met.ensures.met) values)
 
 pub go_back-requires-clause-level : goal.go_back-requires-clause-level
 go_back-requires-clause-level g c =
