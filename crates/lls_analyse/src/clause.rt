@@ -1,9 +1,8 @@
 // The literals of a learnt clause: first the one of the current level, then of the others the one that became false last.
-ghost use Rattle.std.specs.Prelude.{◌≡◌, ◌≤◌, ◌<◌, ◌+◌, ℕ, ℤ, [], ◌∷◌, ◌++◌, Bool, true, false, All, length, count_by, filter, fold, None, vec_capacity, Contains, IfNone, IfSome, IsTrue, unwrap_or};
+ghost use Rattle.std.specs.Prelude.{◌≡◌, ◌≤◌, ◌<◌, ◌+◌, [], ◌++◌, true, false, All, length, count_by, filter, None, vec_capacity, Contains, IfNone, IfSome, IsTrue};
 ghost use Rattle.lls_lit.specs.Literal.{variable_of};
 ghost use Rattle.lls_lit.specs.Formula.{is_within};
 ghost use Rattle.lls_prooflog.specs.Spent.{has_variables_once};
-ghost use Rattle.lls_store.specs.Trail.{TrailState};
 ghost use Rattle.lls_store.specs.Sound.{IsSound};
 ghost use Rattle.lls_store.specs.Store.{IsLearnt, IsNewId, sealed};
 ghost use Rattle.lls_analyse.specs.Visited.{is_open, status, AreVisited};

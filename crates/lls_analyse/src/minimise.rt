@@ -1,6 +1,6 @@
 // Minimises a clause: a literal goes where the others imply it, by the clauses that forced literals (Sörensson and Biere,
 // Minimizing Learned Clauses, 2009).
-ghost use Rattle.std.specs.Prelude.{◌≡◌, ◌≤◌, ◌<◌, ℕ, ℤ, ◌-◌, true, false, length, slice_index_or, slice_set, pos, IsSome, IsTrue, IfOk};
+ghost use Rattle.std.specs.Prelude.{◌≡◌, ◌≤◌, ◌<◌, ℕ, ℤ, ◌-◌, true, false, length, slice_index_or, pos, IsSome, IsTrue};
 ghost use Rattle.lls_lit.specs.Literal.{variable_of};
 ghost use Rattle.lls_lit.specs.Formula.{is_literal_of};
 ghost use Rattle.lls_store.specs.Trail.{entry_of, HasNegated, IsTrail};

@@ -1,8 +1,8 @@
 // From a conflict back along reasons (Marques-Silva and Sakallah, GRASP, 1996).
-ghost use Rattle.std.specs.Prelude.{◌≡◌, ◌⊎◌, ◌≤◌, ◌<◌, true, [], fold, count_by, replicate, Some, IfSome, IsSome, vec_capacity};
+ghost use Rattle.std.specs.Prelude.{◌≡◌, ◌⊎◌, ◌≤◌, ◌<◌, true, [], fold, Some, IfSome, IsSome, vec_capacity};
 ghost use Rattle.lls_lit.specs.Literal.{variable_of};
 ghost use Rattle.lls_lit.specs.Formula.{is_within};
-ghost use Rattle.lls_store.specs.Trail.{IsTrail, reason_of};
+ghost use Rattle.lls_store.specs.Trail.{reason_of};
 ghost use Rattle.lls_store.specs.Clauses.{clause_numbered};
 ghost use Rattle.lls_store.specs.Sound.{IsSound};
 ghost use Rattle.lls_store.specs.Store.{AreLive, IsConflict};
