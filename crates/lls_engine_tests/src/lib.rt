@@ -7,6 +7,8 @@ mod analyse;
 #[cfg(test)]
 mod arena;
 #[cfg(test)]
+mod crew;
+#[cfg(test)]
 mod draws;
 #[cfg(test)]
 mod order;

@@ -1,9 +1,8 @@
 // Formulas that are searched: what each comes to, and how many clauses are learnt.
-ghost use Rattle.std.specs.Prelude.{◌≡◌, ◌≤◌, []};
+ghost use Rattle.std.specs.Prelude.{◌≡◌, []};
 
 use crate::draws::Draws;
 use lls_cnf::{Formula, MOST_DIMACS_BYTES, holds, read_dimacs};
-use lls_lit::Var;
 use lls_prooflog::{Log, print_log};
 use lls_solver::{MOST_BUDGET, Outcome, solve, solve_from};
 use std::alloc::Global;
@@ -75,32 +74,6 @@ fn compare(
     assert_found(rt, alloc, &formula, budget, want)
 }
 
-// Puts in a clause of three literals, drawn one after the other: first the variable, and then whether it is negated.
-fn push_drawn(formula: &mut Formula, draws: &mut Draws) -> Result<(), Fail> {
-    let vars = formula.vars();
-    if vars == 0 || formula.len() == Formula::MOST_CLAUSES {
-        return Err(Fail::from("a variable, and room for a clause"));
-    }
-    let lits = [
-        draws.literal(vars)?,
-        draws.literal(vars)?,
-        draws.literal(vars)?,
-    ];
-    formula.push(&lits)?;
-    Ok(())
-}
-
-fn random_formula(alloc: Global, vars: u32, clauses: u32, seed: u32) -> Result<Formula, Fail>
-    requires { vars ≤ Var.MOST }
-{
-    let mut formula = Formula::new(alloc, vars);
-    let mut draws = Draws::new(seed);
-    for _ in 0..clauses {
-        push_drawn(&mut formula, &mut draws)?;
-    }
-    Ok(formula)
-}
-
 #[test]
 fn random_formulas_are_decided_within_budgets(rt: HostRuntime) -> Result<(), Fail> {
     // Variables, clauses and seed, the budget, and the answer. That of the first ten is what a script says that draws the same
@@ -121,7 +94,7 @@ fn random_formulas_are_decided_within_budgets(rt: HostRuntime) -> Result<(), Fai
         (100, 450, 3, 1_500, "unsatisfiable"),
     ];
     for (vars, clauses, seed, budget, want) in rows {
-        let formula = random_formula(rt.alloc(), vars, clauses, seed)?;
+        let formula = Draws::new(seed).formula(rt.alloc(), vars, clauses)?;
         assert_found(&rt, rt.alloc(), &formula, budget, want)?;
     }
     Ok(())

@@ -28,13 +28,13 @@ spells_push (clause ∷ live) (pair ∷ pairs) number id lits h = (h.0, (h.1.0, 
 id_of : LiveClause → ℕ
 id_of clause = clause.id
 
-spells_ids : (live : List LiveClause) (pairs : Live) → Spells live pairs → map (λ (c : LiveClause). c.id) live ≡ ids_of pairs
+pub spells_ids : (live : List LiveClause) (pairs : Live) → Spells live pairs → map (λ (c : LiveClause). c.id) live ≡ ids_of pairs
 spells_ids [] [] h = refl
 spells_ids [] (pair ∷ pairs) h = absurd h
 spells_ids (clause ∷ live) [] h = absurd h
 spells_ids (clause ∷ live) (pair ∷ pairs) h = rw (h.0, spells_ids live pairs h.1.1) refl
 
-ascending_below : (least : ℕ) (ids : List ℕ) (bound : ℕ) → AreAscending least ids bound → least ≤ bound
+pub ascending_below : (least : ℕ) (ids : List ℕ) (bound : ℕ) → AreAscending least ids bound → least ≤ bound
 ascending_below least [] bound h = h
 ascending_below least (id ∷ ids) bound h = omega (arith, h.0, ascending_below (id + 1) ids bound h.1)
 
@@ -43,7 +43,7 @@ ascending_each least [] bound k h lt = absurd (omega (arith, lt))
 ascending_each least (id ∷ ids) bound zero h lt = omega (arith, ascending_below (id + 1) ids bound h.1)
 ascending_each least (id ∷ ids) bound (suc k) h lt = ascending_each (id + 1) ids bound k h.1 (omega (arith, lt))
 
-ascending_push : (least : ℕ) (ids : List ℕ) (bound : ℕ) → AreAscending least ids bound → AreAscending least (ids ++ bound ∷ []) (bound + 1)
+pub ascending_push : (least : ℕ) (ids : List ℕ) (bound : ℕ) → AreAscending least ids bound → AreAscending least (ids ++ bound ∷ []) (bound + 1)
 ascending_push least [] bound h = (h, omega arith)
 ascending_push least (id ∷ ids) bound h = (h.0, ascending_push (id + 1) ids bound h.1)
 

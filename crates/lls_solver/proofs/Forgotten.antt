@@ -116,17 +116,17 @@ spells_renumbered all [] (pair ∷ pairs) h = absurd h
 spells_renumbered all (clause ∷ live) [] h = absurd h
 spells_renumbered all (clause ∷ live) (pair ∷ pairs) h = (h.0, (h.1.0, spells_renumbered all live pairs h.1.1))
 
-spells_length : (live : List LiveClause) (pairs : Live) → Spells live pairs → length live ≡ length pairs
+pub spells_length : (live : List LiveClause) (pairs : Live) → Spells live pairs → length live ≡ length pairs
 spells_length [] [] h = refl
 spells_length [] (pair ∷ pairs) h = absurd h
 spells_length (clause ∷ live) [] h = absurd h
 spells_length (clause ∷ live) (pair ∷ pairs) h = omega (arith, spells_length live pairs h.1.1)
 
-ascending_from : (less least : ℕ) (ids : List ℕ) (bound : ℕ) → less ≤ least → AreAscending least ids bound → AreAscending less ids bound
+pub ascending_from : (less least : ℕ) (ids : List ℕ) (bound : ℕ) → less ≤ least → AreAscending least ids bound → AreAscending less ids bound
 ascending_from less least [] bound le h = omega (arith, le, h)
 ascending_from less least (id ∷ ids) bound le h = (omega (arith, le, h.0), h.1)
 
-ascending_filter : (keeps : ℕ × Clause → Bool) (least : ℕ) (pairs : Live) (bound : ℕ) → AreAscending least (ids_of pairs) bound → AreAscending least (ids_of (filter keeps pairs)) bound
+pub ascending_filter : (keeps : ℕ × Clause → Bool) (least : ℕ) (pairs : Live) (bound : ℕ) → AreAscending least (ids_of pairs) bound → AreAscending least (ids_of (filter keeps pairs)) bound
 ascending_filter keeps least [] bound h = h
 ascending_filter keeps least (pair ∷ pairs) bound h =
     let rest = ascending_filter keeps (pair.0 + 1) pairs bound h.1 in

@@ -7,7 +7,10 @@ pub mod Satisfied
 pub mod Logs
 pub mod LearntClauses
 pub mod Below
-mod Start
-mod Outcomes
+pub mod Sharing
+mod Ids
+mod Unlearnt
+pub mod Start
+pub mod Outcomes
 mod Forgotten
 mod Marks

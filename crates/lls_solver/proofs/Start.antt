@@ -10,7 +10,7 @@ use Rattle.lls_store.specs.Store.{StoreState}
 use Rattle.lls_solver.specs.Course.{AreClosedBelow}
 use Rattle.lls_solver.specs.Searching.{additions, HoldsClauses, IsGoodLog, IsSearching}
 
-good_none : (formula : Cnf) → IsGoodLog formula []
+pub good_none : (formula : Cnf) → IsGoodLog formula []
 good_none formula = record { good = tt; fresh = tt; deletions = tt; numbered_on = tt; none_empty = refl }
 
 closed_below_none : (live : List LiveClause) (vars : ℕ) → AreClosedBelow live (empty_trail vars)

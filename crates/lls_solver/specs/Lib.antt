@@ -1,4 +1,5 @@
 pub mod Searching
+pub mod Sharing
 pub mod Course
 pub mod Deletion
 pub mod Policy

@@ -1,10 +1,10 @@
 -- A search under way: what holds of its clauses and of its log.
-use Rattle.std.specs.Prelude.{◌≡◌, ◌≢◌, ◌≤◌, ℕ, ◌+◌, ◌^◌, Bool, true, not, List, [], ◌∷◌, ◌++◌, map, length, count_by, Result, Ok, OnErr}
+use Rattle.std.specs.Prelude.{◌≡◌, ◌≢◌, ◌≤◌, ℕ, ℤ, ◌+◌, ◌^◌, Bool, true, not, List, [], ◌∷◌, ◌++◌, map, length, count_by, Result, Ok, OnErr}
 use Rattle.std.specs.List.{list_all}
-use Rattle.lls_lit.specs.Formula.{Cnf, satisfies}
+use Rattle.lls_lit.specs.Formula.{Clause, Cnf, satisfies}
 use Rattle.lls_prooflog.specs.UnitWalk.{Live, numbered}
 use Rattle.lls_prooflog.specs.Steps.{are_accepted, is_empty_addition}
-use Rattle.lls_prooflog.specs.Spent.{EachStep, IsGood, IsFreshAddition, IsLateDeletion, IsSpent, log_start, is_addition, live_after}
+use Rattle.lls_prooflog.specs.Spent.{EachStep, AddsByPropagation, AddsFresh, IsGood, IsFreshAddition, IsLateDeletion, IsSpent, log_start, is_addition, live_after}
 use Rattle.lls_base.specs.declared.memory.Memory.{Memory}
 use Rattle.lls_prooflog.specs.declared.step.Step.{Step}
 use Rattle.lls_prooflog.specs.declared.step.Step.TheVariants.{Add, Del}
@@ -64,8 +64,24 @@ pub record SearcherState : Type 0 where
   pub store : StoreState
   pub trail : TrailState
 
+-- a log got one addition more, good by unit propagation and fresh against the clauses that were live before it
+pub record LearnsOne (formula : Cnf) (old new : List Step) : Type 0 where
+  pub id : ℕ
+  pub lits : Clause
+  pub hints : List ℤ
+  pub logged : new ≡ old ++ Add id lits hints ∷ []
+  pub good : AddsByPropagation (live_after formula old) id lits hints
+  pub fresh : AddsFresh formula.vars (live_after formula old) lits
+
+-- a log got an addition of the empty clause
+pub record AddsEmpty (old new : List Step) : Type 0 where
+  pub id : ℕ
+  pub hints : List ℤ
+  pub logged : new ≡ old ++ Add id [] hints ∷ []
+
 -- a clause was learnt within a budget, and the search goes on
 pub record HasLearnt (formula : Cnf) (budget : ℕ) (old new : List Step) (searcher : SearcherState) : Type 0 where
+  pub learns : LearnsOne formula old new
   pub searching : IsSearching formula new searcher.store searcher.trail
   pub one_more : additions new ≡ additions old + 1
   pub within : additions new ≤ budget

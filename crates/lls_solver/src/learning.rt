@@ -4,7 +4,7 @@ ghost use Rattle.lls_prooflog.specs.Spent.{SomeCanBeLearnt, live_after};
 ghost use Rattle.lls_store.specs.Store.{IsConflict};
 ghost use Rattle.lls_analyse.specs.Learnt.{IsCurrentConflict};
 ghost use Rattle.lls_solver.specs.Policy.{policy_for};
-ghost use Rattle.lls_solver.specs.Searching.{additions, IsRefutation, IsSearching, KeepsAll};
+ghost use Rattle.lls_solver.specs.Searching.{additions, AddsEmpty, IsRefutation, IsSearching, KeepsAll, LearnsOne};
 
 use crate::course::Course;
 use crate::policy::Policy;
@@ -35,8 +35,10 @@ pub(crate) fn learn_from<S: Store>(
     requires conflict { IsCurrentConflict (S.state store.old).live course.old conflict }
     ensures searching { OnOk result (IsSearching formula.now log.new.steps (S.state store.new) course.new) }
     ensures additions { OnOk result (additions log.new.steps ≡ additions log.old.steps + 1) }
+    ensures learns { OnOk result (LearnsOne formula.now log.old.steps log.new.steps) }
     ensures kept { OnOk result ((keep_all : Bool) → KeepsAll keep_all log.old.steps → KeepsAll keep_all log.new.steps) }
     ensures err { OnErr result (log.new.steps ≡ log.old.steps) }
+    ensures err_state { OnErr result (S.state store.new ≡ S.state store.old) }
     ensures vars { (S.state store.new).vars ≡ (S.state store.old).vars }
     ensures tracked { S.tracks store.new course.new }
     ensures analyser { analyser.new.vars ≡ analyser.old.vars }
@@ -59,7 +61,7 @@ pub(crate) fn learn_from<S: Store>(
 }
 
 /// Learns one clause more from a conflict at a level above 0, into a log that isn't written out: it shows that the search
-/// wasn't done.
+/// wasn't done. Then the clause is taken out again.
 pub(crate) fn learn_further<S: Store>(
     alloc: Global,
     formula: &Formula,
@@ -78,6 +80,7 @@ pub(crate) fn learn_further<S: Store>(
     requires level { 0 < course.now.current }
     requires conflict { IsCurrentConflict (S.state store.old).live course.now conflict }
     ensures further { OnOk result (SomeCanBeLearnt formula.now.vars (live_after formula.now log.now.steps)) }
+    ensures live { (S.state store.new).live ≡ (S.state store.old).live }
     ensures vars { (S.state store.new).vars ≡ (S.state store.old).vars }
     ensures tracked { S.tracks store.new course.now }
     ensures analyser { analyser.new.vars ≡ analyser.old.vars }
@@ -87,7 +90,10 @@ pub(crate) fn learn_further<S: Store>(
     analyser.reserve_conflict(store, &mut further)?;
     policy.add_clause()?;
     let id = formula.len() as u64 + log.additions() + 1;
-    analyser.learn(store, &course.trail, conflict, id, &mut further);
+    let learnt = analyser.learn(store, &course.trail, conflict, id, &mut further);
+    // What holds of all live clauses is known from here on.
+    let _count = store.count();
+    store.remove(&course.trail, learnt.clause);
     Ok(())
 }
 
@@ -107,6 +113,7 @@ pub(crate) fn refute_by<S: Store>(
     requires level { course.now.current ≡ 0 }
     requires conflict { IsConflict (S.state store.old).live course.now conflict }
     ensures refutation { OnOk result ((budget : ℕ) → additions log.old.steps ≤ budget → IsRefutation formula.now budget log.new.steps) }
+    ensures empty { OnOk result (AddsEmpty log.old.steps log.new.steps) }
     ensures kept { OnOk result ((keep_all : Bool) → KeepsAll keep_all log.old.steps → KeepsAll keep_all log.new.steps) }
     ensures err { OnErr result (log.new.steps ≡ log.old.steps) }
     ensures state { S.state store.new ≡ S.state store.old }

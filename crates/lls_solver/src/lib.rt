@@ -1,6 +1,7 @@
 //! A solver that learns clauses from conflicts, and writes down each of them as a step of a proof.
 #![tactic(auto)]
 
+mod catching_up;
 mod conflict;
 mod course;
 mod deletion;
@@ -17,4 +18,5 @@ mod solving;
 mod values;
 
 pub use outcome::Outcome;
+pub use searcher::{Searcher, Turn};
 pub use solving::{MOST_BUDGET, solve, solve_from};

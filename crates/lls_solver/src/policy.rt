@@ -1,5 +1,5 @@
 // What a search goes by where its contracts leave it free: when it restarts, when it forgets clauses, and which.
-ghost use Rattle.std.specs.Prelude.{◌≡◌, ◌≤◌, ◌<◌, ◌+◌, All, IfOk, OnErr, OnOk, length};
+ghost use Rattle.std.specs.Prelude.{◌≡◌, ◌≤◌, ◌<◌, ◌+◌, ◌-◌, All, IfOk, OnErr, OnOk, length};
 ghost use Rattle.lls_analyse.specs.Valued.{HaveValues};
 
 use crate::glue::LevelStamps;
@@ -58,6 +58,14 @@ impl Policy {
     {
         self.used.push(true)?;
         Ok(())
+    }
+
+    /// Knows no more of the clause of the last number.
+    pub(crate) fn drop_clause(&mut self)
+        requires { 0 < self.old.clauses }
+        ensures { self.new ≡ record self.old { clauses = self.old.clauses - 1 } }
+    {
+        self.used.pop();
     }
 
     /// A clause of these literals, all of which have values, was learnt from a conflict that was resolved with the clauses of these

@@ -1,10 +1,14 @@
 // A searcher, which takes turns.
-ghost use Rattle.std.specs.Prelude.{◌≡◌, ◌≤◌, Bool, [], Ok, IfOk, OnErr, OnOk};
+ghost use Rattle.std.specs.Prelude.{◌≡◌, ◌≢◌, ◌≤◌, ◌==◌, Bool, [], true, Ok, IfOk, OnErr, OnOk};
+ghost use Rattle.std.specs.List.{list_all, list_any};
+ghost use Rattle.lls_prooflog.specs.Spent.{is_addition};
 ghost use Rattle.lls_store.specs.Changes.{empty_trail};
 ghost use Rattle.lls_store.specs.Store.{empty_store};
 ghost use Rattle.lls_solver.specs.Course.{IsComplete};
-ghost use Rattle.lls_solver.specs.Searching.{additions, HasLearnt, HoldsFormula, IsExhausted, IsModel, IsRefutation, IsSearching, KeepsAll};
+ghost use Rattle.lls_solver.specs.Searching.{additions, AddsEmpty, HasLearnt, HoldsFormula, IsExhausted, IsGoodLog, IsModel, IsRefutation, IsSearching, KeepsAll};
+ghost use Rattle.lls_solver.specs.Sharing.{HoldsFirst, IsBehind};
 
+use crate::catching_up::{catch_up, has_id};
 use crate::conflict::go_to_conflict;
 use crate::course::Course;
 use crate::deletion::{forget_half, is_late};
@@ -24,7 +28,7 @@ use std::marker::Model;
 
 /// What a turn came to.
 #[derive(Clone, Copy, Debug)]
-pub(crate) enum Turn {
+pub enum Turn {
     /// Every variable has a value, and no clause is false.
     Complete,
     /// A clause was learnt from a conflict.
@@ -38,7 +42,7 @@ pub(crate) enum Turn {
 /// A store of clauses, a course of values over it, an analyser of their conflicts, and what the search goes by. It is seen as
 /// its store and its trail.
 #[derive(Drop)]
-pub(crate) struct Searcher<S: Store> {
+pub struct Searcher<S: Store> {
     store: S,
     course: Course,
     analyser: Analyser,
@@ -67,7 +71,7 @@ impl<S: Store> Model for Searcher<S> {
 impl<S: Store + Drop> Searcher<S> {
     /// A searcher over the clauses of a formula, which are added to an empty store. Its first decisions go towards these values, by
     /// variable, and towards false past their end.
-    pub(crate) fn new(
+    pub fn new(
         alloc: Global,
         mut store: S,
         formula: &Formula,
@@ -94,7 +98,7 @@ impl<S: Store + Drop> Searcher<S> {
 impl<S: Store> Searcher<S> {
     /// Goes on to the next conflict, if there is one, and learns from it where the budget allows another clause. A turn that
     /// ends with `Memory` leaves the log as it was.
-    pub(crate) fn turn(
+    pub fn turn(
         &mut self,
         alloc: Global,
         formula: &Formula,
@@ -107,7 +111,10 @@ impl<S: Store> Searcher<S> {
         ensures complete { result ≡ Ok Turn.Complete → IsComplete self.new.store self.new.trail }
         ensures holds { result ≡ Ok Turn.Complete → HoldsFormula formula.now self.new.store }
         ensures stays { result ≡ Ok Turn.Complete → log.new.steps ≡ log.old.steps }
+        ensures spent_stays { result ≡ Ok Turn.Spent → log.new.steps ≡ log.old.steps }
+        ensures live { result ≢ Ok Turn.Learnt → self.new.store.live ≡ self.old.store.live }
         ensures learnt { result ≡ Ok Turn.Learnt → HasLearnt formula.now budget log.old.steps log.new.steps self.new }
+        ensures empty { result ≡ Ok Turn.Refuted → AddsEmpty log.old.steps log.new.steps }
         ensures refuted { result ≡ Ok Turn.Refuted → IsRefutation formula.now budget log.new.steps }
         ensures spent { result ≡ Ok Turn.Spent → IsExhausted formula.now budget log.new.steps }
         ensures err { OnErr result (log.new.steps ≡ log.old.steps) }
@@ -153,6 +160,44 @@ impl<S: Store> Searcher<S> {
         Ok(Turn::Learnt)
     }
 
+    /// Gets the clauses that others added to the log, where it lacks some: it goes back to level 0 then, and adds them in their
+    /// order. This takes time by what it lacks.
+    pub fn catch_up(&mut self, formula: &Formula, log: &Log) -> Result<(), Memory>
+        requires behind { IsBehind formula.now log.now.steps self.old.store self.old.trail }
+        requires good { IsGoodLog formula.now log.now.steps }
+        requires additions { list_all is_addition log.now.steps ≡ true }
+        requires few { additions log.now.steps ≤ MOST_BUDGET }
+        ensures searching { OnOk result (IsSearching formula.now log.now.steps self.new.store self.new.trail) }
+        ensures first { HoldsFirst formula.now log.now.steps self.new.store.live }
+    {
+        catch_up(
+            formula,
+            &mut self.store,
+            &mut self.course,
+            &mut self.policy,
+            log,
+        )
+    }
+
+    /// Whether it holds a clause under the id.
+    pub fn holds(&self, id: u64) -> bool
+        ensures { result ≡ list_any (λ clause. clause.id == id) self.now.store.live }
+    {
+        has_id(&self.store, id)
+    }
+
+    /// Restarts where it is time to.
+    pub fn restart(&mut self, formula: &Formula, log: &Log)
+        requires { IsSearching formula.now log.now.steps self.old.store self.old.trail }
+        ensures searching { IsSearching formula.now log.now.steps self.new.store self.new.trail }
+        ensures store { self.new.store ≡ self.old.store }
+    {
+        if self.policy.wants_restart() {
+            self.course.restart(&mut self.store);
+            self.policy.restart();
+        }
+    }
+
     /// Restarts where it is time to, and forgets clauses where it is time to and not all are to be kept. Where it ends with
     /// `Memory`, the log is as it was.
     pub(crate) fn tidy(
@@ -168,10 +213,7 @@ impl<S: Store> Searcher<S> {
         ensures err { OnErr result (log.new.steps ≡ log.old.steps) }
         ensures all_kept { KeepsAll keep_all log.old.steps → KeepsAll keep_all log.new.steps }
     {
-        if self.policy.wants_restart() {
-            self.course.restart(&mut self.store);
-            self.policy.restart();
-        }
+        self.restart(formula, log);
         if keep_all {
             return Ok(());
         }
@@ -202,7 +244,7 @@ impl<S: Store> Searcher<S> {
     }
 
     /// The assignment that the trail is, where every variable has a value and no clause is false.
-    pub(crate) fn assignment(&self, alloc: Global, formula: &Formula) -> Result<Assignment, Memory>
+    pub fn assignment(&self, alloc: Global, formula: &Formula) -> Result<Assignment, Memory>
         requires complete { IsComplete self.now.store self.now.trail }
         requires holds { HoldsFormula formula.now self.now.store }
         ensures { IfOk result (IsModel formula.now) }

@@ -1,6 +1,7 @@
 use Rattle.std.proofs.Common.{◌≡◌, ◌∙◌, suc, ◌+◌, ap, arith, refl, sym}
 use Rattle.std.proofs.lemmas.List.FromFn.{map-range_with_len_more}
-use Rattle.lls_gen.specs.Numbers.{after, nth}
+use Rattle.lls_numbers.specs.Numbers.{after}
+use Rattle.lls_gen.specs.Numbers.{nth}
 use Rattle.lls_gen.proofs.numbers.numbers.Goals as goal
 
 pub drawn-init : goal.drawn-init

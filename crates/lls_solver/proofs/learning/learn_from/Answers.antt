@@ -5,6 +5,7 @@ use Rattle.lls_prooflog.specs.declared.step.Step.TheVariants.{Add}
 use Rattle.lls_store.specs.Trail.{TrailState}
 use Rattle.lls_store.specs.Changes.{cut_to}
 use Rattle.lls_store.specs.Store.{StoreState, IsNewId, sealed}
+use Rattle.lls_analyse.specs.Spelled.{Spells}
 use Rattle.lls_analyse.specs.Valued.{HaveValues}
 use Rattle.lls_analyse.proofs.Valued.{all_have_values}
 use Rattle.lls_solver.specs.Searching.{additions, HoldsClauses, IsGoodLog, KeepsAll}
@@ -70,6 +71,31 @@ go_back-requires-clause-level g c =
 pub go_back-requires-clause-sound : goal.go_back-requires-clause-sound
 go_back-requires-clause-sound g c =
     sound_moved (g.S.Store.state c.learn-learnt.new.store) c.course.inside.trail c.bump.new.self (c.course.view_is ∙ sym c.bump.ensures) c.learn-learnt.ensures.sound
+
+pub returns-clause-learns : goal.returns-clause-learns
+returns-clause-learns g c =
+    let h = c.requires.searching in
+    let formula = c.args.formula.now in
+    let steps = c.args.log.now.steps in
+    let pairs = live_after formula steps in
+    let old = g.S.Store.state c.args.store.now in
+    let middle = g.S.Store.state c.reserve_conflict.new.store in
+    let t = c.course.inside.trail in
+    let learns = c.learn-learnt.ensures.learns in
+    let id = c.len.result + c.additions.result + 1 in
+    let step = Add id learns.lits learns.hints in
+    let spelled = subst (λ (s : StoreState). Spells s.live pairs) (sym c.in_ok-reserve_conflict.ensures.state) h.holds.spelled in
+    let vars = ap (λ (x : TrailState). x.vars) c.course.view_is ∙ g.met.S.Store.tracks_vars c.args.store.now c.args.course.now c.requires.tracked ∙ h.holds.store_vars in
+    let above = subst (λ (x : TrailState). 0 < x.current) (sym c.course.view_is) c.requires.level in
+    let closed = closed_below_kept old middle t (sym c.in_ok-reserve_conflict.ensures.state) (closed_below_moved old c.args.course.now t (sym c.course.view_is) h.on_course.closed_below) in
+    record {
+      id = id;
+      lits = learns.lits;
+      hints = learns.hints;
+      logged = learns.step.logged ∙ ap (λ (ss : List Step). ss ++ step ∷ []) c.in_ok-reserve_conflict.ensures.steps.steps_stay;
+      good = record { positive = learns.step.positive; good = learns.step.good pairs spelled };
+      fresh = adds_learnt formula.vars pairs middle (g.S.Store.state c.learn-learnt.new.store) t c.args.conflict id c.learn-learnt.result.back c.reserve_conflict.new.log.steps c.learn-learnt.new.log.steps learns spelled vars above closed;
+    }
 
 pub returns-clause-searching : goal.returns-clause-searching
 returns-clause-searching g c =

@@ -38,6 +38,12 @@ returns-clause-refutation g c =
     λ budget within. subst (IsRefutation formula budget) (sym (refutes.step.logged ∙ ap (λ (ss : List Step). ss ++ Add id [] refutes.hints ∷ []) same))
     (refutation_push formula budget steps id refutes.hints h.log within next good)
 
+pub returns-clause-empty : goal.returns-clause-empty
+returns-clause-empty g c =
+    let refutes = c.refute.ensures.refutes in
+    let id = c.len.result + c.additions.result + 1 in
+    record { id = id; hints = refutes.hints; logged = refutes.step.logged ∙ ap (λ (ss : List Step). ss ++ Add id [] refutes.hints ∷ []) c.in_ok-reserve_conflict.ensures.steps.steps_stay }
+
 pub returns-clause-kept : goal.returns-clause-kept
 returns-clause-kept g c =
     let steps = c.args.log.now.steps in

@@ -1,0 +1,169 @@
+-- What a turn makes of searchers over one log.
+use Rattle.std.proofs.Common.{◌≡◌, ℕ, suc, ◌<◌, ◌≤◌, Bool, true, List, [], ◌∷◌, ◌++◌, length, map, replicate, get_or, set, take, Ok, refl, sym, ap, subst, ◌∙◌, arith}
+use Rattle.std.specs.Prelude.{All, ◌||◌, ◌==◌}
+use Rattle.std.specs.List.{list_all, list_any}
+use Rattle.std.proofs.lemmas.Bool.{and_from}
+use Rattle.std.proofs.lemmas.List.{append-nil, get_or-map, length-map, map-set, take-map}
+use Rattle.std.proofs.lemmas.List.Elements.{All-map, All-set}
+use Rattle.std.proofs.lemmas.List.Folds.{list_all-append}
+use Rattle.lls_lit.specs.Formula.{Clause, Cnf}
+use Rattle.lls_prooflog.specs.declared.step.Step.{Step}
+use Rattle.lls_prooflog.specs.Spent.{is_addition, live_after}
+use Rattle.lls_store.specs.Clauses.{LiveClause}
+use Rattle.lls_solver.specs.declared.outcome.Outcome.{Outcome}
+use Rattle.lls_solver.specs.declared.solving.TheConstants.{MOST_BUDGET}
+use Rattle.lls_solver.specs.Searching.{SearcherState, ids_of, HasLearnt, IsLogWithin, IsOutcome, IsSearching, KeepsAll}
+use Rattle.lls_solver.specs.Sharing.{HoldsFirst, IsBehind}
+use Rattle.lls_analyse.specs.Spelled.{Spells}
+use Rattle.lls_solver.proofs.Clauses.{spells_ids}
+use Rattle.lls_solver.proofs.Start.{good_none}
+use Rattle.lls_solver.proofs.Sharing.{behind_grown, behind_searching, first_grown, first_searching}
+use Rattle.lls_crew.specs.declared.stage.Stage.{Stage}
+use Rattle.lls_crew.specs.declared.stage.Stage.TheVariants.{Going, Ended, Failed}
+use Rattle.lls_crew.specs.Turns.{IsGrown}
+use Rattle.lls_crew.specs.Crew.{AreFirst, IsCrew, IsCrewOf, Learns, Stops, crew_of, ids_in, started}
+
+ids_first : (formula : Cnf) (steps : List Step) (s : SearcherState) → HoldsFirst formula steps s.store.live → AreFirst formula (live_after formula steps) (ids_in s)
+ids_first formula steps s h =
+    let live = s.store.live in
+    let many : length (ids_in s) ≡ length live = length-map live (λ (c : LiveClause). c.id) in
+    record {
+      whole_formula = omega (arith, many, h.whole_formula);
+      first = spells_ids live (take (length live) (live_after formula steps)) h.spelled ∙ sym (take-map (λ (pair : ℕ × Clause). pair.0) (length live) (live_after formula steps)) ∙ ap (λ (n : ℕ). take n (ids_of (live_after formula steps))) (sym many);
+    }
+
+all_weaker : (P Q : SearcherState → Type 0) (searchers : List SearcherState) → ((s : SearcherState) → P s → Q s) → All P searchers → All Q searchers
+all_weaker P Q searchers weaker all = λ k d lt. weaker (get_or searchers k d) (all k d lt)
+
+-- what holds of searchers is seen of the crew
+pub crew_is : (formula : Cnf) (budget : ℕ) (keep_all : Bool) (searchers : List SearcherState) (steps : List Step) (stage : Stage) → IsCrewOf formula budget keep_all searchers steps stage → IsCrew (crew_of formula budget keep_all searchers steps stage)
+crew_is formula budget keep_all searchers steps stage h = record {
+  first = All-map (AreFirst formula (live_after formula steps)) ids_in searchers (all_weaker (λ s. HoldsFirst formula steps s.store.live) (λ s. AreFirst formula (live_after formula steps) (ids_in s)) searchers (ids_first formula steps) h.first);
+  log = h.log;
+}
+
+module _ (formula : Cnf) (budget : ℕ) (keep_all : Bool) (searchers : List SearcherState) (old new : List Step) (h : IsCrewOf formula budget keep_all searchers old Going) (grown : IsGrown old new) where
+  additions_grown : list_all is_addition new ≡ true
+  additions_grown = ap (list_all is_addition) grown.logged ∙ list_all-append is_addition old grown.more ∙ and_from (list_all is_addition old) (list_all is_addition grown.more) h.additions grown.additions
+
+  first_set : (k : ℕ) (s : SearcherState) → HoldsFirst formula new s.store.live → All (λ (x : SearcherState). HoldsFirst formula new x.store.live) (set searchers k s)
+  first_set k s first =
+      let others = all_weaker (λ x. HoldsFirst formula old x.store.live) (λ x. HoldsFirst formula new x.store.live) searchers
+      (λ x is. subst (λ (ss : List Step). HoldsFirst formula ss x.store.live) (sym grown.logged) (first_grown formula old grown.more x.store.live grown.additions is)) h.first
+      in
+      All-set (λ (x : SearcherState). HoldsFirst formula new x.store.live) searchers k s first others
+
+  behind_set : (k : ℕ) (s : SearcherState) → IsSearching formula new s.store s.trail → All (λ (x : SearcherState). IsBehind formula new x.store x.trail) (set searchers k s)
+  behind_set k s searching =
+      let others = all_weaker (λ x. IsBehind formula old x.store x.trail) (λ x. IsBehind formula new x.store x.trail) searchers
+      (λ x is. subst (λ (ss : List Step). IsBehind formula ss x.store x.trail) (sym grown.logged) (behind_grown formula old grown.more x.store x.trail grown.additions is)) (h.behind refl)
+      in
+      All-set (λ (x : SearcherState). IsBehind formula new x.store x.trail) searchers k s (behind_searching formula new s.store s.trail searching) others
+
+  -- after a turn that learnt a clause
+  pub crew_learnt : (k : ℕ) (s : SearcherState) → HasLearnt formula budget old new s → IsCrewOf formula budget keep_all (set searchers k s) new Going
+  crew_learnt k s learnt = record {
+    first = first_set k s (first_searching formula new s.store s.trail learnt.searching);
+    behind = λ _. behind_set k s learnt.searching;
+    additions = additions_grown;
+    budget_fits = h.budget_fits;
+    log = (record { log = learnt.searching.log; within = learnt.within }, λ _. additions_grown);
+  }
+
+  -- after a turn that came to an outcome
+  pub crew_ended : (k : ℕ) (s : SearcherState) (outcome : Outcome) → HoldsFirst formula new s.store.live → IsOutcome formula budget keep_all new (Ok outcome) → IsCrewOf formula budget keep_all (set searchers k s) new (Ended outcome)
+  crew_ended k s outcome first right = record {
+    first = first_set k s first;
+    behind = λ is. absurd cc;
+    additions = additions_grown;
+    budget_fits = h.budget_fits;
+    log = right;
+  }
+
+  -- after a turn without memory, which left the log as it was
+  pub crew_failed : (k : ℕ) (s : SearcherState) → HoldsFirst formula new s.store.live → new ≡ old → IsCrewOf formula budget keep_all (set searchers k s) new Failed
+  crew_failed k s first same = record {
+    first = first_set k s first;
+    behind = λ is. absurd cc;
+    additions = additions_grown;
+    budget_fits = h.budget_fits;
+    log = subst (λ (ss : List Step). IsLogWithin formula budget ss × KeepsAll keep_all ss) (sym same) h.log;
+  }
+
+-- what is seen of a turn that learnt a clause
+pub learns_seen : (formula : Cnf) (budget : ℕ) (keep_all : Bool) (searchers : List SearcherState) (old new : List Step) (k : ℕ) (s : SearcherState) → HasLearnt formula budget old new s
+    → Learns (crew_of formula budget keep_all searchers old Going) (crew_of formula budget keep_all (set searchers k s) new Going) k
+learns_seen formula budget keep_all searchers old new k s learnt =
+    let step = learnt.learns in
+    let live = live_after formula new in
+    let held : map ids_in (set searchers k s) ≡ set (map ids_in searchers) k (ids_of live) =
+    map-set ids_in searchers k s ∙ ap (set (map ids_in searchers) k) (spells_ids s.store.live live learnt.searching.holds.spelled)
+    in
+    record {
+      going = refl;
+      few = omega (arith, learnt.one_more, learnt.within);
+      id = step.id;
+      lits = step.lits;
+      hints = step.hints;
+      good = step.good;
+      fresh = step.fresh;
+      learnt = ap (λ (ids : List (List ℕ)). record (crew_of formula budget keep_all searchers new Going) { held = ids }) held
+          ∙ ap (λ (steps : List Step). record (crew_of formula budget keep_all searchers steps Going) { held = set (map ids_in searchers) k (ids_of live) }) step.logged;
+    }
+
+stopped_seen : (formula : Cnf) (budget : ℕ) (keep_all : Bool) (searchers : List SearcherState) (old more new : List Step) (stage : Stage) (k : ℕ) (s : SearcherState) → new ≡ old ++ more
+    → crew_of formula budget keep_all (set searchers k s) new stage ≡ record (crew_of formula budget keep_all searchers old Going) { steps = old ++ more; held = set (map ids_in searchers) k (ids_in s); stage = stage }
+stopped_seen formula budget keep_all searchers old more new stage k s logged =
+    ap (λ (ids : List (List ℕ)). record (crew_of formula budget keep_all searchers new stage) { held = ids }) (map-set ids_in searchers k s)
+    ∙ ap (λ (steps : List Step). record (crew_of formula budget keep_all searchers steps stage) { held = set (map ids_in searchers) k (ids_in s) }) logged
+
+-- of one that came to an outcome
+pub ended_seen : (formula : Cnf) (budget : ℕ) (keep_all : Bool) (searchers : List SearcherState) (old new : List Step) (outcome : Outcome) (k : ℕ) (s : SearcherState) → IsGrown old new → Spells s.store.live (live_after formula old)
+    → Stops (crew_of formula budget keep_all searchers old Going) (crew_of formula budget keep_all (set searchers k s) new (Ended outcome)) k
+ended_seen formula budget keep_all searchers old new outcome k s grown spelled = record {
+  more = grown.more;
+  ids = ids_in s;
+  ended = λ _ _. spells_ids s.store.live (live_after formula old) spelled;
+  failed = λ is. absurd cc;
+  stopped = stopped_seen formula budget keep_all searchers old grown.more new (Ended outcome) k s grown.logged;
+}
+
+-- and of one without memory
+pub failed_seen : (formula : Cnf) (budget : ℕ) (keep_all : Bool) (searchers : List SearcherState) (old new : List Step) (k : ℕ) (s : SearcherState) → new ≡ old
+    → Stops (crew_of formula budget keep_all searchers old Going) (crew_of formula budget keep_all (set searchers k s) new Failed) k
+failed_seen formula budget keep_all searchers old new k s same = record {
+  more = [];
+  ids = ids_in s;
+  ended = λ outcome is. absurd cc;
+  failed = λ _. refl;
+  stopped = stopped_seen formula budget keep_all searchers old [] new Failed k s (same ∙ sym (append-nil old));
+}
+
+any_id : (live : List LiveClause) (id : ℕ) → list_any (λ (c : LiveClause). c.id == id) live ≡ list_any (λ held. held == id) (map (λ (c : LiveClause). c.id) live)
+any_id [] id = refl
+any_id (clause ∷ live) id = ap (λ b. (clause.id == id) || b) (any_id live id)
+
+-- the searcher of a number holds what is seen there
+pub held_at : (searchers : List SearcherState) (k id : ℕ) (s : SearcherState) → k < length searchers → get_or searchers k s ≡ s → list_any (λ (c : LiveClause). c.id == id) s.store.live ≡ list_any (λ held. held == id) (get_or (map ids_in searchers) k [])
+held_at searchers k id s lt is =
+    any_id s.store.live id ∙ ap (λ (ids : List ℕ). list_any (λ held. held == id) ids) (sym (get_or-map ids_in searchers k s [] lt ∙ ap ids_in is))
+
+all_same : (searchers : List SearcherState) (ids : List ℕ) → All (λ (s : SearcherState). ids_in s ≡ ids) searchers → map ids_in searchers ≡ replicate (length searchers) ids
+all_same [] ids all = refl
+all_same (s ∷ searchers) ids all = rw (all 0 s (omega arith), all_same searchers ids (λ k d lt. all (suc k) d (omega arith))) refl
+
+-- searchers that haven't begun
+pub crew_started : (formula : Cnf) (budget : ℕ) (keep_all : Bool) (searchers : List SearcherState) → All (λ (s : SearcherState). IsSearching formula [] s.store s.trail) searchers → budget ≤ MOST_BUDGET → IsCrewOf formula budget keep_all searchers [] Going
+crew_started formula budget keep_all searchers all fits = record {
+  first = all_weaker (λ s. IsSearching formula [] s.store s.trail) (λ s. HoldsFirst formula [] s.store.live) searchers (λ s is. first_searching formula [] s.store s.trail is) all;
+  behind = λ _. all_weaker (λ s. IsSearching formula [] s.store s.trail) (λ s. IsBehind formula [] s.store s.trail) searchers (λ s is. behind_searching formula [] s.store s.trail is) all;
+  additions = refl;
+  budget_fits = fits;
+  log = (record { log = good_none formula; within = omega arith }, λ _. refl);
+}
+
+pub started_seen : (formula : Cnf) (budget : ℕ) (keep_all : Bool) (searchers : List SearcherState) (many : ℕ) → All (λ (s : SearcherState). IsSearching formula [] s.store s.trail) searchers → length searchers ≡ many → crew_of formula budget keep_all searchers [] Going ≡ started formula budget keep_all many
+started_seen formula budget keep_all searchers many all is =
+    let ids = ids_of (live_after formula []) in
+    let each = all_weaker (λ s. IsSearching formula [] s.store s.trail) (λ s. ids_in s ≡ ids) searchers (λ s searching. spells_ids s.store.live (live_after formula []) searching.holds.spelled) all in
+    ap (λ (held : List (List ℕ)). record (crew_of formula budget keep_all [] [] Going) { held = held }) (all_same searchers ids each ∙ ap (λ (n : ℕ). replicate n ids) is)

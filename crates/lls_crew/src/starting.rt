@@ -1,0 +1,35 @@
+// Searchers that haven't begun.
+ghost use Rattle.std.specs.Prelude.{◌≡◌, ◌<◌, ◌≤◌, ◌^◌, [], All, IfOk, length};
+ghost use Rattle.lls_solver.specs.Searching.{IsSearching};
+
+use lls_base::Memory;
+use lls_cnf::Formula;
+use lls_solver::Searcher;
+use lls_watch::WatchStore;
+use std::alloc::Global;
+
+/// So many searchers over the clauses of a formula.
+pub(crate) fn new_searchers(
+    alloc: Global,
+    formula: &Formula,
+    many: u32,
+) -> Result<Vec<Searcher<WatchStore>>, Memory>
+    ensures len { IfOk result (λ searchers. length searchers.items ≡ many) }
+    ensures searching { IfOk result (λ searchers. All (λ s. IsSearching formula.now [] s.store s.trail) searchers.items) }
+{
+    let mut searchers = Vec::with_capacity(alloc, many as usize)?;
+    for k in 0..many {
+        searchers.push(searcher(alloc, formula, k)?)?;
+    }
+    Ok(searchers)
+}
+
+// The searcher of a number: the first decisions of every second one go towards true.
+fn searcher(alloc: Global, formula: &Formula, k: u32) -> Result<Searcher<WatchStore>, Memory>
+    ensures { IfOk result (λ searcher. IsSearching formula.now [] searcher.store searcher.trail) }
+{
+    let vars = formula.vars();
+    let phases = vec![in alloc; k % 2 == 1; vars as usize]?;
+    let store = WatchStore::new(alloc, vars)?;
+    Searcher::new(alloc, store, formula, &phases)
+}

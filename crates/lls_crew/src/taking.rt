@@ -1,0 +1,69 @@
+// A turn of one searcher.
+ghost use Rattle.std.specs.Prelude.{◌≡◌, ◌≢◌, ◌≤◌, Bool, None, Some, Ok, OnErr, true};
+ghost use Rattle.std.specs.List.{list_all};
+ghost use Rattle.lls_prooflog.specs.Spent.{is_addition, live_after};
+ghost use Rattle.lls_analyse.specs.Spelled.{Spells};
+ghost use Rattle.lls_solver.specs.Searching.{HasLearnt, IsLogWithin, IsOutcome, IsSearching};
+ghost use Rattle.lls_solver.specs.Sharing.{HoldsFirst, IsBehind};
+ghost use Rattle.lls_crew.specs.Turns.{IsGrown};
+
+use lls_base::Memory;
+use lls_cnf::Formula;
+use lls_prooflog::Log;
+use lls_solver::{MOST_BUDGET, Outcome, Searcher, Turn};
+use lls_watch::WatchStore;
+use std::alloc::Global;
+
+/// Has a searcher add the clauses that others learnt, and go on until it learns another one or comes to an outcome. None where it
+/// learnt one.
+pub(crate) fn take_turn(
+    alloc: Global,
+    formula: &Formula,
+    searcher: &mut Searcher<WatchStore>,
+    log: &mut Log,
+    budget: u32,
+) -> Result<Option<Outcome>, Memory>
+    requires behind { IsBehind formula.now log.old.steps searcher.old.store searcher.old.trail }
+    requires within { IsLogWithin formula.now budget log.old.steps }
+    requires additions { list_all is_addition log.old.steps ≡ true }
+    requires budget { budget ≤ MOST_BUDGET }
+    ensures learnt { result ≡ Ok None → HasLearnt formula.now budget log.old.steps log.new.steps searcher.new }
+    ensures ended { (outcome : Outcome) (keep_all : Bool) → result ≡ Ok (Some outcome) → IsOutcome formula.now budget keep_all log.new.steps (Ok outcome) }
+    ensures whole { (outcome : Outcome) → result ≡ Ok (Some outcome) → Spells searcher.new.store.live (live_after formula.now log.old.steps) }
+    ensures grown { IsGrown log.old.steps log.new.steps }
+    ensures first { HoldsFirst formula.now log.new.steps searcher.new.store.live }
+    ensures err { OnErr result (log.new.steps ≡ log.old.steps) }
+{
+    searcher.catch_up(formula, log)?;
+    go_on(alloc, formula, searcher, log, budget)
+}
+
+// Has a searcher that lacks no clause go on until it learns another one or comes to an outcome.
+fn go_on(
+    alloc: Global,
+    formula: &Formula,
+    searcher: &mut Searcher<WatchStore>,
+    log: &mut Log,
+    budget: u32,
+) -> Result<Option<Outcome>, Memory>
+    requires searching { IsSearching formula.now log.old.steps searcher.old.store searcher.old.trail }
+    requires within { IsLogWithin formula.now budget log.old.steps }
+    requires additions { list_all is_addition log.old.steps ≡ true }
+    requires budget { budget ≤ MOST_BUDGET }
+    ensures learnt { result ≡ Ok None → HasLearnt formula.now budget log.old.steps log.new.steps searcher.new }
+    ensures ended { (outcome : Outcome) (keep_all : Bool) → result ≡ Ok (Some outcome) → IsOutcome formula.now budget keep_all log.new.steps (Ok outcome) }
+    ensures whole { (outcome : Outcome) → result ≡ Ok (Some outcome) → Spells searcher.new.store.live (live_after formula.now log.old.steps) }
+    ensures grown { IsGrown log.old.steps log.new.steps }
+    ensures first { HoldsFirst formula.now log.new.steps searcher.new.store.live }
+    ensures err { OnErr result (log.new.steps ≡ log.old.steps) }
+{
+    match searcher.turn(alloc, formula, log, budget)? {
+        Turn::Learnt => {
+            searcher.restart(formula, log);
+            Ok(None)
+        }
+        Turn::Complete => Ok(Some(Outcome::Sat(searcher.assignment(alloc, formula)?))),
+        Turn::Refuted => Ok(Some(Outcome::Unsat)),
+        Turn::Spent => Ok(Some(Outcome::Undecided)),
+    }
+}
