@@ -1,22 +1,20 @@
--- Additions in buffers: they stay where the buffers grow. What a table says ids name.
-use Rattle.std.proofs.Common.{◌≡◌, ℕ, zero, suc, ◌+◌, ◌-◌, ◌<◌, true, false, cond, List, [], ◌∷◌, ◌++◌, All, length, get_or, take, drop, Option, Some, None, refl, sym, ap, ◌∙◌, arith, eqb, length-append}
-use Rattle.std.specs.Prelude.{ℤ, slice_get}
+-- Additions in buffers: how many they are, the one at a place, and one more. What a table says ids name.
+use Rattle.std.proofs.Common.{◌≡◌, ℕ, zero, suc, ◌+◌, ◌-◌, ◌<◌, ◌≤◌, Bool, true, false, cond, List, [], ◌∷◌, ◌++◌, length, get_or, take, drop, Option, Some, None, refl, sym, ap, ◌∙◌, arith, eqb, length-append}
+use Rattle.std.specs.Prelude.{ℤ, slice_get, is_some, if◌then◌else◌}
 use Rattle.std.specs.List.{between}
-use Rattle.std.specs.Option.{ForSome}
+use Rattle.std.specs.Option.{unwrap_or}
 use Rattle.std.proofs.lemmas.List.{take_more, map-append, take-append-le, drop-append-le, length-drop}
-use Rattle.std.proofs.lemmas.List.Elements.{All-append, All-from_recursion, recursion_from_All}
-use Rattle.std.proofs.lemmas.Option.{slice_get_within, get_or_from_slice_get, same_Some}
+use Rattle.std.proofs.lemmas.Option.{slice_get_within, get_or_from_slice_get}
 use Rattle.lls_lit.specs.Literal.{variable_of}
-use Rattle.lls_prooflog.specs.Pieces.{Begins}
-use Rattle.lls_prooflog.proofs.Pieces.{begins_same, begins_more, last_piece}
+use Rattle.lls_prooflog.proofs.Pieces.{last_piece}
 use Rattle.lls_lrat.specs.Placed.{place_of}
 use Rattle.lls_trim.specs.declared.names.Names.{Names}
 use Rattle.lls_trim.specs.declared.source.Source.{Source}
 use Rattle.lls_trim.specs.declared.source.Source.TheVariants.{Added}
-use Rattle.lls_trim.specs.declared.inferences.Span.{Span}
+use Rattle.lls_trim.specs.declared.inferences.Ends.{Ends}
 use Rattle.lls_trim.specs.declared.inferences.Entry.{Entry}
 use Rattle.lls_trim.specs.Inferences.{Inference, with_name, sources_of}
-use Rattle.lls_trim.specs.Buffers.{IsSpan, IsEntry, by_in, inference_in, inferences_in, FillsBy, source_of, names_in}
+use Rattle.lls_trim.specs.Buffers.{AreEnds, IsEntry, ends_before, inference_in, inferences_in, source_of, names_in}
 
 -- an id gets its place
 pub names_in-put : (old new : Names) (id k : ℕ) → ((q : ℕ) → place_of new.places q ≡ cond (eqb id q) (Some k) (place_of old.places q)) → names_in new ≡ with_name (names_in old) id k
@@ -37,56 +35,67 @@ slice_get_from_lt (x ∷ xs) (suc k) lt = slice_get_from_lt xs k (omega arith)
 pub sources_of-next : (names : ℕ → Source) (hints : List ℤ) (k : ℕ) (hint : ℤ) → slice_get hints k ≡ Some hint → sources_of names (take (k + 1) hints) ≡ sources_of names (take k hints) ++ names (variable_of hint) ∷ []
 sources_of-next names hints k hint e = ap (sources_of names) (take-next hints k hint e) ∙ map-append (λ h. names (variable_of h)) (take k hints) (hint ∷ [])
 
-kept_piece : {X : Type 0} (span : Span) (old new : List X) → IsSpan (length old) span → Begins old new → between span.from span.to new ≡ between span.from span.to old
-kept_piece span old new h (more, is) =
-    rw (is, drop-append-le span.from old more (omega (arith, h.order, h.within)), take-append-le (span.to - span.from) (drop span.from old) more (omega (arith, length-drop span.from old, h.order, h.within))) refl
+pub length-inferences_in : (lits : List ℤ) (sources : List Source) (from : Ends) (entries : List Entry) → length (inferences_in lits sources from entries) ≡ length entries
+length-inferences_in lits sources from [] = refl
+length-inferences_in lits sources from (e ∷ es) = ap suc (length-inferences_in lits sources e.ends es)
 
-span_more : {X : Type 0} (span : Span) (old new : List X) → IsSpan (length old) span → Begins old new → IsSpan (length new) span
-span_more span old new h (more, is) = record { order = h.order; within = omega (arith, h.within, ap length is, length-append old more) }
+-- the last ends are no less than the first ones
+ends_least : (from : Ends) (entries : List Entry) (lits sources : ℕ) → AreEnds from entries lits sources → (from.lits ≤ lits) × (from.sources ≤ sources)
+ends_least from [] lits sources h = (omega (arith, h.0), omega (arith, h.1))
+ends_least from (e ∷ es) lits sources h = let more = ends_least e.ends es lits sources h.1.1 in (omega (arith, h.0, more.0), omega (arith, h.1.0, more.1))
 
--- what was filled in last
-pub record Filled (old new : List Source) (more : Option (List Source)) (span : Option Span) : Type 0 where
-  pub begins : Begins old new
-  pub piece : by_in new span ≡ more
-  pub within : ForSome span (IsSpan (length new))
+-- each addition begins at or before its ends, which are within the buffers
+pub entry_at : (from : Ends) (entries : List Entry) (lits sources k : ℕ) (d : Entry) → AreEnds from entries lits sources → k < length entries → IsEntry lits sources (ends_before from entries k) (get_or entries k d)
+entry_at from [] lits sources k d h lt = absurd (omega arith)
+entry_at from (e ∷ es) lits sources zero d h lt =
+    let more = ends_least e.ends es lits sources h.1.1 in
+    record { lits_order = h.0; lits_within = more.0; sources_order = h.1.0; sources_within = more.1 }
+entry_at from (e ∷ es) lits sources (suc k) d h lt = entry_at e.ends es lits sources k d h.1.1 (omega arith)
 
-pub fills : (old new : List Source) (more : Option (List Source)) (span : Option Span) → FillsBy old new more span → Filled old new more span
-fills old new None span h = record {
-  begins = rw h.0 (begins_same old);
-  piece = ap (by_in new) h.1;
-  within = λ s e. let clash : None ≡ Some s = sym h.1 ∙ e in absurd cc;
+pub ends_before-next : (from : Ends) (entries : List Entry) (k : ℕ) (d : Entry) → k < length entries → ends_before from entries (suc k) ≡ (get_or entries k d).ends
+ends_before-next from [] k d lt = absurd (omega arith)
+ends_before-next from (e ∷ es) zero d lt = refl
+ends_before-next from (e ∷ es) (suc k) d lt = ends_before-next e.ends es k d (omega arith)
+
+pub slice_get-inferences_in : (lits : List ℤ) (sources : List Source) (from : Ends) (entries : List Entry) (k : ℕ) (d : Entry) → k < length entries → slice_get (inferences_in lits sources from entries) k ≡ Some (inference_in lits sources (ends_before from entries k) (get_or entries k d))
+slice_get-inferences_in lits sources from [] k d lt = absurd (omega arith)
+slice_get-inferences_in lits sources from (e ∷ es) zero d lt = refl
+slice_get-inferences_in lits sources from (e ∷ es) (suc k) d lt = slice_get-inferences_in lits sources e.ends es k d (omega arith)
+
+kept_piece : {X : Type 0} (from to : ℕ) (old more : List X) → from ≤ to → to ≤ length old → between from to (old ++ more) ≡ between from to old
+kept_piece from to old more order within =
+    rw (drop-append-le from old more (omega (arith, order, within)), take-append-le (to - from) (drop from old) more (omega (arith, length-drop from old, order, within))) refl
+
+-- what the last addition is cut from
+abbrev pub entry_behind : List ℤ → List Source → Inference → Entry
+entry_behind lits sources i = record {
+  line = i.line;
+  is_by_propagation = is_some i.by;
+  ends = record { lits = length lits + length i.clause; sources = length sources + length (unwrap_or i.by []) };
 }
-fills old new (Some more) span h = record {
-  begins = rw h.0 (begins_more old more);
-  piece = rw (h.0, h.1) (ap (λ (xs : List Source). Some xs) (last_piece old more));
-  within = λ s e.
-      let same : record { from = length old; to = length old + length more } ≡ s = same_Some (record { from = length old; to = length old + length more }) s (sym h.1 ∙ e) in
-      rw (← same, h.0) (record { order = omega arith; within = omega (arith, length-append old more) });
-}
 
-by_kept : (old new : List Source) (span : Option Span) → ForSome span (IsSpan (length old)) → Begins old new → by_in new span ≡ by_in old span
-by_kept old new None h more = refl
-by_kept old new (Some span) h more = ap (λ (xs : List Source). Some xs) (kept_piece span old new (h span refl) more)
+module _ (lits : List ℤ) (sources : List Source) (i : Inference) where
+  last_by : (from : ℕ) (by : Option (List Source)) → from ≡ length sources → (if is_some by then Some (between from (length sources + length (unwrap_or by [])) (sources ++ unwrap_or by [])) else None) ≡ by
+  last_by from None e = refl
+  last_by from (Some more) e = rw e (ap (λ (ss : List Source). Some ss) (last_piece sources more))
 
-module _ (lits lits2 : List ℤ) (sources sources2 : List Source) (more_lits : Begins lits lits2) (more_sources : Begins sources sources2) where
-  entry_kept : (entry : Entry) → IsEntry (length lits) (length sources) entry → inference_in lits2 sources2 entry ≡ inference_in lits sources entry
-  entry_kept entry h = rw (kept_piece entry.clause lits lits2 h.clause more_lits, by_kept sources sources2 entry.by h.by more_sources) refl
+  last_one : (from : Ends) → from.lits ≡ length lits → from.sources ≡ length sources → inference_in (lits ++ i.clause) (sources ++ unwrap_or i.by []) from (entry_behind lits sources i) ≡ i
+  last_one from e e2 = λ t. record { line = i.line; clause = clause t; by = last_by from.sources i.by e2 t } where
+    clause : between from.lits (length lits + length i.clause) (lits ++ i.clause) ≡ i.clause
+    clause = rw e (last_piece lits i.clause)
 
-  entry_more : (entry : Entry) → IsEntry (length lits) (length sources) entry → IsEntry (length lits2) (length sources2) entry
-  entry_more entry h = record { clause = span_more entry.clause lits lits2 h.clause more_lits; by = λ s e. span_more s sources sources2 (h.by s e) more_sources }
-
-  entries_kept : (entries : List Entry) → All (IsEntry (length lits) (length sources)) entries → inferences_in lits2 sources2 entries ≡ inferences_in lits sources entries
-  entries_kept [] all = refl
-  entries_kept (x ∷ xs) all =
-      let parts = recursion_from_All (IsEntry (length lits) (length sources)) (x ∷ xs) all in
-      rw (entry_kept x parts.0, entries_kept xs (All-from_recursion (IsEntry (length lits) (length sources)) xs parts.1)) refl
-
-  pub entries_more : (entries : List Entry) → All (IsEntry (length lits) (length sources)) entries → All (IsEntry (length lits2) (length sources2)) entries
-  entries_more entries all = λ k d lt. entry_more (get_or entries k d) (all k d lt)
+  kept_by : (from to : ℕ) (b : Bool) → from ≤ to → to ≤ length sources → (if b then Some (between from to (sources ++ unwrap_or i.by [])) else None) ≡ (if b then Some (between from to sources) else None)
+  kept_by from to true order within = ap (λ (ss : List Source). Some ss) (kept_piece from to sources (unwrap_or i.by []) order within)
+  kept_by from to false order within = refl
 
   -- one addition more
-  pub entries_push : (entries : List Entry) (entry : Entry) (i : Inference) → All (IsEntry (length lits) (length sources)) entries → inference_in lits2 sources2 entry ≡ i → inferences_in lits2 sources2 (entries ++ entry ∷ []) ≡ inferences_in lits sources entries ++ i ∷ []
-  entries_push entries entry i all is = map-append (inference_in lits2 sources2) entries (entry ∷ []) ∙ (rw (entries_kept entries all, is) refl)
+  pub inferences_in-push : (from : Ends) (entries : List Entry) → AreEnds from entries (length lits) (length sources)
+      → inferences_in (lits ++ i.clause) (sources ++ unwrap_or i.by []) from (entries ++ entry_behind lits sources i ∷ []) ≡ inferences_in lits sources from entries ++ i ∷ []
+  inferences_in-push from [] h = ap (λ (j : Inference). j ∷ []) (last_one from h.0 h.1)
+  inferences_in-push from (e ∷ es) h =
+      let more = ends_least e.ends es (length lits) (length sources) h.1.1 in
+      rw (kept_piece from.lits e.ends.lits lits i.clause h.0 more.0, kept_by from.sources e.ends.sources e.is_by_propagation h.1.0 more.1, inferences_in-push e.ends es h.1.1) refl
 
-  pub filled_push : (entries : List Entry) (entry : Entry) → All (IsEntry (length lits) (length sources)) entries → IsEntry (length lits2) (length sources2) entry → All (IsEntry (length lits2) (length sources2)) (entries ++ entry ∷ [])
-  filled_push entries entry all one = All-append (IsEntry (length lits2) (length sources2)) entries (entry ∷ []) (entries_more entries all) (All-from_recursion (IsEntry (length lits2) (length sources2)) (entry ∷ []) (one, tt))
+  pub AreEnds-push : (from : Ends) (entries : List Entry) → AreEnds from entries (length lits) (length sources) → AreEnds from (entries ++ entry_behind lits sources i ∷ []) (length (lits ++ i.clause)) (length (sources ++ unwrap_or i.by []))
+  AreEnds-push from [] h = (omega (arith, h.0), (omega (arith, h.1), (sym (length-append lits i.clause), sym (length-append sources (unwrap_or i.by [])))))
+  AreEnds-push from (e ∷ es) h = (h.0, (h.1.0, AreEnds-push e.ends es h.1.1))

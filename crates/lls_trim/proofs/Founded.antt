@@ -119,7 +119,7 @@ find_clause-dropped keep (pair ∷ rest) q e = elim (eqb_tells pair.0 q) [
   ]
 ]
 
-find_clause-kept : (keep : ℕ → Bool) (live : Live) (q : ℕ) (clause : Clause) → find_clause (filter (λ pair. keep pair.0) live) q ≡ Some clause → find_clause live q ≡ Some clause
+pub find_clause-kept : (keep : ℕ → Bool) (live : Live) (q : ℕ) (clause : Clause) → find_clause (filter (λ pair. keep pair.0) live) q ≡ Some clause → find_clause live q ≡ Some clause
 find_clause-kept keep [] q clause e = e
 find_clause-kept keep (pair ∷ rest) q clause e =
     elim (keep pair.0) as (λ k. keep pair.0 ≡ k → find_clause (cond k (pair ∷ filter (λ p. keep p.0) rest) (filter (λ p. keep p.0) rest)) q ≡ Some clause → find_clause (pair ∷ rest) q ≡ Some clause) [

@@ -1,6 +1,7 @@
 pub mod Walks
 pub mod Founded
 pub mod Readings
+pub mod Numbered
 pub mod Marks
 pub mod Renumbered
 pub mod Buffers

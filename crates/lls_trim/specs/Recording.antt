@@ -1,11 +1,11 @@
 -- For private contracts alone: a check under way that records the additions.
 use Rattle.std.specs.Prelude.{◌≡◌, ℕ, ◌+◌, Bool, false, List, [], ◌∷◌, ◌++◌, fold, length, Option, Some, None, Result, Ok, Err}
-use Rattle.lls_lit.specs.Formula.{Cnf}
+use Rattle.lls_lit.specs.Formula.{Clause, Cnf}
 use Rattle.lls_prooflog.specs.declared.line_fault.LineFault.{LineFault}
 use Rattle.lls_prooflog.specs.declared.step_fault.StepFault.{StepFault}
 use Rattle.lls_prooflog.specs.declared.step.Step.{Step}
 use Rattle.lls_prooflog.specs.declared.step.Step.TheVariants.{Add, Del}
-use Rattle.lls_prooflog.specs.Steps.{Live, numbered, fault_of, after, is_empty_addition}
+use Rattle.lls_prooflog.specs.Steps.{Live, numbered, find_clause, fault_of, after, is_empty_addition}
 use Rattle.lls_lrat.specs.declared.refusal.Refusal.{Refusal}
 use Rattle.lls_lrat.specs.declared.refusal.Refusal.TheVariants as refusals
 use Rattle.lls_lrat.specs.declared.error.CheckError.{CheckError}
@@ -14,6 +14,7 @@ use Rattle.lls_lrat.specs.Verdict.{Verdict, State, start, after_reading, closing
 use Rattle.lls_trim.specs.declared.recorder.Recorder.{Recorder}
 use Rattle.lls_trim.specs.declared.source.Source.{Source}
 use Rattle.lls_trim.specs.declared.source.Source.TheVariants.{Given}
+use Rattle.lls_trim.specs.Numbers.{IsNumbered}
 use Rattle.lls_trim.specs.Buffers.{names_in}
 use Rattle.lls_trim.specs.Placed.{placed_from}
 use Rattle.lls_trim.specs.Inferences.{Inference, Before, with_name, inference_at, inferences_from, inferences_of}
@@ -30,6 +31,10 @@ recording_of r = record { live = r.checker.live; names = names_in r.names; infer
 
 abbrev pub begun : Cnf → Recording
 begun formula = record { live = numbered formula.clauses; names = Given; inferences = []; done = false }
+
+-- what the ids of live clauses name has a number
+abbrev pub AreNumbered : Live → (ℕ → Source) → Type 0
+AreNumbered live names = (q : ℕ) (clause : Clause) → find_clause live q ≡ Some clause → IsNumbered (names q)
 
 abbrev pub before : Recording → Before
 before r = record { live = r.live; names = r.names; count = length r.inferences }

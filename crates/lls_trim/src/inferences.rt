@@ -1,28 +1,28 @@
 // The additions of a proof, each with what it comes from.
-ghost use Rattle.std.specs.Prelude.{◌≡◌, ◌<◌, ◌≤◌, ◌+◌, ◌++◌, ◌∷◌, [], length, slice_get, Some, IfOk, OnOk, OnErr};
-ghost use Rattle.std.specs.List.{between};
-ghost use Rattle.std.specs.Option.{option_copied, option_map, ForSome};
-ghost use Rattle.lls_trim.specs.Buffers.{IsSpan, IsEntry, FillsBy, inference_in, inference_of_ref};
+ghost use Rattle.std.specs.Prelude.{◌≡◌, ◌<◌, ◌≤◌, ◌++◌, ◌∷◌, [], length, slice_get, Some, OnOk, OnErr};
+ghost use Rattle.std.specs.Option.{option_copied, unwrap_or};
+ghost use Rattle.lls_trim.specs.Buffers.{AreEnds, IsEntry, none_yet, ends_before, inference_in, inferences_in, inference_of_ref};
 
-use crate::source::Source;
+use crate::number::Number;
 use lls_base::Memory;
+use lls_cnf::Formula;
 use lls_lit::Lit;
 use std::alloc::Global;
 use std::marker::Model;
 
-// A piece of a buffer: the items from a place to before another.
+// Where the literals and the sources of an addition end in the buffers. They begin where those of the one before end.
 #[derive(Clone, Copy, Debug)]
-struct Span {
-    from: usize,
-    to: usize,
+struct Ends {
+    lits: usize,
+    sources: usize,
 }
 
-// An addition's line, and where its literals and sources stand.
+// What is kept of an addition beside its literals and sources.
 #[derive(Clone, Copy, Debug)]
 struct Entry {
     line: u64,
-    clause: Span,
-    by: Option<Span>,
+    is_by_propagation: bool,
+    ends: Ends,
 }
 
 /// An addition, lent.
@@ -30,7 +30,7 @@ struct Entry {
 pub(crate) struct InferenceRef<'i> {
     pub(crate) line: u64,
     pub(crate) clause: &'i [Lit],
-    pub(crate) by: Option<&'i [Source]>,
+    pub(crate) by: Option<&'i [Number]>,
 }
 
 /// Additions with their lines, and with what they come from by unit propagation.
@@ -38,24 +38,24 @@ pub(crate) struct InferenceRef<'i> {
 pub(crate) struct Inferences {
     entries: Vec<Entry>,
     lits: Vec<Lit>,
-    sources: Vec<Source>,
+    sources: Vec<Number>,
 }
 
 impl Model for Inferences {
     ghost use Rattle.std.specs.Prelude.{List, length};
     ghost use Rattle.lls_trim.specs.Inferences.{Inference};
-    ghost use Rattle.lls_trim.specs.Buffers.{AreFilled, inferences_in};
+    ghost use Rattle.lls_trim.specs.Buffers.{AreFilled, none_yet, inferences_in};
 
     ghost Value = { List Inference };
 
-    ghost view = { λ i. inferences_in i.lits.items i.sources.items i.entries.items };
+    ghost view = { λ i. inferences_in i.lits.items i.sources.items none_yet i.entries.items };
 
     ghost invariant = { λ i. AreFilled (length i.lits.items) (length i.sources.items) i.entries.items };
 }
 
 impl Inferences {
-    /// The greatest number of additions. One more is answered `Memory`.
-    pub(crate) const MOST: usize = 4_000_000_000;
+    /// The greatest number of additions, so that each has a `Number`. One more is answered `Memory`.
+    pub(crate) const MOST: usize = u32::MAX as usize - 1 - Formula::MOST_CLAUSES;
 
     pub(crate) fn new(alloc: Global) -> Inferences
         ensures { result ≡ [] }
@@ -79,16 +79,23 @@ impl Inferences {
         &mut self,
         line: u64,
         clause: &[Lit],
-        by: Option<&[Source]>,
+        by: Option<&[Number]>,
     ) -> Result<(), Memory>
         ensures { OnOk result (self.new ≡ self.old ++ record { line = line; clause = clause.now; by = option_copied by.entry } ∷ []) }
     {
         if self.entries.len() >= Self::MOST {
             return Err(Memory);
         }
-        let clause = filled(&mut self.lits, clause)?;
-        let by = filled_by(&mut self.sources, by)?;
-        self.entries.push(Entry { line, clause, by })?;
+        self.entries.reserve(1)?;
+        fill(&mut self.lits, &mut self.sources, clause, listed(by))?;
+        self.entries.push_reserved(Entry {
+            line,
+            is_by_propagation: by.is_some(),
+            ends: Ends {
+                lits: self.lits.len(),
+                sources: self.sources.len(),
+            },
+        });
         Ok(())
     }
 
@@ -97,63 +104,84 @@ impl Inferences {
         requires { k < length self.now }
         ensures { slice_get self.now k ≡ Some (inference_of_ref result) }
     {
-        cut(&self.entries[k], &self.lits, &self.sources)
+        piece(&self.entries, k, &self.lits, &self.sources)
     }
 }
 
-// Puts items at the end, and says where they stand.
-fn filled<T: Copy>(items: &mut Vec<T>, more: &[T]) -> Result<Span, Memory>
-    ensures items { OnOk result (items.new.items ≡ items.old.items ++ more.now) }
-    ensures span { IfOk result (λ span. span ≡ record {
-      from = length items.old.items;
-      to = length items.old.items + length more.now;
-    }) }
-    ensures err { OnErr result (items.new.items ≡ items.old.items) }
+// The sources, or none where the addition isn't by unit propagation.
+fn listed<'s>(by: Option<&'s [Number]>) -> &'s [Number]
+    ensures { result.now ≡ unwrap_or (option_copied by.entry) [] }
 {
-    let from = items.len();
-    items.extend_from_slice(more)?;
-    Ok(Span {
-        from,
-        to: items.len(),
-    })
-}
-
-// The same where there may be none.
-fn filled_by(items: &mut Vec<Source>, more: Option<&[Source]>) -> Result<Option<Span>, Memory>
-    ensures fills { IfOk result (FillsBy items.old.items items.new.items (option_copied more.entry)) }
-    ensures err { OnErr result (items.new.items ≡ items.old.items) }
-{
-    match more {
-        Some(more) => Ok(Some(filled(items, more)?)),
-        None => Ok(None),
+    match by {
+        Some(sources) => sources,
+        None => &[],
     }
 }
 
-// The addition of an entry, cut from the buffers.
-fn cut<'i>(entry: &Entry, lits: &'i [Lit], sources: &'i [Source]) -> InferenceRef<'i>
-    requires { IsEntry (length lits.now) (length sources.now) entry.now }
-    ensures { inference_of_ref result ≡ inference_in lits.now sources.now entry.now }
+// Puts literals and sources at the ends of the buffers. After `Memory` both have the items that they had.
+fn fill(
+    lits: &mut Vec<Lit>,
+    sources: &mut Vec<Number>,
+    clause: &[Lit],
+    by: &[Number],
+) -> Result<(), Memory>
+    ensures lits { OnOk result (lits.new.items ≡ lits.old.items ++ clause.now) }
+    ensures sources { OnOk result (sources.new.items ≡ sources.old.items ++ by.now) }
+    ensures err_lits { OnErr result (lits.new.items ≡ lits.old.items) }
+    ensures err_sources { OnErr result (sources.new.items ≡ sources.old.items) }
 {
+    let from = lits.len();
+    lits.extend_from_slice(clause)?;
+    if sources.extend_from_slice(by).is_err() {
+        lits.truncate(from);
+        return Err(Memory);
+    }
+    Ok(())
+}
+
+// Where the literals and the sources of the addition of that number begin.
+fn start(entries: &[Entry], k: usize) -> Ends
+    requires { k ≤ length entries.now }
+    ensures { result ≡ ends_before none_yet entries.now k }
+{
+    if k == 0 {
+        Ends {
+            lits: 0,
+            sources: 0,
+        }
+    } else {
+        entries[k - 1].ends
+    }
+}
+
+// The addition of that number, where the entries cut the buffers.
+fn piece<'i>(
+    entries: &[Entry],
+    k: usize,
+    lits: &'i [Lit],
+    sources: &'i [Number],
+) -> InferenceRef<'i>
+    requires ends { AreEnds none_yet entries.now (length lits.now) (length sources.now) }
+    requires place { k < length entries.now }
+    ensures { slice_get (inferences_in lits.now sources.now none_yet entries.now) k ≡ Some (inference_of_ref result) }
+{
+    cut(&entries[k], start(entries, k), lits, sources)
+}
+
+// The addition of an entry, cut from the buffers from there on.
+fn cut<'i>(entry: &Entry, from: Ends, lits: &'i [Lit], sources: &'i [Number]) -> InferenceRef<'i>
+    requires { IsEntry (length lits.now) (length sources.now) from entry.now }
+    ensures { inference_of_ref result ≡ inference_in lits.now sources.now from entry.now }
+{
+    let clause = &lits[from.lits..entry.ends.lits];
+    let by = &sources[from.sources..entry.ends.sources];
     InferenceRef {
         line: entry.line,
-        clause: piece(lits, &entry.clause),
-        by: piece_by(sources, &entry.by),
-    }
-}
-
-fn piece<'i, T>(items: &'i [T], span: &Span) -> &'i [T]
-    requires { IsSpan (length items.now) span.now }
-    ensures { result.now ≡ between span.now.from span.now.to items.now }
-{
-    &items[span.from..span.to]
-}
-
-fn piece_by<'i>(items: &'i [Source], span: &Option<Span>) -> Option<&'i [Source]>
-    requires { ForSome span.now (IsSpan (length items.now)) }
-    ensures { option_copied result ≡ option_map (λ s. between s.from s.to items.now) span.now }
-{
-    match span {
-        Some(span) => Some(piece(items, span)),
-        None => None,
+        clause,
+        by: if entry.is_by_propagation {
+            Some(by)
+        } else {
+            None
+        },
     }
 }

@@ -6,6 +6,7 @@ mod inferences;
 mod log;
 mod marking;
 mod names;
+mod number;
 mod recorder;
 mod renumbering;
 mod source;

@@ -6,6 +6,7 @@ ghost use Rattle.lls_trim.specs.Trimmed.{AreMarked, is_marked};
 ghost use Rattle.lls_trim.specs.Marking.{AreOrdered, IsBelow, names_one};
 
 use crate::inferences::Inferences;
+use crate::number::Number;
 use crate::source::Source;
 use lls_base::Memory;
 use std::alloc::Global;
@@ -39,7 +40,7 @@ fn mark_back(marks: &mut [bool], inferences: &Inferences)
 }
 
 // Marks the additions among these sources.
-fn mark_sources(marks: &mut [bool], by: Option<&[Source]>)
+fn mark_sources(marks: &mut [bool], by: Option<&[Number]>)
     requires { ForSome (option_copied by) (All (IsBelow (length marks.old))) }
     ensures marks { (j : ℕ) → is_marked marks.new j ≡ is_marked marks.old j || names_one j (unwrap_or (option_copied by.entry) []) }
     ensures len { length marks.new ≡ length marks.old }
@@ -49,14 +50,14 @@ fn mark_sources(marks: &mut [bool], by: Option<&[Source]>)
     }
 }
 
-fn mark_all(marks: &mut [bool], sources: &[Source])
+fn mark_all(marks: &mut [bool], sources: &[Number])
     requires { All (IsBelow (length marks.old)) sources.now }
     ensures marks { (j : ℕ) → is_marked marks.new j ≡ is_marked marks.old j || names_one j sources.now }
     ensures len { length marks.new ≡ length marks.old }
 {
     for source in sources {
-        if let Source::Added(k) = source {
-            marks[*k] = true;
+        if let Source::Added(k) = source.source() {
+            marks[k] = true;
         }
     }
 }

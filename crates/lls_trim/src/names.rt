@@ -1,12 +1,14 @@
 // What ids name.
-ghost use Rattle.std.specs.Prelude.{◌≡◌, ◌≤◌, OnOk, take, length};
+ghost use Rattle.std.specs.Prelude.{◌≡◌, ◌≤◌, All, OnOk, take, length};
 ghost use Rattle.lls_lit.specs.Literal.{variable_of};
 ghost use Rattle.lls_cnf.specs.declared.formula.TheConstants.Formula.{MOST_CLAUSES};
 ghost use Rattle.lls_prooflog.specs.Lent.{hints_of};
 ghost use Rattle.lls_trim.specs.declared.inferences.TheConstants.Inferences.{MOST};
 ghost use Rattle.lls_trim.specs.Inferences.{with_name, sources_of};
+ghost use Rattle.lls_trim.specs.Numbers.{IsNumbered};
 ghost use Rattle.lls_trim.specs.Buffers.{names_in};
 
+use crate::number::Number;
 use crate::source::Source;
 use lls_base::Memory;
 use lls_lrat::Places;
@@ -59,14 +61,15 @@ pub(crate) fn list_sources(
     names: &Names,
     hints: HintsRef,
     count: usize,
-    sources: &mut Vec<Source>,
+    sources: &mut Vec<Number>,
 ) -> Result<(), Memory>
-    requires { count ≤ length (hints_of hints) }
+    requires within { count ≤ length (hints_of hints) }
+    requires numbered { All IsNumbered (sources_of (names_in names.now) (take count (hints_of hints))) }
     ensures { OnOk result (sources.new.items ≡ sources_of (names_in names.now) (take count (hints_of hints.entry))) }
 {
     sources.clear();
     for k in 0..count {
-        sources.push(names.get(id_of(hints.get(k))))?;
+        sources.push(Number::of(names.get(id_of(hints.get(k)))))?;
     }
     Ok(())
 }

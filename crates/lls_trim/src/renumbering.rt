@@ -7,6 +7,7 @@ ghost use Rattle.lls_trim.specs.Trimmed.{renumbered};
 ghost use Rattle.lls_trim.specs.Marking.{AreOrdered, AreGivenWithin, IsBelow, IsGivenWithin, hint_by};
 
 use crate::inferences::Inferences;
+use crate::number::Number;
 use crate::source::Source;
 use lls_base::Memory;
 use lls_prooflog::Log;
@@ -43,7 +44,7 @@ pub(crate) fn renumber(
 }
 
 // Makes a list of the new hints for what an addition comes from, where the additions before it have these ids.
-fn list_hints(ids: &[u64], by: Option<&[Source]>, hints: &mut Vec<i64>) -> Result<(), Memory>
+fn list_hints(ids: &[u64], by: Option<&[Number]>, hints: &mut Vec<i64>) -> Result<(), Memory>
     requires ids { All (λ id. id ≤ MOST_ID) ids.now }
     requires before { All (IsBelow (length ids.now)) (unwrap_or (option_copied by) []) }
     requires given { All (IsGivenWithin MOST_CLAUSES) (unwrap_or (option_copied by) []) }
@@ -56,14 +57,14 @@ fn list_hints(ids: &[u64], by: Option<&[Source]>, hints: &mut Vec<i64>) -> Resul
     push_hints(ids, sources, hints)
 }
 
-fn push_hints(ids: &[u64], sources: &[Source], hints: &mut Vec<i64>) -> Result<(), Memory>
+fn push_hints(ids: &[u64], sources: &[Number], hints: &mut Vec<i64>) -> Result<(), Memory>
     requires ids { All (λ id. id ≤ MOST_ID) ids.now }
     requires before { All (IsBelow (length ids.now)) sources.now }
     requires given { All (IsGivenWithin MOST_CLAUSES) sources.now }
     ensures { OnOk result (hints.new.items ≡ hints.old.items ++ map (hint_by ids.now) sources.now) }
 {
     for source in sources {
-        hints.push(new_hint(ids, *source))?;
+        hints.push(new_hint(ids, source.source()))?;
     }
     Ok(())
 }

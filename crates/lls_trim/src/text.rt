@@ -11,7 +11,8 @@ ghost use Rattle.lls_trim.specs.Placed.{steps_of_text, steps_of_log};
 ghost use Rattle.lls_trim.specs.Inferences.{inferences_of};
 ghost use Rattle.lls_trim.specs.Needed.{IsFirstRat, NeedsNoRat};
 ghost use Rattle.lls_trim.specs.Trimmed.{IsTrimmed};
-ghost use Rattle.lls_trim.specs.Recording.{recording_of, reading_recorded};
+ghost use Rattle.lls_trim.specs.Buffers.{names_in};
+ghost use Rattle.lls_trim.specs.Recording.{AreNumbered, recording_of, reading_recorded};
 ghost use Rattle.lls_trim.specs.Kept.{IsSublist, clauses_added, AreUsed, EndsEmpty};
 
 use crate::inferences::Inferences;
@@ -90,10 +91,12 @@ fn take_line(
     line: &[u8],
 ) -> Result<Progress, CheckError>
     requires going { recorder.old.checker.done ≡ false }
+    requires numbered { AreNumbered recorder.old.checker.live (names_in recorder.old.names) }
     requires room { count + 1 < 2 ^ 64 }
     ensures recorded { Gives CheckError.Memory (λ _. recording_of recorder.new) result
         (reading_recorded (count + 1) (recording_of recorder.old) (step_of_line line.now)) }
     ensures progress { IfOk result (λ p. p ≡ progress_of recorder.new.checker.done) }
+    ensures numbered { OnOk result (AreNumbered recorder.new.checker.live (names_in recorder.new.names)) }
 {
     let number = count + 1;
     match reader.read(line) {

@@ -11,7 +11,8 @@ use Rattle.lls_trim.proofs.text.record_text.Goals as goal
 pub loop-line-init : goal.loop-line-init
 loop-line-init c = record {
   room = rw c.new-lines.ensures (omega (arith, length-lines_of c.args.text.now));
-  goes_on = rw c.new-lines.ensures (goes_on-start c.args.formula.now (read_lines c.args.text.now) (recording_of c.in_ok-recorder.recorder) c.in_ok-recorder.ensures);
+  goes_on = rw c.new-lines.ensures (goes_on-start c.args.formula.now (read_lines c.args.text.now) (recording_of c.in_ok-recorder.recorder) c.in_ok-recorder.ensures.begun);
+  numbered = c.in_ok-recorder.ensures.numbered;
 }
 
 pub loop-line-preserved : goal.loop-line-preserved
@@ -22,6 +23,7 @@ loop-line-preserved c =
     let g = subst (λ (ls : List (List ℕ)). GoesOn c.args.formula.now readings (recording_of c.loop-line.recorder) c.loop-line.count (map step_of_line ls)) lines c.loop-line.invariant.goes_on in
     record {
       room = omega (arith, c.loop-line.invariant.room, ap length lines);
+      numbered = c.in-Ok-Going.ensures.numbered;
       goes_on = goes_on c.args.formula.now readings (recording_of c.loop-line.recorder) c.loop-line.count rest (step_of_line c.in-Some.line.now) (recording_of c.take_line.new.recorder) g c.in-Ok-Going.ensures.recorded
           (is_going c.take_line.new.recorder.checker.done (sym c.in-Ok-Going.field-0-is ∙ c.in-Ok-Going.ensures.progress));
     }

@@ -1,45 +1,43 @@
-use Rattle.std.proofs.Common.{◌≡◌, ◌+◌, ◌∷◌, ◌++◌, [], List, length, refl, ap, ◌∙◌, arith, length-append}
-use Rattle.std.specs.Option.{option_copied}
-use Rattle.lls_prooflog.proofs.Pieces.{begins_same, begins_more, last_piece}
-use Rattle.lls_trim.specs.declared.inferences.Entry.{Entry}
+use Rattle.std.proofs.Common.{◌≡◌, ◌+◌, ◌∷◌, ◌++◌, [], List, length, sym, ap, ◌∙◌, arith, length-append}
+use Rattle.std.specs.Prelude.{ℤ, is_some}
+use Rattle.std.specs.Option.{option_copied, unwrap_or}
+use Rattle.lls_lrat.proofs.Checks.{is_some-copied}
+use Rattle.lls_trim.specs.declared.source.Source.{Source}
 use Rattle.lls_trim.specs.Inferences.{Inference}
-use Rattle.lls_trim.specs.Buffers.{AreFilled, IsEntry, inference_in}
-use Rattle.lls_trim.proofs.Buffers.{fills, entries_more, entries_push, filled_push}
+use Rattle.lls_trim.specs.Buffers.{AreFilled, none_yet}
+use Rattle.lls_trim.proofs.Buffers.{entry_behind, inferences_in-push, AreEnds-push}
 use Rattle.lls_trim.proofs.inferences.Inferences.push.Goals as goal
+use Rattle.lls_trim.proofs.inferences.Inferences.push.Goals.{After-push_reserved}
 
-pub invariant_of-self : goal.invariant_of-self
-invariant_of-self c = rw c.in_err-clause.ensures.err c.self.invariant
+abbrev pushed : (c : After-push_reserved) → Inference
+pushed c = record { line = c.args.line; clause = c.args.clause.now; by = option_copied c.args.by }
 
-pub invariant_of-self-in_err-by : goal.invariant_of-self-in_err-by
-invariant_of-self-in_err-by c =
-    let m = c.self.inside in
-    let filled : AreFilled (length (m.lits.items ++ c.args.clause.now)) (length m.sources.items) m.entries.items = record {
-      each = entries_more m.lits.items (m.lits.items ++ c.args.clause.now) m.sources.items m.sources.items (begins_more m.lits.items c.args.clause.now) (begins_same m.sources.items) m.entries.items c.self.invariant.each;
-      few = c.self.invariant.few;
-    } in
-    rw (c.in_ok-clause.ensures.items, c.in_err-by.ensures.err) filled
+-- what the buffers have then
+sources : (c : After-push_reserved) → c.fill.new.sources.items ≡ c.self.inside.sources.items ++ unwrap_or (pushed c).by []
+sources c = c.in_ok-fill.ensures.sources ∙ ap (λ (ss : List Source). c.self.inside.sources.items ++ ss) c.listed.ensures
+
+entries : (c : After-push_reserved) → c.push_reserved.new.self.items ≡ c.self.inside.entries.items ++ entry_behind c.self.inside.lits.items c.self.inside.sources.items (pushed c) ∷ []
+entries c = c.push_reserved.ensures.items ∙ (λ t. c.in_ok-reserve.ensures.items t ++ record { line = c.args.line; is_by_propagation = is_by t; ends = record { lits = lits_end t; sources = sources_end t } } ∷ []) where
+  is_by : c.is_some.result ≡ is_some (pushed c).by
+  is_by = c.is_some.ensures ∙ sym (is_some-copied c.args.by)
+
+  lits_end : c.len-2.result ≡ length c.self.inside.lits.items + length c.args.clause.now
+  lits_end = omega (arith, c.len-2.ensures, c.fill.new.lits.ok.0, ap (λ (ls : List ℤ). length ls) c.in_ok-fill.ensures.lits, length-append c.self.inside.lits.items c.args.clause.now)
+
+  sources_end : c.len-3.result ≡ length c.self.inside.sources.items + length (unwrap_or (pushed c).by [])
+  sources_end = omega (arith, c.len-3.ensures, c.fill.new.sources.ok.0, ap (λ (ss : List Source). length ss) (sources c), length-append c.self.inside.sources.items (unwrap_or (pushed c).by []))
 
 pub invariant_of-self-2 : goal.invariant_of-self-2
 invariant_of-self-2 c =
     let m = c.self.inside in
-    let f = fills m.sources.items c.filled_by.new.items.items (option_copied c.args.by) c.in_ok-by.by c.in_ok-by.ensures.fills in
-    let entry : Entry = record { line = c.args.line; clause = record { from = length m.lits.items; to = length m.lits.items + length c.args.clause.now }; by = c.in_ok-by.by } in
-    let placed : IsEntry (length (m.lits.items ++ c.args.clause.now)) (length c.filled_by.new.items.items) entry = record {
-      clause = record { order = omega arith; within = omega (arith, length-append m.lits.items c.args.clause.now) };
-      by = f.within;
+    let filled : AreFilled (length (m.lits.items ++ c.args.clause.now)) (length (m.sources.items ++ unwrap_or (pushed c).by [])) (m.entries.items ++ entry_behind m.lits.items m.sources.items (pushed c) ∷ []) = record {
+      ends = AreEnds-push m.lits.items m.sources.items (pushed c) none_yet m.entries.items c.self.invariant.ends;
+      few = omega (arith, length-append m.entries.items (entry_behind m.lits.items m.sources.items (pushed c) ∷ []), c.len.ensures, m.entries.ok.0, c.if-len-ge-MOST.false);
     } in
-    let filled : AreFilled (length (m.lits.items ++ c.args.clause.now)) (length c.filled_by.new.items.items) (m.entries.items ++ entry ∷ []) = record {
-      each = filled_push m.lits.items (m.lits.items ++ c.args.clause.now) m.sources.items c.filled_by.new.items.items (begins_more m.lits.items c.args.clause.now) f.begins m.entries.items entry c.self.invariant.each placed;
-      few = omega (arith, length-append m.entries.items (entry ∷ []), c.len.ensures, c.if-len-ge-MOST.false);
-    } in
-    rw (c.in_ok-push.ensures.items, c.in_ok-clause.ensures.span, c.in_ok-clause.ensures.items) filled
+    rw (entries c, c.in_ok-fill.ensures.lits, sources c) filled
 
 pub returns : goal.returns
 returns c =
     let m = c.self.inside in
-    let f = fills m.sources.items c.filled_by.new.items.items (option_copied c.args.by) c.in_ok-by.by c.in_ok-by.ensures.fills in
-    let entry : Entry = record { line = c.args.line; clause = record { from = length m.lits.items; to = length m.lits.items + length c.args.clause.now }; by = c.in_ok-by.by } in
-    let i : Inference = record { line = c.args.line; clause = c.args.clause.now; by = option_copied c.args.by } in
-    let is : inference_in (m.lits.items ++ c.args.clause.now) c.filled_by.new.items.items entry ≡ i = rw (last_piece m.lits.items c.args.clause.now, f.piece) refl in
-    rw (c.in_ok-push.ensures.items, c.in_ok-clause.ensures.span, c.in_ok-clause.ensures.items)
-    (entries_push m.lits.items (m.lits.items ++ c.args.clause.now) m.sources.items c.filled_by.new.items.items (begins_more m.lits.items c.args.clause.now) f.begins m.entries.items entry i c.self.invariant.each is ∙ ap (λ (is : List Inference). is ++ i ∷ []) c.self.view_is)
+    rw (entries c, c.in_ok-fill.ensures.lits, sources c)
+    (inferences_in-push m.lits.items m.sources.items (pushed c) none_yet m.entries.items c.self.invariant.ends ∙ ap (λ (is : List Inference). is ++ pushed c ∷ []) c.self.view_is)
