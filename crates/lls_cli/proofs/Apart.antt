@@ -16,7 +16,7 @@ use Rattle.lls_words.specs.Values.{seed_in, size_in}
 use Rattle.lls_words.specs.Job.{checked_ends, defaults, job_of, job_of_command, job_with, names_apart, rule_at, settled, value_or}
 
 abbrev pub IsApart : Job → Type 0
-IsApart (jobs.Search search_file proof rule demands form budget keep_all rle) = search_file ≢ proof
+IsApart (jobs.Search search_file proof rule demands form budget keep_all rle crew) = search_file ≢ proof
 IsApart (jobs.Sat formula proof budget keep_all) = formula ≢ proof
 IsApart (jobs.Make seed size search_file proof) = search_file ≢ proof
 IsApart (jobs.Least search_file proof rule demands form budget keep_all rle) = search_file ≢ proof

@@ -52,7 +52,7 @@ asked_outputs (jobs.Judge one two rule demands rle) files question status asked 
     let second = and_then-both (and_then asked.second (pattern_in rle first.0)) (λ history. Ok (questions.Judge first.0 history)) question first.1 in
     let is : question ≡ questions.Judge first.0 second.0 = cc in
     ap (λ q. outputs_asked q status) is
-asked_outputs (jobs.Search one two rule demands form budget keep_all rle) files question status asked =
+asked_outputs (jobs.Search one two rule demands form budget keep_all rle crew) files question status asked =
     let effort = effort_of budget keep_all two in
     let first = and_then-both (and_then asked.input (problem_in rule demands)) (λ problem. Ok (questions.Search (asked_with form problem) effort rle)) question asked.made in
     let is : question ≡ questions.Search (asked_with form first.0) effort rle = cc in

@@ -16,6 +16,7 @@ use Rattle.lls_problem.specs.Solution.{IsAbsent}
 use Rattle.lls_least.specs.Fewer.{fewer, live_cells}
 use Rattle.lls_least.proofs.Solutions.{solution-fewer, live_cells-fewer}
 use Rattle.lls_words.specs.declared.error.WordsError.{WordsError}
+use Rattle.lls_words.specs.declared.crew_plan.CrewPlan.{CrewPlan}
 use Rattle.lls_words.specs.declared.job.Job.{Job}
 use Rattle.lls_words.specs.declared.job.Job.TheVariants as jobs
 use Rattle.lls_cli.specs.Questions.{Question}
@@ -90,12 +91,12 @@ roomy-problem input rule demands problem is = narrowed input (problem_in rule de
 asked_again : (first second : Question) (answer : Result Question Fault) → answer ≡ Ok first → answer ≡ Ok second → first ≡ second
 asked_again first second answer one two = let same : Ok first ≡ Ok second = sym one ∙ two in cc
 
-search_publishes : (search_file proof : List ℕ) (rule : List Bool) (demands : Demands) (form : Form) (budget : ℕ) (keep_all rle : Bool) (before after : Files) → search_file ≢ proof
-    → OfQuestion NoneHolds (Ok (jobs.Search search_file proof rule demands form budget keep_all rle)) (Some before)
-    → OfQuestion (LeavesProof (Some after)) (Ok (jobs.Search search_file proof rule demands form budget keep_all rle)) (Some before)
+search_publishes : (search_file proof : List ℕ) (rule : List Bool) (demands : Demands) (form : Form) (budget : ℕ) (keep_all rle : Bool) (crew : Option CrewPlan) (before after : Files) → search_file ≢ proof
+    → OfQuestion NoneHolds (Ok (jobs.Search search_file proof rule demands form budget keep_all rle crew)) (Some before)
+    → OfQuestion (LeavesProof (Some after)) (Ok (jobs.Search search_file proof rule demands form budget keep_all rle crew)) (Some before)
     → ChangesOnly (proof ∷ []) (Some before) (Some after)
-    → Publishes (Ok (jobs.Search search_file proof rule demands form budget keep_all rle)) (Some before) (Some after)
-search_publishes search_file proof rule demands form budget keep_all rle before after apart nowhere leaves only =
+    → Publishes (Ok (jobs.Search search_file proof rule demands form budget keep_all rle crew)) (Some before) (Some after)
+search_publishes search_file proof rule demands form budget keep_all rle crew before after apart nowhere leaves only =
     let effort = effort_of budget keep_all proof in
     let read = both (and_then (input_of before search_file search_limit) (problem_in rule demands)) (λ problem. Ok (questions.Search (asked_with form problem) effort rle)) leaves.0 leaves.1 in
     let about = asked_with form read.first in
@@ -143,10 +144,10 @@ loose_publishes search_file proof low high demands form budget keep_all rle befo
 
 pub publishes : (job : Result Job WordsError) (before after : Option Files) (status : Status) → status ≡ statuses.NoPattern → AreApart job → OfQuestion NoneHolds job before → OfQuestion (LeavesProof after) job before
     → ChangesOnly (outputs_of_words job status) before after → Publishes job before after
-publishes (Ok (jobs.Search one two rule demands form budget keep_all rle)) (Some before) (Some after) status is apart nowhere leaves only =
-    search_publishes one two rule demands form budget keep_all rle before after apart nowhere leaves (subst (λ s. ChangesOnly (log_at s two) (Some before) (Some after)) is only)
-publishes (Ok (jobs.Search one two rule demands form budget keep_all rle)) (Some before) None status is apart nowhere leaves only = tt
-publishes (Ok (jobs.Search one two rule demands form budget keep_all rle)) None after status is apart nowhere leaves only = tt
+publishes (Ok (jobs.Search one two rule demands form budget keep_all rle crew)) (Some before) (Some after) status is apart nowhere leaves only =
+    search_publishes one two rule demands form budget keep_all rle crew before after apart nowhere leaves (subst (λ s. ChangesOnly (log_at s two) (Some before) (Some after)) is only)
+publishes (Ok (jobs.Search one two rule demands form budget keep_all rle crew)) (Some before) None status is apart nowhere leaves only = tt
+publishes (Ok (jobs.Search one two rule demands form budget keep_all rle crew)) None after status is apart nowhere leaves only = tt
 publishes (Ok (jobs.Least one two rule demands form budget keep_all rle)) (Some before) (Some after) status is apart nowhere leaves only =
     least_publishes one two rule demands form budget keep_all rle before after apart nowhere leaves (subst (λ s. ChangesOnly (certificate_at s two) (Some before) (Some after)) is only)
 publishes (Ok (jobs.Least one two rule demands form budget keep_all rle)) (Some before) None status is apart nowhere leaves only = tt
@@ -222,7 +223,7 @@ publishes_fewest (Ok (jobs.Least one two rule demands form budget keep_all rle))
 publishes_fewest (Ok (jobs.Least one two rule demands form budget keep_all rle)) (Some before) None status is apart leaves only = tt
 publishes_fewest (Ok (jobs.Least one two rule demands form budget keep_all rle)) None after status is apart leaves only = tt
 publishes_fewest (Ok (jobs.Loose one two low high demands form budget keep_all rle)) before after status is apart leaves only = tt
-publishes_fewest (Ok (jobs.Search one two rule demands form budget keep_all rle)) before after status is apart leaves only = tt
+publishes_fewest (Ok (jobs.Search one two rule demands form budget keep_all rle crew)) before after status is apart leaves only = tt
 publishes_fewest (Ok (jobs.Sat one two budget keep_all)) before after status is apart leaves only = tt
 publishes_fewest (Ok (jobs.Check one two rule demands form)) before after status is apart leaves only = tt
 publishes_fewest (Ok (jobs.Judge one two rule demands rle)) before after status is apart leaves only = tt

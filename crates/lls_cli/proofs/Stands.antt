@@ -44,7 +44,7 @@ made_apart job files seed size name effort apart asked = by_job job apart asked 
       apart (sym names ∙ (equal ∙ proofs))
   by_job (jobs.Check one two rule demands form) apart asked same = absurd cc
   by_job (jobs.Judge one two rule demands rle) apart asked same = absurd cc
-  by_job (jobs.Search one two rule demands form budget keep_all rle) apart asked same = absurd cc
+  by_job (jobs.Search one two rule demands form budget keep_all rle crew) apart asked same = absurd cc
   by_job (jobs.Sat one two budget keep_all) apart asked same = absurd cc
   by_job (jobs.Cnf one rule demands form) apart asked same = absurd cc
   by_job (jobs.Lrat one two) apart asked same = absurd cc

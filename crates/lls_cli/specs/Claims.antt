@@ -103,7 +103,7 @@ search_file_at status name = []
 
 -- the files that a job may have changed, by the status at which it ends
 abbrev pub outputs_of : Job → Status → List (List ℕ)
-outputs_of (jobs.Search search_file proof rule demands form budget keep_all rle) status = log_at status proof
+outputs_of (jobs.Search search_file proof rule demands form budget keep_all rle crew) status = log_at status proof
 outputs_of (jobs.Sat formula proof budget keep_all) status = log_at status proof
 outputs_of (jobs.Make seed size search_file proof) status = search_file_at status search_file ++ log_at status proof
 outputs_of (jobs.Least search_file proof rule demands form budget keep_all rle) status = certificate_at status proof
@@ -196,7 +196,7 @@ pub record IsPublished (job : Job) (question : List ℕ → Question) (proof : L
 
 -- after a search that found nothing, the check with the same words for the problem says yes
 abbrev pub Publishes : Result Job WordsError → Option Files → Option Files → Type 0
-Publishes (Ok (jobs.Search search_file proof rule demands form budget keep_all rle)) (Some before) (Some after) =
+Publishes (Ok (jobs.Search search_file proof rule demands form budget keep_all rle crew)) (Some before) (Some after) =
     (asked : Asked) × IsPublished (jobs.Check search_file proof rule demands form) (questions.Check asked) proof after
 Publishes (Ok (jobs.Least search_file proof rule demands form budget keep_all rle)) (Some before) (Some after) =
     (asked : Asked) × IsPublished (jobs.Check search_file proof rule demands form) (questions.Check asked) proof after

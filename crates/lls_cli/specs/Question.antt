@@ -193,7 +193,7 @@ pub data Asking : Type 0 where
 abbrev pub asking_of : Job → Asking
 asking_of (jobs.Check search_file proof rule demands form) = of_two search_file search_limit proof proof_limit (check_question rule demands form)
 asking_of (jobs.Judge search_file pattern rule demands rle) = of_two search_file search_limit pattern search_limit (judge_question rule demands rle)
-asking_of (jobs.Search search_file proof rule demands form budget keep_all rle) =
+asking_of (jobs.Search search_file proof rule demands form budget keep_all rle crew) =
     of_one search_file search_limit (search_question rule demands form (effort_of budget keep_all proof) rle)
 asking_of (jobs.Sat formula proof budget keep_all) = of_one formula formula_limit (decide_question (effort_of budget keep_all proof))
 asking_of (jobs.Cnf search_file rule demands form) = of_one search_file search_limit (encode_question rule demands form)

@@ -1,8 +1,9 @@
 // The program: from words to a status.
 ghost use Rattle.std.specs.Prelude.{◌≡◌, ◌≤◌, ◌⊎◌, IsErr, Ok};
+ghost use Rattle.std.specs.Option.{ForSome};
 ghost use Rattle.lls_hensel.specs.Isotropy.{IsIsotropic};
 ghost use Rattle.lls_solver.specs.declared.solving.TheConstants.{MOST_BUDGET};
-ghost use Rattle.lls_words.specs.Job.{AreOpen, AreWithinLimits, KeepsLimits};
+ghost use Rattle.lls_words.specs.Job.{AreOpen, AreWithinLimits, IsCrew, KeepsLimits};
 ghost use Rattle.lls_words.specs.declared.job.Job as jobs;
 ghost use Rattle.lls_words.specs.declared.job.Job.TheVariants as all_jobs;
 ghost use Rattle.lls_cli.specs.Answer.{HasShortBudget, NoHolds, NoneHolds, SomeHolds, YesHolds};
@@ -34,7 +35,7 @@ use crate::status::Status;
 use lls_base::{Name, Shelf, Sink};
 use lls_problem::{Demands, Form};
 use lls_rule::Rule;
-use lls_words::{DEFAULT_BUDGET, Job, read_job};
+use lls_words::{CrewPlan, DEFAULT_BUDGET, Job, read_job};
 use std::alloc::Global;
 
 // Gives what the inputs of a job came to: the answer, or why there is none.
@@ -63,17 +64,19 @@ fn run_search<S: Shelf, O: Sink, E: Sink>(
     form: Form,
     effort: Effort,
     rle: bool,
+    crew: Option<CrewPlan>,
     outside: &mut Outside<S, O, E>,
 ) -> Status
     requires demands { AreWithinLimits demands }
     requires isotropic { IsIsotropic rule }
     requires budget { effort.budget ≤ MOST_BUDGET }
-    ensures end { (end : End) × IsEnd (Ok (all_jobs.Search search.now effort.proof rule demands form effort.budget effort.keep_all rle))
+    requires crew { ForSome crew IsCrew }
+    ensures end { (end : End) × IsEnd (Ok (all_jobs.Search search.now effort.proof rule demands form effort.budget effort.keep_all rle crew))
         (moment_of S.Shelf O.Sink E.Sink outside.old) (moment_of S.Shelf O.Sink E.Sink outside.new) result end }
     ensures same { BorrowsSame outside.old outside.new }
 {
     match read_problem(alloc, outside.shelf, search, rule, demands) {
-        Ok(problem) => give_search(alloc, &Asked { problem, form }, effort, rle, outside),
+        Ok(problem) => give_search(alloc, &Asked { problem, form }, effort, rle, crew, outside),
         Err(fault) => refuse(alloc, fault, outside.err),
     }
 }
@@ -207,13 +210,16 @@ fn run_job<S: Shelf, O: Sink, E: Sink>(
             budget,
             keep_all,
             rle,
+            crew,
         } => {
             let effort = Effort {
                 budget,
                 keep_all,
                 proof,
             };
-            run_search(alloc, &search, rule, demands, form, effort, rle, outside)
+            run_search(
+                alloc, &search, rule, demands, form, effort, rle, crew, outside,
+            )
         }
         Job::Sat {
             formula,

@@ -1,7 +1,10 @@
 // The search for a solution of a problem.
-ghost use Rattle.std.specs.Prelude.{◌≡◌, ◌≤◌, IfOk};
+ghost use Rattle.std.specs.Prelude.{◌≡◌, ◌≤◌, [], IfOk};
+ghost use Rattle.std.specs.Option.{ForSome};
 ghost use Rattle.lls_hensel.specs.Isotropy.{IsIsotropic};
+ghost use Rattle.lls_solver.specs.Searching.{IsOutcome};
 ghost use Rattle.lls_solver.specs.declared.solving.TheConstants.{MOST_BUDGET};
+ghost use Rattle.lls_words.specs.Job.{IsCrew};
 ghost use Rattle.lls_cli.specs.Questions as questions;
 ghost use Rattle.lls_cli.specs.Answer.{IsAnswer};
 ghost use Rattle.lls_cli.specs.Ends.{End, IsEndOf};
@@ -19,10 +22,39 @@ use crate::status::Status;
 use crate::text::Text;
 use lls_base::{Memory, Shelf, Sink};
 use lls_cnf::Formula;
+use lls_crew::crew;
 use lls_encode::{decode, encode};
 use lls_prooflog::Log;
 use lls_solver::{Outcome, solve};
+use lls_words::CrewPlan;
 use std::alloc::Global;
+
+// Searches for an assignment that satisfies a formula, by one searcher or by several.
+fn solve_by(
+    alloc: Global,
+    formula: &Formula,
+    effort: &Effort,
+    plan: Option<CrewPlan>,
+    log: &mut Log,
+) -> Result<Outcome, Memory>
+    requires none { log.old.steps ≡ [] }
+    requires budget { effort.now.budget ≤ MOST_BUDGET }
+    requires crew { ForSome plan IsCrew }
+    ensures { IsOutcome formula.now effort.now.budget effort.now.keep_all log.new.steps result }
+{
+    match plan {
+        Some(CrewPlan { searchers, seed }) => crew(
+            alloc,
+            formula,
+            searchers,
+            effort.budget,
+            effort.keep_all,
+            seed,
+            log,
+        ),
+        None => solve(alloc, formula, effort.budget, effort.keep_all, log),
+    }
+}
 
 // The answer to the search for a solution of a problem, over the problem's formula of the form.
 fn search<'f>(
@@ -31,9 +63,11 @@ fn search<'f>(
     formula: &'f Formula,
     effort: Effort,
     rle: bool,
+    plan: Option<CrewPlan>,
 ) -> Result<Answer<'f>, Memory>
     requires formula { formula.now ≡ formula_asked asked.now }
     requires budget { effort.budget ≤ MOST_BUDGET }
+    requires crew { ForSome plan IsCrew }
     requires isotropic { IsIsotropic asked.now.problem.rule }
     ensures { IfOk result (IsAnswer (questions.Search asked.now effort rle)) }
 {
@@ -42,7 +76,7 @@ fn search<'f>(
     let _posed = problem.posed();
     let _demands = problem.demands();
     let mut log = Log::new(alloc);
-    match solve(alloc, formula, effort.budget, effort.keep_all, &mut log)? {
+    match solve_by(alloc, formula, &effort, plan, &mut log)? {
         Outcome::Sat(assignment) => {
             let history = decode(alloc, problem, &assignment)?;
             Ok(Answer {
@@ -59,21 +93,23 @@ fn search<'f>(
     }
 }
 
-/// Searches a solution of a problem, and gives what comes of it.
+/// Searches a solution of a problem, by several searchers where there is a plan for them, and gives what comes of it.
 pub fn give_search<S: Shelf, O: Sink, E: Sink>(
     alloc: Global,
     asked: &Asked,
     effort: Effort,
     rle: bool,
+    plan: Option<CrewPlan>,
     outside: &mut Outside<S, O, E>,
 ) -> Status
     requires budget { effort.budget ≤ MOST_BUDGET }
+    requires crew { ForSome plan IsCrew }
     requires isotropic { IsIsotropic asked.now.problem.rule }
     ensures end { (end : End) × IsEndOf (questions.Search asked.now effort rle) (moment_of S.Shelf O.Sink E.Sink outside.old) (moment_of S.Shelf O.Sink E.Sink outside.new) result end }
     ensures same { BorrowsSame outside.old outside.new }
 {
     match encode(alloc, &asked.problem, asked.form) {
-        Ok(formula) => give(search(alloc, asked, &formula, effort, rle), outside),
+        Ok(formula) => give(search(alloc, asked, &formula, effort, rle, plan), outside),
         Err(Memory) => lack(outside.err),
     }
 }

@@ -71,15 +71,22 @@ pattern_options = settings.As ∷ []
 abbrev pub effort_options : List Setting
 effort_options = settings.Budget ∷ settings.Keep ∷ []
 
--- the options of a check besides its rules, and those of a search
+-- how many searchers take turns, and whose turn it is
+abbrev pub crew_options : List Setting
+crew_options = settings.Crew ∷ settings.Turns ∷ []
+
+-- the options of a check besides its rules, those of a search, and those of one by several searchers
 abbrev pub check_options : List Setting
 check_options = formula_options ++ demand_options
 
 abbrev pub search_options : List Setting
 search_options = check_options ++ pattern_options ++ effort_options
 
+abbrev pub crewed_options : List Setting
+crewed_options = search_options ++ crew_options
+
 abbrev pub all_options : List Setting
-all_options = one_rule ++ two_rules ++ search_options
+all_options = one_rule ++ two_rules ++ crewed_options
 
 -- the options that say a command's rule, or the two rules that it is between
 abbrev pub rule_options : Command → List Setting
@@ -99,7 +106,7 @@ rule_options commands.Trim = []
 -- a command's other options
 abbrev pub other_options : Command → List Setting
 other_options commands.Check = check_options
-other_options commands.Search = search_options
+other_options commands.Search = crewed_options
 other_options commands.Judge = demand_options ++ pattern_options
 other_options commands.Cnf = check_options
 other_options commands.Sat = effort_options
@@ -129,6 +136,8 @@ option_name settings.Differ = codes "differ"
 option_name settings.As = codes "as"
 option_name settings.Budget = codes "budget"
 option_name settings.Keep = codes "keep"
+option_name settings.Crew = codes "crew"
+option_name settings.Turns = codes "turns"
 
 -- the option that has the name
 abbrev pub setting_of : List ℕ → Option Setting

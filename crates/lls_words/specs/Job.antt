@@ -1,7 +1,7 @@
 -- The job of a command line, or its first fault.
 use Rattle.std.specs.Prelude.{ℕ, ◌≤◌, Bool, false, List, [], ◌∷◌, length, All, Option, None, Some, Result, Ok, Err, if◌then◌else◌}
 use Rattle.std.specs.Str.{bytes_eq}
-use Rattle.std.specs.Option.{ForSome}
+use Rattle.std.specs.Option.{ForSome, option_map}
 use Rattle.lls_rule.specs.Rule.{table_of, by_counts}
 use Rattle.lls_hensel.specs.declared.read.RuleError.{RuleError}
 use Rattle.lls_hensel.specs.Isotropy.{IsIsotropic}
@@ -19,6 +19,7 @@ use Rattle.lls_words.specs.declared.command.Command.TheVariants as commands
 use Rattle.lls_words.specs.declared.command.Setting.{Setting}
 use Rattle.lls_words.specs.declared.command.Setting.TheVariants as settings
 use Rattle.lls_words.specs.declared.settings.Settings.{Settings}
+use Rattle.lls_words.specs.declared.crew_plan.CrewPlan.{CrewPlan}
 use Rattle.lls_words.specs.declared.job.Job.{Job}
 use Rattle.lls_words.specs.declared.job.Job.TheVariants as jobs
 use Rattle.lls_words.specs.declared.error.WordsError.{WordsError}
@@ -26,7 +27,7 @@ use Rattle.lls_words.specs.declared.error.WordsError.TheVariants.{NoCommand, Unk
 use Rattle.lls_words.specs.Command.{command_of, operand_count}
 use Rattle.lls_base.specs.Results.{and_then}
 use Rattle.lls_words.specs.Scan.{Operand, Given, scan}
-use Rattle.lls_words.specs.Values.{edge_in, period_in, bounds_in, generations_in, budget_in, keep_all_in, rle_in, form_in, seed_in, size_in, most_budget, most_size, default_budget}
+use Rattle.lls_words.specs.Values.{edge_in, period_in, bounds_in, generations_in, budget_in, keep_all_in, rle_in, form_in, seed_in, size_in, searchers_in, most_budget, most_size, most_searchers, default_budget}
 
 -- a rule text at a place
 abbrev pub rule_or : ℕ → Result (List Bool) RuleError → Result (List Bool) WordsError
@@ -66,6 +67,8 @@ setting_value s place text settings.Budget = and_then (value_or place (budget_in
 setting_value s place text settings.Keep = and_then (value_or place (keep_all_in text)) (λ keep_all. Ok (record s { keep_all = keep_all }))
 setting_value s place text settings.As = and_then (value_or place (rle_in text)) (λ rle. Ok (record s { rle = rle }))
 setting_value s place text settings.Formula = and_then (value_or place (form_in text)) (λ form. Ok (record s { form = form }))
+setting_value s place text settings.Crew = and_then (value_or place (searchers_in text)) (λ searchers. Ok (record s { crew = Some searchers }))
+setting_value s place text settings.Turns = and_then (value_or place (seed_in text)) (λ seed. Ok (record s { turns = seed }))
 
 -- the settings with the value of one option
 abbrev pub with_value : Settings → Given → Result Settings WordsError
@@ -81,9 +84,9 @@ abbrev pub life : List Bool
 life = table_of (by_counts 8 12)
 
 -- Life for each rule, under a closed edge, and nothing else demanded; half of the learnt clauses are kept, patterns are
--- rows, and formulas are by cover
+-- rows, and formulas are by cover; there is one searcher, and turns would be drawn from 0
 abbrev pub defaults : Settings
-defaults = record { rule = life; low = life; high = life; demands = edge_alone Framed; budget = default_budget; keep_all = false; rle = false; form = Cover }
+defaults = record { rule = life; low = life; high = life; demands = edge_alone Framed; budget = default_budget; keep_all = false; rle = false; form = Cover; crew = None; turns = 0 }
 
 -- the names of a file and of one that is written later, which have to differ
 abbrev pub names_apart : Operand → Operand → Result (List ℕ × List ℕ) WordsError
@@ -99,13 +102,17 @@ crossing_or None None = Ok tt
 abbrev pub checked_ends : List Bool → List Bool → Result (Unit {0}) WordsError
 checked_ends low high = crossing_or (first_crossing low high) (first_loose_background low high)
 
+-- the searchers that take turns, where there are several
+abbrev pub crew_of : Settings → Option CrewPlan
+crew_of s = option_map (λ searchers. record { searchers = searchers; seed = s.turns }) s.crew
+
 -- the job of a command by its operands, whose number is the first test, and its options
 abbrev pub job_with : Command → List Operand → List Given → Result Job WordsError
 job_with commands.Check (search_file ∷ proof ∷ []) givens =
     and_then (settled defaults givens) (λ s. Ok (jobs.Check search_file.word proof.word s.rule s.demands s.form))
 job_with commands.Search (search_file ∷ proof ∷ []) givens =
     and_then (settled defaults givens) (λ s.
-    and_then (names_apart search_file proof) (λ names. Ok (jobs.Search names.0 names.1 s.rule s.demands s.form s.budget s.keep_all s.rle)))
+    and_then (names_apart search_file proof) (λ names. Ok (jobs.Search names.0 names.1 s.rule s.demands s.form s.budget s.keep_all s.rle (crew_of s))))
 job_with commands.Judge (search_file ∷ pattern ∷ []) givens =
     and_then (settled defaults givens) (λ s. Ok (jobs.Judge search_file.word pattern.word s.rule s.demands s.rle))
 job_with commands.Cnf (search_file ∷ []) givens =
@@ -155,6 +162,13 @@ pub record AreAllowed (rule : List Bool) (demands : Demands) (budget : ℕ) : Ty
   pub isotropic : IsIsotropic rule
   pub budgeted : budget ≤ most_budget
 
+-- so many searchers as may take turns
+abbrev pub AreSearchers : ℕ → Type 0
+AreSearchers searchers = (1 ≤ searchers) × (searchers ≤ most_searchers)
+
+abbrev pub IsCrew : CrewPlan → Type 0
+IsCrew plan = AreSearchers plan.searchers
+
 -- demands within the limits, and two rules that leave a question open
 pub record AreOpen (low high : List Bool) (demands : Demands) : Type 0 where
   pub demanded : AreWithinLimits demands
@@ -165,12 +179,13 @@ pub record AreSettled (s : Settings) : Type 0 where
   pub allowed : AreAllowed s.rule s.demands s.budget
   pub low : IsIsotropic s.low
   pub high : IsIsotropic s.high
+  pub crew : ForSome s.crew AreSearchers
 
--- what the words keep: demands, budgets and sizes are within the limits, a rule that is to be printed is isotropic, and two
+-- what the words keep: demands, budgets, sizes and numbers of searchers are within the limits, a rule that is to be printed is isotropic, and two
 -- rules leave a question open
 abbrev pub KeepsLimits : Job → Type 0
 KeepsLimits (jobs.Check search_file proof rule demands form) = AreWithinLimits demands
-KeepsLimits (jobs.Search search_file proof rule demands form budget keep_all rle) = AreAllowed rule demands budget
+KeepsLimits (jobs.Search search_file proof rule demands form budget keep_all rle crew) = AreAllowed rule demands budget × ForSome crew IsCrew
 KeepsLimits (jobs.Judge search_file pattern rule demands rle) = AreWithinLimits demands
 KeepsLimits (jobs.Cnf search_file rule demands form) = AreWithinLimits demands
 KeepsLimits (jobs.Sat formula proof budget keep_all) = budget ≤ most_budget

@@ -41,6 +41,10 @@ most_seed = 18446744073709551615
 abbrev pub most_size : ℕ
 most_size = 64
 
+-- the greatest number of searchers that take turns
+abbrev pub most_searchers : ℕ
+most_searchers = 16
+
 -- what separates the parts of a value
 abbrev pub comma : ℕ
 comma = 44
@@ -69,12 +73,16 @@ number_in low high text = option_and_then (from_to low high) (natural_in text)
 abbrev pub budget_in : List ℕ → Option ℕ
 budget_in text = number_in 0 most_budget text
 
--- what a problem is made from: a number, and how many rows it has of as many cells
+-- what a problem is made from, and turns are drawn from: a number, and how many rows it has of as many cells
 abbrev pub seed_in : List ℕ → Option ℕ
 seed_in text = number_in 0 most_seed text
 
 abbrev pub size_in : List ℕ → Option ℕ
 size_in text = number_in 1 most_size text
+
+-- how many searchers take turns
+abbrev pub searchers_in : List ℕ → Option ℕ
+searchers_in text = number_in 1 most_searchers text
 
 -- whether all learnt clauses are kept
 abbrev pub keep_all_in : List ℕ → Option Bool

@@ -37,6 +37,8 @@ pub enum Setting {
     As,
     Budget,
     Keep,
+    Crew,
+    Turns,
 }
 
 // What operands are called, by their places.
@@ -138,14 +140,15 @@ impl Command {
         ensures { result.now ≡ other_options self }
     {
         match self {
-            Command::Search | Command::Least | Command::Open => {
-                &Setting::ALL[Setting::Formula as usize..]
+            Command::Search => &Setting::ALL[Setting::Formula as usize..],
+            Command::Least | Command::Open => {
+                &Setting::ALL[Setting::Formula as usize..=Setting::Keep as usize]
             }
             Command::Check | Command::Cnf | Command::OpenCheck => {
                 &Setting::ALL[Setting::Formula as usize..=Setting::Differ as usize]
             }
             Command::Judge => &Setting::ALL[Setting::Edge as usize..=Setting::As as usize],
-            Command::Sat => &Setting::ALL[Setting::Budget as usize..],
+            Command::Sat => &Setting::ALL[Setting::Budget as usize..=Setting::Keep as usize],
             Command::Lrat | Command::Rule | Command::Make | Command::Trim => &[],
         }
     }
@@ -167,7 +170,7 @@ fn is_among(options: &[Setting], setting: Setting) -> bool
 
 impl Setting {
     // The table of options.
-    const ALL: [Setting; 12] = [
+    const ALL: [Setting; 14] = [
         Setting::Rule,
         Setting::Low,
         Setting::High,
@@ -180,6 +183,8 @@ impl Setting {
         Setting::As,
         Setting::Budget,
         Setting::Keep,
+        Setting::Crew,
+        Setting::Turns,
     ];
 
     /// What the option is called, without its two dashes.
@@ -199,6 +204,8 @@ impl Setting {
             Setting::As => "as",
             Setting::Budget => "budget",
             Setting::Keep => "keep",
+            Setting::Crew => "crew",
+            Setting::Turns => "turns",
         }
     }
 

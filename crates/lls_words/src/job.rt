@@ -1,4 +1,5 @@
 // What a command line asks for.
+use crate::crew_plan::CrewPlan;
 use lls_base::Name;
 use lls_problem::{Demands, Form};
 use lls_rule::Rule;
@@ -29,6 +30,8 @@ pub enum Job {
         keep_all: bool,
         /// Whether the solution is printed as RLE, and not as rows.
         rle: bool,
+        /// The searchers that take turns, where there are several.
+        crew: Option<CrewPlan>,
     },
     /// Judge a pattern against a search file.
     Judge {

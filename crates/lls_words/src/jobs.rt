@@ -3,10 +3,12 @@ ghost use Rattle.std.specs.Prelude.{◌≡◌, Ok, [], ◌∷◌, map, IfOk, OnO
 ghost use Rattle.lls_base.specs.Results.{and_then, Gives};
 ghost use Rattle.lls_hensel.specs.Ends.{AreEnds};
 ghost use Rattle.lls_hensel.specs.Isotropy.{IsIsotropic};
-ghost use Rattle.lls_words.specs.Job.{checked_ends, defaults, job_with, names_apart, settled, AreSettled, KeepsLimits};
+ghost use Rattle.std.specs.Option.{option_map, ForSome};
+ghost use Rattle.lls_words.specs.Job.{checked_ends, defaults, job_with, names_apart, settled, AreSearchers, AreSettled, IsCrew, KeepsLimits};
 ghost use Rattle.lls_words.specs.Seen.{seen_given, seen_operand};
 
 use crate::command::Command;
+use crate::crew_plan::CrewPlan;
 use crate::error::WordsError;
 use crate::item::Operand;
 use crate::job::Job;
@@ -68,6 +70,14 @@ fn searching(
     Ok((file, written, settings))
 }
 
+// The searchers that take turns, where there are several.
+fn crew_of(searchers: Option<u32>, seed: u64) -> Option<CrewPlan>
+    ensures crew { result ≡ option_map (λ searchers. record { searchers = searchers; seed = seed }) searchers }
+    ensures limits { ForSome searchers AreSearchers → ForSome result IsCrew }
+{
+    searchers.map(|searchers| CrewPlan { searchers, seed })
+}
+
 /// The job of `check`.
 pub fn check_job(
     alloc: Global,
@@ -114,6 +124,8 @@ pub fn search_job(
         keep_all,
         rle,
         form,
+        crew,
+        turns,
         ..
     } = settings;
     Ok(Job::Search {
@@ -125,6 +137,7 @@ pub fn search_job(
         budget,
         keep_all,
         rle,
+        crew: crew_of(crew, turns),
     })
 }
 

@@ -3,6 +3,7 @@
 
 mod canonical;
 mod command;
+mod crew_plan;
 mod error;
 mod item;
 mod items;
@@ -14,7 +15,8 @@ mod settings;
 mod values;
 mod words;
 
+pub use crew_plan::CrewPlan;
 pub use error::WordsError;
 pub use job::Job;
-pub use values::{DEFAULT_BUDGET, MOST_BUDGET};
+pub use values::{DEFAULT_BUDGET, MOST_BUDGET, MOST_SEARCHERS};
 pub use words::read_job;

@@ -5,15 +5,15 @@ ghost use Rattle.lls_hensel.specs.Isotropy.{IsIsotropic};
 ghost use Rattle.lls_problem.specs.Bounds.{HasEnds};
 ghost use Rattle.lls_problem.specs.Problem.{IsPeriod};
 ghost use Rattle.lls_words.specs.Job.{rule_at, value_or, with_value, settled, defaults, AreSettled};
-ghost use Rattle.lls_words.specs.Values.{period_in, bounds_in, budget_in};
+ghost use Rattle.lls_words.specs.Values.{period_in, bounds_in, budget_in, searchers_in};
 ghost use Rattle.lls_words.specs.Seen.{seen_given};
 
 use crate::command::Setting;
 use crate::error::WordsError;
 use crate::scan::Given;
 use crate::values::{
-    DEFAULT_BUDGET, MOST_BUDGET, bounds_in, budget_in, edge_in, form_in, generations_in,
-    keep_all_in, period_in, rle_in,
+    DEFAULT_BUDGET, MOST_BUDGET, MOST_SEARCHERS, bounds_in, budget_in, edge_in, form_in,
+    generations_in, keep_all_in, period_in, rle_in, searchers_in, seed_in,
 };
 use lls_hensel::read_rule;
 use lls_problem::{Bounds, Demands, Edge, Form, Period};
@@ -32,11 +32,15 @@ pub struct Settings {
     pub keep_all: bool,
     pub rle: bool,
     pub form: Form,
+    /// How many searchers take turns, where there are several.
+    pub crew: Option<u32>,
+    /// The number from which is drawn whose turn it is.
+    pub turns: u64,
 }
 
 impl Settings {
     // Life, `B3/S23`, for each rule, under a closed edge, with no other demand; the default budget, half of the learnt clauses
-    // kept, and patterns as rows; formulas by cover.
+    // kept, and patterns as rows; formulas by cover; one searcher, and turns that are drawn from 0.
     fn default_values(alloc: Global) -> Settings
         ensures value { result ≡ defaults }
         ensures allowed { AreSettled result }
@@ -51,6 +55,8 @@ impl Settings {
             keep_all: false,
             rle: false,
             form: Form::Cover,
+            crew: None,
+            turns: 0,
         }
     }
 
@@ -80,6 +86,8 @@ impl Settings {
             Setting::Keep => settings.keep_all = keep_all_in(value).ok_or(fault)?,
             Setting::As => settings.rle = rle_in(value).ok_or(fault)?,
             Setting::Formula => settings.form = form_in(value).ok_or(fault)?,
+            Setting::Crew => settings.crew = Some(searchers_at(given.place, value)?),
+            Setting::Turns => settings.turns = seed_in(&given.value).ok_or(fault)?,
         }
         Ok(settings)
     }
@@ -125,6 +133,17 @@ fn budget_at(place: u64, text: &[u8]) -> Result<u32, WordsError>
 {
     match budget_in(text) {
         Some(budget) => Ok(budget),
+        None => Err(WordsError::BadValue(place)),
+    }
+}
+
+// How many searchers a text says; the place is its option's.
+fn searchers_at(place: u64, text: &[u8]) -> Result<u32, WordsError>
+    ensures value { result ≡ value_or place (searchers_in text.now) }
+    ensures within { IfOk result (λ searchers. (1 ≤ searchers) × (searchers ≤ MOST_SEARCHERS)) }
+{
+    match searchers_in(text) {
+        Some(searchers) => Ok(searchers),
         None => Err(WordsError::BadValue(place)),
     }
 }

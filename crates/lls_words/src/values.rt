@@ -4,7 +4,7 @@ ghost use Rattle.std.specs.Option.{ForSome, option_map};
 ghost use Rattle.lls_grid.specs.Place.{IsWithin};
 ghost use Rattle.lls_problem.specs.Bounds.{HasEnds};
 ghost use Rattle.lls_problem.specs.Problem.{IsPeriod};
-ghost use Rattle.lls_words.specs.Values.{edge_in, budget_in, seed_in, size_in, keep_all_in, rle_in, form_in, cut_at, number_in, shift_in, period_in, generation_in, generations_in, low_in, high_in, bound_in, bounds_in};
+ghost use Rattle.lls_words.specs.Values.{edge_in, budget_in, seed_in, size_in, searchers_in, keep_all_in, rle_in, form_in, cut_at, number_in, shift_in, period_in, generation_in, generations_in, low_in, high_in, bound_in, bounds_in};
 ghost use Rattle.lls_words.specs.Seen.{seen_pair};
 
 use lls_grid::History;
@@ -22,11 +22,14 @@ pub const MOST_BUDGET: u32 = 10_000_000;
 /// The budget of a search for which none is said.
 pub const DEFAULT_BUDGET: u32 = 100_000;
 
-/// The greatest number that a problem is made from.
+/// The greatest number that a problem is made from, or turns are drawn from.
 pub const MOST_SEED: u64 = u64::MAX;
 
 /// The greatest size of a problem that is made.
 pub const MOST_SIZE: u32 = 64;
+
+/// The greatest number of searchers that take turns.
+pub const MOST_SEARCHERS: u32 = 16;
 
 /// The edge of a text.
 pub fn edge_in(text: &[u8]) -> Option<Edge>
@@ -69,7 +72,7 @@ pub fn budget_in(text: &[u8]) -> Option<u32>
     number_in(text, 0, MOST_BUDGET)
 }
 
-/// The number of a text from which a problem is made.
+/// The number of a text from which a problem is made, or turns are drawn.
 pub fn seed_in(text: &str) -> Option<u64>
     ensures { result ≡ seed_in text.now }
 {
@@ -87,6 +90,14 @@ pub fn size_in(text: &[u8]) -> Option<u32>
     ensures within { IfSome result (λ size. (1 ≤ size) × (size ≤ MOST_SIZE)) }
 {
     number_in(text, 1, MOST_SIZE)
+}
+
+/// How many searchers take turns, by a text.
+pub fn searchers_in(text: &[u8]) -> Option<u32>
+    ensures searchers { result ≡ searchers_in text.now }
+    ensures within { IfSome result (λ searchers. (1 ≤ searchers) × (searchers ≤ MOST_SEARCHERS)) }
+{
+    number_in(text, 1, MOST_SEARCHERS)
 }
 
 /// Whether a text keeps all learnt clauses.

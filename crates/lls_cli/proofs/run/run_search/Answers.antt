@@ -10,7 +10,7 @@ use Rattle.lls_cli.proofs.run.run_search.Goals as goal
 pub returns-in-Ok-clause-end : goal.returns-in-Ok-clause-end
 returns-in-Ok-clause-end g c =
     let read = c.in-Ok.ensures.read in
-    let job = jobs.Search c.args.search.now c.args.effort.proof c.args.rule c.args.demands c.args.form c.args.effort.budget c.args.effort.keep_all c.args.rle in
+    let job = jobs.Search c.args.search.now c.args.effort.proof c.args.rule c.args.demands c.args.form c.args.effort.budget c.args.effort.keep_all c.args.rle c.args.crew in
     let question = questions.Search (asked_with c.args.form c.in-Ok.problem) c.args.effort c.args.rle in
     job_ended job question _ _ _ _ _ _ _ _
     (only_made _ _ _ (λ input. and_then input (problem_in c.args.rule c.args.demands)) (λ problem. Ok (questions.Search (asked_with c.args.form problem) c.args.effort c.args.rle)) c.in-Ok.problem read.ok.0)
@@ -18,6 +18,6 @@ returns-in-Ok-clause-end g c =
 
 pub returns-in-Err-clause-end : goal.returns-in-Err-clause-end
 returns-in-Err-clause-end g c =
-    let job = jobs.Search c.args.search.now c.args.effort.proof c.args.rule c.args.demands c.args.form c.args.effort.budget c.args.effort.keep_all c.args.rle in
+    let job = jobs.Search c.args.search.now c.args.effort.proof c.args.rule c.args.demands c.args.form c.args.effort.budget c.args.effort.keep_all c.args.rle c.args.crew in
     let read = only_stopped _ _ _ (λ input. and_then input (problem_in c.args.rule c.args.demands)) (λ problem. Ok (questions.Search (asked_with c.args.form problem) c.args.effort c.args.rle)) _ _ _ c.in-Err.ensures.read in
     stopped job c.in-Err.fault _ _ _ _ _ _ tt read.kept read.counts tt read.err c.refuse.ensures

@@ -16,7 +16,7 @@ decode-requires c =
 
 pub absence_of-requires-clause-evidence : goal.absence_of-requires-clause-evidence
 absence_of-requires-clause-evidence c =
-    evidence_of c.args.formula.now c.args.effort c.solve.new.log.steps c.solve.ensures.all_kept (c.in_ok-assignment.ensures.unsat (ap Ok c.in-Unsat.is))
+    evidence_of c.args.formula.now c.args.effort c.solve_by.new.log.steps c.solve_by.ensures.all_kept (c.in_ok-assignment.ensures.unsat (ap Ok c.in-Unsat.is))
 
 pub returns-in-Sat : goal.returns-in-Sat
 returns-in-Sat c =
@@ -35,7 +35,7 @@ returns c =
     let asked = c.args.asked.now in
     let file = c.in_ok-file-in-Undecided.file in
     let made = c.in_ok-file-in-Undecided.ensures in
-    let exhausted : IsExhausted (formula_asked asked) c.args.effort.budget c.solve.new.log.steps =
-    subst (λ (f : Cnf). IsExhausted f c.args.effort.budget c.solve.new.log.steps) c.requires.formula (c.in_ok-assignment.ensures.undecided (ap Ok c.in-Undecided.is)) in
+    let exhausted : IsExhausted (formula_asked asked) c.args.effort.budget c.solve_by.new.log.steps =
+    subst (λ (f : Cnf). IsExhausted f c.args.effort.budget c.solve_by.new.log.steps) c.requires.formula (c.in_ok-assignment.ensures.undecided (ap Ok c.in-Undecided.is)) in
     IfOk-weaker c.of_text.result _ _ (λ answer is.
-    undecided_answer asked c.args.effort c.args.rle c.solve.new.log.steps file answer made.file c.solve.ensures.all_kept exhausted is) c.of_text.ensures
+    undecided_answer asked c.args.effort c.args.rle c.solve_by.new.log.steps file answer made.file c.solve_by.ensures.all_kept exhausted is) c.of_text.ensures

@@ -21,4 +21,5 @@ returns-clause-allowed c =
       allowed = record { demanded = subst AreWithinLimits (sym c.new.ensures) edge_alone-within; isotropic = isotropic; budgeted = omega arith };
       low = isotropic;
       high = isotropic;
+      crew = λ searchers same. absurd (none-some searchers same);
     }
