@@ -9,7 +9,8 @@ _lls_options() {
     check | cnf) echo "--rule $_lls_demands --formula" ;;
     opencheck) echo "--low --high $_lls_demands --formula" ;;
     judge) echo "--rule $_lls_demands --as" ;;
-    search | least) echo "--rule $_lls_demands --budget --keep --as --formula" ;;
+    search) echo "--rule $_lls_demands --budget --keep --as --formula --crew --turns" ;;
+    least) echo "--rule $_lls_demands --budget --keep --as --formula" ;;
     open) echo "--low --high $_lls_demands --budget --keep --as --formula" ;;
     sat) echo '--budget --keep' ;;
     esac

@@ -369,6 +369,8 @@ class Completion(unittest.TestCase):
         self.assertEqual(self.replies("tr"), ["trim"])
         self.assertEqual(self.replies("opencheck", "a.lls", "--h"), ["--high"])
         self.assertEqual(self.replies("opencheck", "a.lls", "--b"), [])
+        self.assertEqual(self.replies("search", "a.lls", "--cr"), ["--crew"])
+        self.assertEqual(self.replies("least", "a.lls", "--cr"), [])
         self.assertEqual(self.replies("open", "a.lls", "--low", "B36"), ["B36/S23", "B368/S245"])
 
     def test_options_are_those_of_the_usage(self):

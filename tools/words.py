@@ -23,9 +23,10 @@ FORMED = PROBLEM + ["formula"]
 # a problem whose rule is left open between two
 OPEN = ["low", "high"] + DEMANDS + ["formula"]
 EFFORT = ["budget", "keep"]
+CREW = ["crew", "turns"]
 COMMANDS = {
     "check": (["search", "proof"], FORMED),
-    "search": (["search", "proof"], FORMED + EFFORT + ["as"]),
+    "search": (["search", "proof"], FORMED + EFFORT + ["as"] + CREW),
     "judge": (["search", "pattern"], PROBLEM + ["as"]),
     "cnf": (["search"], FORMED),
     "sat": (["formula", "proof"], EFFORT),
@@ -43,7 +44,7 @@ OUTPUTS = {"search": ["proof"], "sat": ["proof"], "make": ["search", "proof"], "
 RULES = ("rule", "low", "high")
 LIFE = "B3/S23"
 # the numbers that may be said
-RANGES = {"budget": (0, 10_000_000), "seed": (0, 2**64 - 1), "size": (1, 64)}
+RANGES = {"budget": (0, 10_000_000), "crew": (1, 16), "turns": (0, 2**64 - 1), "seed": (0, 2**64 - 1), "size": (1, 64)}
 # the operands that are no names of files
 VALUES = {"text": "rule", "seed": "seed", "size": "size"}
 CHOICES = {
@@ -261,6 +262,9 @@ def answer(words):
     return "ok"
 
 
+# the numbers that a problem is made from, or turns are drawn from
+SEEDS = ["0", "18446744073709551615", "18446744073709551609", "07", "00000000000000000001"]
+NO_SEEDS = ["18446744073709551616", "99999999999999999999", "000000000000000000001", "+1", "1e3", "x"]
 GOOD = {
     "rule": ["B3/S23", "b36s23", "23/3", "B2-a/S12", "B3/S2-i34q", "/", "B/S", "B0123478/S01234678"],
     "low": ["B3/S23", "B/S", "23/3", "B3-j/S2", "B3k/S23-a", "B03/S238"],
@@ -269,7 +273,9 @@ GOOD = {
     "live": ["0:1-2", "0:-", "63:-8192", "0:1-,2:-7", "1:3-2"],
     "differ": ["0,1", "63,0", "5,5"],
     "budget": ["0", "10000000", "7", "00000000000000000100"],
-    "seed": ["0", "18446744073709551615", "18446744073709551609", "07", "00000000000000000001"],
+    "crew": ["1", "16", "3", "00000000000000000016"],
+    "turns": SEEDS,
+    "seed": SEEDS,
     "size": ["1", "64", "8", "08", "00000000000000000064"],
     **CHOICES,
 }
@@ -281,7 +287,9 @@ BAD = {
     "live": ["0", "0:", "0:1", "1-2", ":1-2", "64:1-2", "0:8193-", "0:1-2-3", "0:1:2", "0:1-2,", ",0:1-2", "0:000000000000000000001-"],
     "differ": ["0", "0,64", "0,1,2", "0,-1", ","],
     "budget": ["10000001", "1.5", "000000000000000000007", "all"],
-    "seed": ["18446744073709551616", "99999999999999999999", "000000000000000000001", "+1", "1e3", "x"],
+    "crew": ["0", "17", "000000000000000000003", "+1", "3x", "18446744073709551617"],
+    "turns": NO_SEEDS,
+    "seed": NO_SEEDS,
     "size": ["0", "65", "000000000000000000001", "+8", "8x", "18446744073709551617"],
     "edge": ["shut", "Open", "closed,open"],
     "symmetry": ["C3", "c2", "D2", "D8 "],
