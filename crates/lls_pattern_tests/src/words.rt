@@ -2,7 +2,7 @@
 use lls_problem::{Bound, Demands, Edge, Form, Period};
 use lls_rule::Rule;
 use lls_symmetry::Symmetry;
-use lls_words::{Job, WordsError, read_job};
+use lls_words::{CrewPlan, Job, WordsError, read_job};
 use std::alloc::{AllocError, Global};
 use std::test::Fail;
 
@@ -107,6 +107,21 @@ cnf f --formula 1 --formula 1 > RepeatedOption 5
 cnf f --formula > MissingValue 3
 search f g --keep some > BadValue 4
 search f g --as RLE > BadValue 4
+search f p --crew 0 > BadValue 4
+search f p --crew 17 > BadValue 4
+search f p --crew x > BadValue 4
+search f p --crew +1 > BadValue 4
+search --crew=000000000000000000003 f p > BadValue 2
+search f p --crew 2 --turns 18446744073709551616 > BadValue 6
+search f p --turns 000000000000000000001 > BadValue 4
+search f p --turns x --crew 0 > BadValue 4
+search f p --crew > MissingValue 4
+search f p --crew -1 > MissingValue 4
+search f p --crew 2 --crew 3 > RepeatedOption 6
+least f p --crew 2 > UnknownOption 4
+open f p --turns 2 > UnknownOption 4
+sat f p --crew 2 > UnknownOption 4
+make 1 8 f p --turns 2 > UnknownOption 6
 make 18446744073709551616 8 f p > BadValue 2
 make 99999999999999999999 8 f p > BadValue 2
 make 000000000000000000001 8 f p > BadValue 2
@@ -160,7 +175,7 @@ fn faults_are_named_by_their_place(rt: HostRuntime) -> Result<(), Fail> {
 
 // Options, each with a value that it may have.
 const OPTIONS: &str = "\
-formula=1 rule=B3/S23 low=B3/S2 high=B3/S23 edge=open symmetry=C2 period=2 live=0:1- differ=0,1 as=rle budget=7 keep=all best=1";
+formula=1 rule=B3/S23 low=B3/S2 high=B3/S23 edge=open symmetry=C2 period=2 live=0:1- differ=0,1 as=rle budget=7 keep=all crew=3 turns=5 best=1";
 
 // Whether a command line takes an option that stands behind it, which is the only fault that it may have.
 fn takes(alloc: Global, line: &str, option: &str) -> Result<bool, Fail> {
@@ -203,7 +218,7 @@ fn each_command_takes_its_options_alone(rt: HostRuntime) -> Result<(), Fail> {
         ),
         (
             "search f p",
-            "formula rule edge symmetry period live differ as budget keep ",
+            "formula rule edge symmetry period live differ as budget keep crew turns ",
         ),
         ("judge f p", "rule edge symmetry period live differ as "),
         ("cnf f", "formula rule edge symmetry period live differ "),
@@ -368,6 +383,37 @@ fn choices_of_a_search(rt: HostRuntime) -> Result<(), Fail> {
     ];
     for (line, want) in rows {
         assert!(rt; choices_of(job_of(alloc, line)?) == want, "at {line:?}");
+    }
+    Ok(())
+}
+
+// The searchers of a job that take turns and what these are drawn from, where there are several.
+fn crew_of(job: Job) -> Option<(u32, u64)> {
+    match job {
+        Job::Search { crew, .. } => match crew {
+            Some(CrewPlan { searchers, seed }) => Some((searchers, seed)),
+            None => None,
+        },
+        _ => None,
+    }
+}
+
+#[test]
+fn crews_of_searches(rt: HostRuntime) -> Result<(), Fail> {
+    let alloc = rt.alloc();
+    let rows = [
+        ("search f p", None),
+        ("search f p --turns 7", None),
+        ("search f p --crew 1", Some((1, 0))),
+        ("search --turns 7 f --crew=16 p", Some((16, 7))),
+        (
+            "search f p --crew 03 --keep all --turns=18446744073709551615",
+            Some((3, u64::MAX)),
+        ),
+        ("least f p", None),
+    ];
+    for (line, want) in rows {
+        assert_eq!(rt; (line, crew_of(job_of(alloc, line)?)), (line, want));
     }
     Ok(())
 }

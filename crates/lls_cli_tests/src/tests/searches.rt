@@ -127,7 +127,7 @@ fn formulas_are_decided(rt: HostRuntime) -> Result<(), Fail> {
 // Each problem has one solution, or none.
 #[test]
 fn problems_are_searched(rt: HostRuntime) -> Result<(), Fail> {
-    let rows: [Search; 13] = [
+    let rows: [Search; 17] = [
         (
             "search f q --budget 0",
             "1\n\n1\n",
@@ -214,6 +214,34 @@ fn problems_are_searched(rt: HostRuntime) -> Result<(), Fail> {
         ),
         (
             "search f q --budget 0",
+            "* *\n* *\n\n0 1\n1 1\n",
+            Status::Undecided,
+            "undecided\n",
+            "",
+        ),
+        (
+            "search --crew=16 f q --budget 0",
+            "1\n\n1\n",
+            Status::NoPattern,
+            "no pattern\n",
+            "check f p",
+        ),
+        (
+            "search f q --crew 3 --turns 5 --period 1 --live 0:1-3",
+            "* * *\n* * *\n* * *\n\n* * *\n* * *\n* * *\n",
+            Status::NoPattern,
+            "no pattern\n",
+            "check f p --period 1 --live 0:1-3",
+        ),
+        (
+            "search f q --period 1 --live 0:1- --crew 2",
+            "* *\n* *\n\n* *\n* *\n",
+            Status::Pattern,
+            "1 1\n1 1\n\n1 1\n1 1\n",
+            "judge f p --period 1 --live 0:1-",
+        ),
+        (
+            "search f q --budget 0 --crew 4 --turns 1",
             "* *\n* *\n\n0 1\n1 1\n",
             Status::Undecided,
             "undecided\n",
