@@ -45,6 +45,7 @@ ROWS = (
     ("check f p", "1 2\n", "", 3, "", "lls: content: BadCell 1 3\n"),
     ("check f", None, None, 2, "", "lls: words: Operands 2 1\n"),
     ("search f q --budget 0", CELL, None, 20, "no pattern\n", ""),
+    ("search f q --crew 2", CELL, None, 20, "no pattern\n", ""),
     ("search f q --period 1 --live 0:1-", BLOCK, None, 10, "1 1\n1 1\n\n1 1\n1 1\n", ""),
     ("sat f q --budget 10 --keep all", APART, None, 20, "s UNSATISFIABLE\n", ""),
     ("sat f q --budget 0", FOUR, None, 30, "s UNKNOWN\n", ""),

@@ -4,8 +4,8 @@
     problems.py SEED COUNT FOLDER
 
 For each K below COUNT, FOLDER gets K.lls, a search file; K.words, the options of `lls`, one word a line; K.script, the
-words of formula.py behind the search file, one a line; and K.form, the option that names a form of the formula, for both, or
-nothing. Rules are in B/S notation, and every demand fits its file.
+words of formula.py behind the search file, one a line; K.form, the option that names a form of the formula, for both, or
+nothing; and K.crew, the options of a search by several searchers, or nothing. Rules are in B/S notation, and every demand fits its file.
 """
 import os
 import random
@@ -60,6 +60,12 @@ def problem():
     return text, words, script, form
 
 
+def crew(choose):
+    """The options of several searchers, or none; drawn by themselves, so that the problems stay what they are."""
+    searchers, seed = choose.randint(1, 16), choose.randrange(2**64)
+    return choose.choice([[], [f"--crew={searchers}"], [f"--crew={searchers}", f"--turns={seed}"]])
+
+
 def lines(words):
     return "".join(f"{word}\n" for word in words)
 
@@ -67,9 +73,10 @@ def lines(words):
 def main():
     seed, count, folder = ending.words(__doc__, "SEED", "COUNT", "FOLDER")
     random.seed(ending.number(seed, "SEED"))
+    choose = random.Random(ending.number(seed, "SEED"))
     for k in range(ending.number(count, "COUNT")):
-        text, *lists = problem()
-        for name, content in zip(("lls", "words", "script", "form"), (text, *map(lines, lists))):
+        text, *lists = *problem(), crew(choose)
+        for name, content in zip(("lls", "words", "script", "form", "crew"), (text, *map(lines, lists))):
             with open(os.path.join(folder, f"{k}.{name}"), "w") as file:
                 file.write(content)
 
