@@ -83,6 +83,7 @@ impl<'f> Crew<'f> {
         ensures stops { result ≢ Ok Turned.Going → self.old.stage ≡ Stage.Going → Stops self.old self.new k }
         ensures answers { result ≡ answer_of self.new.stage }
         ensures finally { self.old.stage ≢ Stage.Going → self.new ≡ self.old }
+        ensures searchers { length self.new.held ≡ length self.old.held }
         ensures crew { IsCrew self.new }
     {
         match &self.stage {

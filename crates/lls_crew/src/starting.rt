@@ -1,5 +1,5 @@
 // Searchers that haven't begun.
-ghost use Rattle.std.specs.Prelude.{◌≡◌, ◌<◌, ◌≤◌, ◌^◌, [], All, IfOk, length};
+ghost use Rattle.std.specs.Prelude.{◌≡◌, [], All, IfOk, length};
 ghost use Rattle.lls_solver.specs.Searching.{IsSearching};
 
 use lls_base::Memory;

@@ -1,5 +1,5 @@
 // A turn of one searcher.
-ghost use Rattle.std.specs.Prelude.{◌≡◌, ◌≢◌, ◌≤◌, Bool, None, Some, Ok, OnErr, true};
+ghost use Rattle.std.specs.Prelude.{◌≡◌, ◌≤◌, Bool, None, Some, Ok, OnErr, true};
 ghost use Rattle.std.specs.List.{list_all};
 ghost use Rattle.lls_prooflog.specs.Spent.{is_addition, live_after};
 ghost use Rattle.lls_analyse.specs.Spelled.{Spells};

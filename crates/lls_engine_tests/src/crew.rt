@@ -1,6 +1,4 @@
 // Crews: turns taken by hand, and searches by several searchers.
-ghost use Rattle.std.specs.Prelude.{◌≡◌, length, IfOk};
-
 use crate::draws::Draws;
 use lls_cnf::{Assignment, Formula, MOST_DIMACS_BYTES, holds, read_dimacs};
 use lls_crew::{Crew, MOST_SEARCHERS, Turned, crew};
@@ -48,9 +46,8 @@ fn turns_by_hand(rt: HostRuntime) -> Result<(), Fail> {
     }
     assert_eq!(rt; crew.turn(rt.alloc(), 0)?, Turned::Ended);
     assert!(rt; crew.holds(0, 5));
-    for k in [0, 1] {
-        assert_eq!(rt; crew.turn(rt.alloc(), k)?, Turned::Ended);
-    }
+    assert_eq!(rt; crew.turn(rt.alloc(), 0)?, Turned::Ended);
+    assert_eq!(rt; crew.turn(rt.alloc(), 1)?, Turned::Ended);
     assert_eq!(rt;
         print_log(rt.alloc(), crew.log())?.as_slice(),
         b"5 -1 0 4 3 0\n6 0 5 2 1 0\n".as_slice()
@@ -89,9 +86,7 @@ fn no_outcome_yet(rt: HostRuntime) -> Result<(), Fail> {
 }
 
 // A number's bits, the least of them first.
-fn values(alloc: Global, number: u32, vars: u32) -> Result<Vec<bool>, Fail>
-    ensures { IfOk result (λ values. length values.items ≡ vars) }
-{
+fn values(alloc: Global, number: u32, vars: u32) -> Result<Vec<bool>, Fail> {
     let mut values = Vec::new(alloc);
     let mut rest = number;
     for _ in 0..vars {
@@ -102,9 +97,10 @@ fn values(alloc: Global, number: u32, vars: u32) -> Result<Vec<bool>, Fail>
 }
 
 // Tries all assignments of at most 16 variables.
-fn is_satisfiable(alloc: Global, formula: &Formula) -> Result<bool, Fail> {
+fn is_satisfiable(rt: &impl Abort, alloc: Global, formula: &Formula) -> Result<bool, Fail> {
     for number in 0..1u32 << (formula.vars() % 17) {
         let assignment = Assignment::new(values(alloc, number, formula.vars())?);
+        assert_eq!(rt; assignment.values().len(), formula.vars() as usize);
         if holds(formula, &assignment) {
             return Ok(true);
         }
@@ -131,7 +127,7 @@ fn compare(
         seed,
         &mut log,
     )?;
-    let want = if is_satisfiable(alloc, formula)? {
+    let want = if is_satisfiable(rt, alloc, formula)? {
         "satisfiable"
     } else {
         check(alloc, formula, &log)?;

@@ -1,7 +1,7 @@
 //! Numbers that look random: which one comes after another.
 #![tactic(auto)]
 
-ghost use Rattle.std.specs.Prelude.{◌≡◌, ◌<◌, ◌^◌};
+ghost use Rattle.std.specs.Prelude.{◌≡◌};
 ghost use Rattle.lls_numbers.specs.Numbers.{after};
 
 // What a number is multiplied by. This and the increment are those of D. E. Knuth's computer MMIX, for a linear
