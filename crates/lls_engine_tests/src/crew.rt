@@ -1,4 +1,6 @@
 // Crews: turns taken by hand, and searches by several searchers.
+ghost use Rattle.std.specs.Prelude.{◌≡◌, ◌<◌, length};
+
 use crate::draws::Draws;
 use lls_cnf::{Assignment, Formula, MOST_DIMACS_BYTES, holds, read_dimacs};
 use lls_crew::{Crew, MOST_SEARCHERS, Turned, crew};
@@ -25,6 +27,47 @@ fn square(rt: &impl Abort, alloc: Global) -> Result<Formula, Fail> {
     Ok(read_dimacs(alloc, SQUARE)?)
 }
 
+// What a turn answers.
+fn assert_turn(
+    rt: &impl Abort,
+    alloc: Global,
+    crew: &mut Crew,
+    k: u32,
+    want: Turned,
+) -> Result<(), Fail>
+    requires { k < length crew.old.held }
+    ensures { length crew.new.held ≡ length crew.old.held }
+{
+    let turned = crew.turn(alloc, k)?;
+    assert_eq!(rt; (k, turned), (k, want));
+    Ok(())
+}
+
+// Which ids a searcher holds.
+fn assert_held(rt: &impl Abort, crew: &Crew, k: u32, rows: &[(u64, bool)])
+    requires { k < length crew.now.held }
+{
+    for (id, held) in rows {
+        assert_eq!(rt; (k, *id, crew.holds(k, *id)), (k, *id, *held));
+    }
+}
+
+// What a crew came to, and the text of its log.
+fn assert_finished(
+    rt: &impl Abort,
+    alloc: Global,
+    crew: Crew,
+    want: &str,
+    steps: &[u8],
+) -> Result<(), Fail> {
+    let Some((outcome, log)) = crew.finish() else {
+        return Err(Fail::from("an outcome"));
+    };
+    assert_eq!(rt; word(&outcome), want);
+    assert_eq!(rt; print_log(alloc, &log)?.as_slice(), steps);
+    Ok(())
+}
+
 // Two turns by different searchers refute the square: the second one begins with what the first one learnt. Searcher 1 takes 1 as true
 // first. Of the two clauses that watch -1 the later one comes first, and forces -2; then the third is false, and -1 is learnt. Searcher 0 has
 // -1 from level 0 on, and by the second clause -2, so that the first is false. After that nothing changes.
@@ -32,34 +75,30 @@ fn square(rt: &impl Abort, alloc: Global) -> Result<Formula, Fail> {
 fn turns_by_hand(rt: HostRuntime) -> Result<(), Fail> {
     let formula = square(&rt, rt.alloc())?;
     let mut crew = Crew::new(rt.alloc(), &formula, 2, 10, true)?;
-    assert_eq!(rt; crew.turn(rt.alloc(), 1)?, Turned::Going);
-    let rows = [
-        (0, 4, true),
-        (0, 5, false),
-        (1, 4, true),
-        (1, 5, true),
-        (1, 6, false),
-    ];
-    for (k, id, held) in rows {
-        assert!(rt; k < 2);
-        assert_eq!(rt; (k, id, crew.holds(k, id)), (k, id, held));
-    }
-    assert_eq!(rt; crew.turn(rt.alloc(), 0)?, Turned::Ended);
-    assert!(rt; crew.holds(0, 5));
-    assert_eq!(rt; crew.turn(rt.alloc(), 0)?, Turned::Ended);
-    assert_eq!(rt; crew.turn(rt.alloc(), 1)?, Turned::Ended);
-    assert_eq!(rt;
-        print_log(rt.alloc(), crew.log())?.as_slice(),
-        b"5 -1 0 4 3 0\n6 0 5 2 1 0\n".as_slice()
+    assert_turn(&rt, rt.alloc(), &mut crew, 1, Turned::Going)?;
+    assert_held(
+        &rt,
+        &crew,
+        1,
+        &[(0, false), (1, true), (4, true), (5, true), (6, false)],
     );
-    match crew.finish() {
-        Some((outcome, log)) => {
-            assert_eq!(rt; (word(&outcome), log.len()), ("unsatisfiable", 2));
-            check(rt.alloc(), &formula, &log)?;
-        }
-        None => return Err(Fail::from("an outcome")),
-    }
-    Ok(())
+    assert_held(
+        &rt,
+        &crew,
+        0,
+        &[(0, false), (1, true), (4, true), (5, false)],
+    );
+    assert_turn(&rt, rt.alloc(), &mut crew, 0, Turned::Ended)?;
+    assert_held(&rt, &crew, 0, &[(4, true), (5, true), (6, false)]);
+    assert_turn(&rt, rt.alloc(), &mut crew, 0, Turned::Ended)?;
+    assert_turn(&rt, rt.alloc(), &mut crew, 1, Turned::Ended)?;
+    assert_finished(
+        &rt,
+        rt.alloc(),
+        crew,
+        "unsatisfiable",
+        b"5 -1 0 4 3 0\n6 0 5 2 1 0\n",
+    )
 }
 
 // Where nothing may be learnt, the first conflict at a level above 0 ends the search; the clause that shows it isn't held.
@@ -67,13 +106,9 @@ fn turns_by_hand(rt: HostRuntime) -> Result<(), Fail> {
 fn no_budget(rt: HostRuntime) -> Result<(), Fail> {
     let formula = square(&rt, rt.alloc())?;
     let mut crew = Crew::new(rt.alloc(), &formula, 2, 0, true)?;
-    assert_eq!(rt; crew.turn(rt.alloc(), 0)?, Turned::Ended);
-    assert!(rt; !crew.holds(0, 5));
-    match crew.finish() {
-        Some((outcome, log)) => assert_eq!(rt; (word(&outcome), log.len()), ("undecided", 0)),
-        None => return Err(Fail::from("an outcome")),
-    }
-    Ok(())
+    assert_turn(&rt, rt.alloc(), &mut crew, 0, Turned::Ended)?;
+    assert_held(&rt, &crew, 0, &[(4, true), (5, false)]);
+    assert_finished(&rt, rt.alloc(), crew, "undecided", b"")
 }
 
 // Before a turn that ends there is no outcome.
