@@ -1,0 +1,14 @@
+pub mod Form
+pub mod Lemma
+pub mod Line
+pub mod Words
+pub mod Literal
+pub mod Number
+pub mod Numbers
+pub mod Stretch
+pub mod Proof
+pub mod Reading
+pub mod Waiting
+pub mod Takings
+pub mod Piece
+pub mod FaultText
