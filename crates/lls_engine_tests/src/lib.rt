@@ -9,6 +9,8 @@ mod arena;
 #[cfg(test)]
 mod crew;
 #[cfg(test)]
+mod drat;
+#[cfg(test)]
 mod draws;
 #[cfg(test)]
 mod order;
