@@ -7,6 +7,7 @@ pub mod Number
 pub mod Numbers
 pub mod Stretch
 pub mod Proof
+pub mod Written
 pub mod Reading
 pub mod Waiting
 pub mod Takings

@@ -1,10 +1,13 @@
 // A proof that is read as its bytes come.
 ghost use Rattle.std.specs.Prelude.{◌≡◌, ◌+◌, ◌<◌, ◌≤◌, ◌^◌, ◌++◌, ℕ, List, [], Some, None, Ok, Err, OnOk, OnErr, IfOk, true, false, length};
+ghost use Rattle.std.specs.List.{flat_map, list_all};
 ghost use Rattle.std.specs.Option.{option_map};
 ghost use Rattle.std.specs.Str.Lines.{strip_carriage_return};
 ghost use Rattle.lls_base.specs.Results.{GivesWrapped};
 ghost use Rattle.lls_drat.specs.Proof.{no_more, at_fault, before_proof, proof_of};
 ghost use Rattle.lls_drat.specs.Reading.{begun, to_come, taken, TakesLemma, Keeps, MeetsFault, has_end};
+ghost use Rattle.lls_drat.specs.Lemma.{Lemma};
+ghost use Rattle.lls_drat.specs.Written.{written, has_literals, all_lemmas};
 ghost use Rattle.lls_drat.specs.Takings.{Came};
 ghost use Rattle.lls_drat.specs.Piece.{text_piece, piece, tail};
 
@@ -65,6 +68,10 @@ impl Reader {
 
         // All of the proof is still to come.
         ensures whole { (bytes : List ℕ) → to_come result bytes ≡ proof_of form bytes }
+
+        // And that of lemmas that are written one after another is these lemmas.
+        ensures written { (lemmas : List Lemma) → list_all has_literals lemmas ≡ true →
+            proof_of form (flat_map (written form) lemmas) ≡ all_lemmas lemmas }
     {
         Reader {
             waiting: Waiting::new(alloc, form),
@@ -92,6 +99,9 @@ impl Reader {
     pub fn put(&mut self, piece: &[u8]) -> Result<(), Memory>
         ensures ok { OnOk result (self.new ≡ record self.old { rest = self.old.rest ++ piece.now }) }
         ensures err { OnErr result (self.new ≡ self.old) }
+
+        // So it stands before what is to come behind it.
+        ensures before { OnOk result ((more : List ℕ) → to_come self.new more ≡ to_come self.old (piece.now ++ more)) }
     {
         let room = u64::MAX - 1 - self.before - self.waiting.bytes().len() as u64;
         if piece.len() as u64 > room {
