@@ -6,3 +6,5 @@ pub mod ReaderParts
 pub mod WrittenNumbers
 pub mod WrittenLines
 pub mod WrittenProofs
+pub mod OneNumber
+pub mod OneForm

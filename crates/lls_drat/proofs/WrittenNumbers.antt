@@ -13,7 +13,7 @@ use Rattle.lls_drat.specs.Stretch.{in_range, literals}
 use Rattle.lls_drat.specs.Written.{number_bytes, code_of, literal_bytes}
 
 -- so many bytes are enough
-abbrev fits : ℕ → ℕ → Bool
+abbrev pub fits : ℕ → ℕ → Bool
 fits zero n = false
 fits (suc most) n = ltb n 128 || fits most (n / 128)
 
@@ -65,7 +65,7 @@ or_true : (a : Bool) → (a || true) ≡ true
 or_true true = refl
 or_true false = refl
 
-four_fit : (n : ℕ) → n ≤ 33554433 → fits 4 n ≡ true
+pub four_fit : (n : ℕ) → n ≤ 33554433 → fits 4 n ≡ true
 four_fit n le =
     let last : ltb (n / 128 / 128 / 128) 128 ≡ true = test_true (n / 128 / 128 / 128) 128 (omega arith) in
     rw (last, or_true (ltb (n / 128 / 128) 128), or_true (ltb (n / 128) 128), or_true (ltb n 128)) refl

@@ -61,3 +61,6 @@ numbered count (lemma ∷ lemmas) = record { number = count + 1; lemma = lemma }
 
 abbrev pub all_lemmas : List Lemma → Proof
 all_lemmas lemmas = record { lemmas = numbered 0 lemmas; fault = None }
+
+abbrev pub is_byte : ℕ → Bool
+is_byte b = nat_lt b 256

@@ -7,7 +7,7 @@ ghost use Rattle.lls_base.specs.Results.{GivesWrapped};
 ghost use Rattle.lls_drat.specs.Proof.{no_more, at_fault, before_proof, proof_of};
 ghost use Rattle.lls_drat.specs.Reading.{begun, to_come, taken, TakesLemma, Keeps, MeetsFault, has_end};
 ghost use Rattle.lls_drat.specs.Lemma.{Lemma};
-ghost use Rattle.lls_drat.specs.Written.{written, has_literals, all_lemmas};
+ghost use Rattle.lls_drat.specs.Written.{written, has_literals, all_lemmas, is_byte};
 ghost use Rattle.lls_drat.specs.Takings.{Came};
 ghost use Rattle.lls_drat.specs.Piece.{text_piece, piece, tail};
 
@@ -72,6 +72,10 @@ impl Reader {
         // And that of lemmas that are written one after another is these lemmas.
         ensures written { (lemmas : List Lemma) → list_all has_literals lemmas ≡ true →
             proof_of form (flat_map (written form) lemmas) ≡ all_lemmas lemmas }
+
+        // No other bytes write them.
+        ensures one_way { (bytes : List ℕ) → (lemmas : List Lemma) → list_all is_byte bytes ≡ true →
+            proof_of Form.Binary bytes ≡ all_lemmas lemmas → bytes ≡ flat_map (written Form.Binary) lemmas }
     {
         Reader {
             waiting: Waiting::new(alloc, form),
