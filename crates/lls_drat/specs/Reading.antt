@@ -8,8 +8,7 @@ use Rattle.lls_drat.specs.Form.{end_byte}
 use Rattle.lls_drat.specs.Lemma.{NumberedLemma}
 use Rattle.lls_drat.specs.Proof.{Proof, at_fault, before_proof, proof_from}
 
--- how many lines or lemmas and how many bytes were taken, the bytes that were put and not yet taken, and the literals of the lemma that
--- was taken last
+-- how many lines or lemmas and how many bytes were taken, the bytes that were put and not yet taken, and the literals that were read last
 pub record Reading : Type 0 where
   pub form : Form
   pub count : ℕ

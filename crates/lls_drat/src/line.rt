@@ -1,5 +1,5 @@
 // The lemma that a line of a text writes.
-ghost use Rattle.std.specs.Prelude.{◌≡◌, OnOk, drop, if◌then◌else◌};
+ghost use Rattle.std.specs.Prelude.{◌≡◌, OnOk, drop};
 ghost use Rattle.std.specs.Option.{option_map};
 ghost use Rattle.lls_base.specs.Results.{GivesWrapped};
 ghost use Rattle.lls_prooflog.specs.Number.{literal_in, item};

@@ -1,5 +1,5 @@
 // The literal that bytes write, of seven bits each.
-ghost use Rattle.std.specs.Prelude.{◌≡◌, ◌≤◌, ◌*◌, ◌+◌, Some, None, nat_le, if◌then◌else◌};
+ghost use Rattle.std.specs.Prelude.{◌≡◌, ◌≤◌, nat_le, if◌then◌else◌};
 ghost use Rattle.lls_drat.specs.Number.{is_last, is_whole, number_value, literal_of_code, is_code, literal_in_bytes};
 
 use lls_lit::{Lit, Var};

@@ -1,5 +1,5 @@
 // The numbers of a lemma in bytes, read as literals.
-ghost use Rattle.std.specs.Prelude.{◌≡◌, ◌+◌, ◌<◌, ◌≤◌, ◌^◌, OnOk, drop, length, take};
+ghost use Rattle.std.specs.Prelude.{◌≡◌, ◌+◌, ◌<◌, ◌≤◌, ◌^◌, OnOk, drop, length};
 ghost use Rattle.std.specs.List.{position_or_len};
 ghost use Rattle.lls_drat.specs.Number.{is_last, numbers_from};
 ghost use Rattle.lls_drat.specs.Numbers.{next_number, first_len};

@@ -1,5 +1,5 @@
 // A proof that is read as its bytes come.
-ghost use Rattle.std.specs.Prelude.{◌≡◌, ◌+◌, ◌<◌, ◌≤◌, ◌^◌, ◌++◌, ℕ, List, [], Some, None, Ok, Err, OnOk, OnErr, IfOk, true, false, length};
+ghost use Rattle.std.specs.Prelude.{◌≡◌, ◌+◌, ◌<◌, ◌^◌, ◌++◌, ℕ, List, [], OnOk, OnErr, IfOk, true, false, length};
 ghost use Rattle.std.specs.List.{flat_map, list_all};
 ghost use Rattle.std.specs.Option.{option_map};
 ghost use Rattle.std.specs.Str.Lines.{strip_carriage_return};
@@ -92,7 +92,7 @@ impl Reader {
         self.count
     }
 
-    /// The literals of the lemma that was taken last.
+    /// The literals of the lemma that the last call took. Where it took none nothing is said of them.
     pub fn lits(&self) -> &[Lit]
         ensures { result.now ≡ self.now.lits }
     {

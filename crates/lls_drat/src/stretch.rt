@@ -1,5 +1,5 @@
 // The lemma that a stretch of bytes writes.
-ghost use Rattle.std.specs.Prelude.{◌≡◌, ◌+◌, ◌<◌, ◌≤◌, ◌^◌, OnOk, drop, length};
+ghost use Rattle.std.specs.Prelude.{◌≡◌, ◌+◌, ◌<◌, ◌^◌, OnOk, length};
 ghost use Rattle.lls_base.specs.Results.{GivesWrapped};
 ghost use Rattle.lls_drat.specs.Stretch.{kind_at, literals, lemma_of_bytes, cut_at};
 

@@ -1,5 +1,5 @@
 // The bytes of a proof that comes in pieces, until its lines or its lemmas are whole.
-ghost use Rattle.std.specs.Prelude.{◌≡◌, ◌+◌, ◌-◌, ◌<◌, ◌≤◌, ◌==◌, [], ◌++◌, false, length, take, drop, OnOk, OnErr, IfSome};
+ghost use Rattle.std.specs.Prelude.{◌≡◌, ◌≤◌, ◌==◌, [], ◌++◌, false, length, take, drop, OnOk, OnErr, IfSome};
 ghost use Rattle.std.specs.List.{position};
 ghost use Rattle.lls_drat.specs.Reading.{has_end};
 ghost use Rattle.lls_drat.specs.Waiting.{IsFirstEnd};
