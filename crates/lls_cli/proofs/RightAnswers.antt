@@ -1,6 +1,6 @@
 -- Answers that are right, and what they do to the shelf.
 use Rattle.std.proofs.Common.{◌≡◌, ◌≢◌, ℕ, List, refl, ap, sym, subst}
-use Rattle.lls_lit.specs.Formula.{IsUnsatisfiable}
+use Rattle.lls_lit.specs.Formula.{Cnf, IsUnsatisfiable}
 use Rattle.lls_grid.specs.History.{History}
 use Rattle.lls_problem.specs.declared.judgement.Judgement.{Judgement}
 use Rattle.lls_problem.specs.declared.judgement.Judgement.TheVariants as judgements
@@ -16,48 +16,40 @@ use Rattle.lls_cli.specs.declared.asked.Asked.{Asked}
 use Rattle.lls_cli.specs.declared.asked.OpenAsked.{OpenAsked}
 use Rattle.lls_cli.specs.declared.status.Status.{Status}
 use Rattle.lls_cli.specs.declared.status.Status.TheVariants as statuses
-use Rattle.lls_cli.specs.Answer.{judge_answer, Holds, IsAnswer}
+use Rattle.lls_cli.specs.Answer.{judge_answer, Holds, IsAnswer, NoHolds, YesHolds}
 use Rattle.lls_cli.specs.Question.{formula_asked, formula_opened}
 use Rattle.lls_cli.specs.Moment.{ShelfMoment}
 use Rattle.lls_cli.specs.Steps.{LeavesAlone, LeavesPrinting}
 
--- what refutes a problem's formula checks the problem
-holds_checked : (asked : Asked) (proof : List ℕ) (status : Status) → (IsUnsatisfiable (formula_asked asked) → IsAbsent asked.problem)
-    → Holds (questions.Refute (formula_asked asked) proof) status → Holds (questions.Check asked proof) status
-holds_checked asked proof statuses.Done absent holds = (holds.0, absent holds.1)
-holds_checked asked proof statuses.Refused absent holds = holds
-holds_checked asked proof statuses.Words absent holds = holds
-holds_checked asked proof statuses.Content absent holds = holds
-holds_checked asked proof statuses.Outside absent holds = holds
-holds_checked asked proof statuses.Memory absent holds = holds
-holds_checked asked proof statuses.Limit absent holds = holds
-holds_checked asked proof statuses.Pattern absent holds = holds
-holds_checked asked proof statuses.NoPattern absent holds = holds
-holds_checked asked proof statuses.Undecided absent holds = holds
+-- a status that needs no more than a refutation does, but where the proof is accepted
+holds_as : (formula : Cnf) (proof : List ℕ) (question : Question) (status : Status) → (YesHolds (questions.Refute formula proof) → YesHolds question)
+    → (NoHolds (questions.Refute formula proof) → NoHolds question) → Holds (questions.Refute formula proof) status → Holds question status
+holds_as formula proof question statuses.Done accepted refused holds = accepted holds
+holds_as formula proof question statuses.Refused accepted refused holds = refused holds
+holds_as formula proof question statuses.Words accepted refused holds = holds
+holds_as formula proof question statuses.Content accepted refused holds = holds
+holds_as formula proof question statuses.Outside accepted refused holds = holds
+holds_as formula proof question statuses.Memory accepted refused holds = holds
+holds_as formula proof question statuses.Limit accepted refused holds = holds
+holds_as formula proof question statuses.Pattern accepted refused holds = absurd holds
+holds_as formula proof question statuses.NoPattern accepted refused holds = absurd holds
+holds_as formula proof question statuses.Undecided accepted refused holds = absurd holds
 
+-- what refutes a problem's formula checks the problem
 pub checked_answer : (asked : Asked) (proof : List ℕ) (answer : Answer) → (IsUnsatisfiable (formula_asked asked) → IsAbsent asked.problem)
     → IsAnswer (questions.Refute (formula_asked asked) proof) answer → IsAnswer (questions.Check asked proof) answer
-checked_answer asked proof answer absent right =
-    record { answers = right.answers; holds = holds_checked asked proof answer.status absent right.holds }
+checked_answer asked proof answer absent right = record {
+  answers = right.answers;
+  holds = holds_as (formula_asked asked) proof (questions.Check asked proof) answer.status (λ h. (h.0, absent h.1)) (λ h. h) right.holds;
+}
 
 -- and what refutes that of an open rule checks it
-holds_loose_checked : (asked : OpenAsked) (proof : List ℕ) (status : Status) → (IsUnsatisfiable (formula_opened asked) → IsOpenlyAbsent asked.problem asked.high)
-    → Holds (questions.Refute (formula_opened asked) proof) status → Holds (questions.LooseCheck asked proof) status
-holds_loose_checked asked proof statuses.Done absent holds = (holds.0, absent holds.1)
-holds_loose_checked asked proof statuses.Refused absent holds = holds
-holds_loose_checked asked proof statuses.Words absent holds = holds
-holds_loose_checked asked proof statuses.Content absent holds = holds
-holds_loose_checked asked proof statuses.Outside absent holds = holds
-holds_loose_checked asked proof statuses.Memory absent holds = holds
-holds_loose_checked asked proof statuses.Limit absent holds = holds
-holds_loose_checked asked proof statuses.Pattern absent holds = holds
-holds_loose_checked asked proof statuses.NoPattern absent holds = holds
-holds_loose_checked asked proof statuses.Undecided absent holds = holds
-
 pub loose_checked_answer : (asked : OpenAsked) (proof : List ℕ) (answer : Answer) → (IsUnsatisfiable (formula_opened asked) → IsOpenlyAbsent asked.problem asked.high)
     → IsAnswer (questions.Refute (formula_opened asked) proof) answer → IsAnswer (questions.LooseCheck asked proof) answer
-loose_checked_answer asked proof answer absent right =
-    record { answers = right.answers; holds = holds_loose_checked asked proof answer.status absent right.holds }
+loose_checked_answer asked proof answer absent right = record {
+  answers = right.answers;
+  holds = holds_as (formula_opened asked) proof (questions.LooseCheck asked proof) answer.status (λ h. (h.0, absent h.1)) (λ h. h) right.holds;
+}
 
 holds_judged : (problem : PosedProblem) (history : History) (judgement : Judgement) → (judgement ≡ judgements.Meets → IsSolution problem history)
     → (judgement ≢ judgements.Meets → IsSolution problem history → ⊥) → Holds (questions.Judge problem history) (judge_answer judgement).status

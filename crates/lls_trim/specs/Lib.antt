@@ -8,3 +8,4 @@ pub mod Numbers
 pub mod Buffers
 pub mod Recording
 pub mod Marking
+pub mod Recorded

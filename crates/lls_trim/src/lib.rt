@@ -7,6 +7,7 @@ mod log;
 mod marking;
 mod names;
 mod number;
+mod recorded;
 mod recorder;
 mod renumbering;
 mod source;
@@ -16,5 +17,6 @@ mod trimming;
 
 pub use error::TrimError;
 pub use log::trim;
+pub use recorded::Recorded;
 pub use text::trim_bytes;
 pub use trimming::Trimming;

@@ -12,8 +12,7 @@ ghost use Rattle.lls_trim.specs.Kept.{IsSublist, clauses_added, AreUsed, EndsEmp
 
 use crate::inferences::Inferences;
 use crate::recorder::Recorder;
-use crate::trimmed::trim_inferences;
-use crate::{TrimError, Trimming};
+use crate::{Recorded, TrimError, Trimming};
 use lls_cnf::Formula;
 use lls_lrat::{CheckError, Progress};
 use lls_prooflog::Log;
@@ -57,12 +56,16 @@ pub fn trim(alloc: Global, formula: &Formula, log: &Log) -> Result<Trimming, Tri
     // There is nothing to be trimmed from it.
     ensures again { IfOk result (λ trimming. IsTrimmed formula.now (steps_of_log trimming.log.steps) trimming.log.steps) }
 {
-    let inferences = record_log(alloc, formula, log)?;
-    trim_inferences(alloc, formula.len(), &inferences)
+    let recorded = Recorded::of_log(alloc, formula, log)?;
+    recorded.trim(alloc)
 }
 
-// The additions of an accepted log.
-fn record_log(alloc: Global, formula: &Formula, log: &Log) -> Result<Inferences, CheckError>
+/// The additions of an accepted log.
+pub(crate) fn record_log(
+    alloc: Global,
+    formula: &Formula,
+    log: &Log,
+) -> Result<Inferences, CheckError>
     ensures inferences { IfOk result (λ i. i ≡ inferences_of formula.now (steps_of_log log.now.steps)) }
     ensures accepted { OnOk result (log_verdict formula.now log.now.steps ≡ Accepted) }
     ensures refused { IfErr result (λ error. error ≢ CheckError.Memory → answer_of (log_verdict formula.now log.now.steps) ≡ Err error) }
