@@ -20,7 +20,7 @@ use Rattle.lls_solver.proofs.Start.{good_none}
 use Rattle.lls_solver.proofs.Sharing.{behind_grown, behind_searching, first_grown, first_searching}
 use Rattle.lls_crew.specs.declared.stage.Stage.{Stage}
 use Rattle.lls_crew.specs.declared.stage.Stage.TheVariants.{Going, Ended, Failed}
-use Rattle.lls_crew.specs.Turns.{IsGrown}
+use Rattle.lls_crew.specs.Turns.{EndsBy, IsGrown}
 use Rattle.lls_crew.specs.Crew.{AreFirst, IsCrew, IsCrewOf, Learns, Stops, crew_of, ids_in, started}
 
 ids_first : (formula : Cnf) (steps : List Step) (s : SearcherState) → HoldsFirst formula steps s.store.live → AreFirst formula (live_after formula steps) (ids_in s)
@@ -118,12 +118,13 @@ stopped_seen formula budget keep_all searchers old more new stage k s logged =
     ∙ ap (λ (steps : List Step). record (crew_of formula budget keep_all searchers steps stage) { held = set (map ids_in searchers) k (ids_in s) }) logged
 
 -- of one that came to an outcome
-pub ended_seen : (formula : Cnf) (budget : ℕ) (keep_all : Bool) (searchers : List SearcherState) (old new : List Step) (outcome : Outcome) (k : ℕ) (s : SearcherState) → IsGrown old new → Spells s.store.live (live_after formula old)
+pub ended_seen : (formula : Cnf) (budget : ℕ) (keep_all : Bool) (searchers : List SearcherState) (old new : List Step) (outcome : Outcome) (k : ℕ) (s : SearcherState) → IsGrown old new → Spells s.store.live (live_after formula old) → EndsBy outcome old new
     → Stops (crew_of formula budget keep_all searchers old Going) (crew_of formula budget keep_all (set searchers k s) new (Ended outcome)) k
-ended_seen formula budget keep_all searchers old new outcome k s grown spelled = record {
+ended_seen formula budget keep_all searchers old new outcome k s grown spelled ends = record {
   more = grown.more;
   ids = ids_in s;
   ended = λ _ _. spells_ids s.store.live (live_after formula old) spelled;
+  added = λ other is. let same : outcome ≡ other = cc in subst (λ (o : Outcome). EndsBy o old new) same ends;
   failed = λ is. absurd cc;
   stopped = stopped_seen formula budget keep_all searchers old grown.more new (Ended outcome) k s grown.logged;
 }
@@ -135,6 +136,7 @@ failed_seen formula budget keep_all searchers old new k s same = record {
   more = [];
   ids = ids_in s;
   ended = λ outcome is. absurd cc;
+  added = λ outcome is. absurd cc;
   failed = λ _. refl;
   stopped = stopped_seen formula budget keep_all searchers old [] new Failed k s (same ∙ sym (append-nil old));
 }

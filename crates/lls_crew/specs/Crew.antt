@@ -11,6 +11,7 @@ use Rattle.lls_solver.specs.declared.solving.TheConstants.{MOST_BUDGET}
 use Rattle.lls_solver.specs.declared.outcome.Outcome.{Outcome}
 use Rattle.lls_solver.specs.Searching.{SearcherState, additions, ids_of, IsLogWithin, IsOutcome, KeepsAll}
 use Rattle.lls_solver.specs.Sharing.{HoldsFirst, IsBehind}
+use Rattle.lls_crew.specs.Turns.{EndsBy}
 use Rattle.lls_crew.specs.declared.stage.Stage.{Stage}
 use Rattle.lls_crew.specs.declared.stage.Stage.TheVariants.{Going, Ended, Failed}
 use Rattle.lls_crew.specs.declared.searchers.Turned.{Turned}
@@ -62,12 +63,13 @@ pub record Learns (old new : CrewState) (k : ℕ) : Type 0 where
   pub fresh : AddsFresh old.formula.vars (live_of old) lits
   pub learnt : new ≡ record old { steps = old.steps ++ Add id lits hints ∷ []; held = slice_set old.held k (ids_of (live_of new)) }
 
--- searcher k's turn was the last. Where it came to an outcome, it holds all clauses that were live; where memory was wanted, the log is as it was. The
--- others hold what they held
+-- searcher k's turn was the last. Where it came to an outcome, it holds all clauses that were live, and the log got the empty clause or nothing; where
+-- memory was wanted, the log is as it was. The others hold what they held
 pub record Stops (old new : CrewState) (k : ℕ) : Type 0 where
   pub more : List Step
   pub ids : List ℕ
   pub ended : (outcome : Outcome) → new.stage ≡ Ended outcome → ids ≡ ids_of (live_of old)
+  pub added : (outcome : Outcome) → new.stage ≡ Ended outcome → EndsBy outcome old.steps new.steps
   pub failed : new.stage ≡ Failed → more ≡ []
   pub stopped : new ≡ record old { steps = old.steps ++ more; held = slice_set old.held k ids; stage = new.stage }
 

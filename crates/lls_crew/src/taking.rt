@@ -5,7 +5,7 @@ ghost use Rattle.lls_prooflog.specs.Spent.{is_addition, live_after};
 ghost use Rattle.lls_analyse.specs.Spelled.{Spells};
 ghost use Rattle.lls_solver.specs.Searching.{HasLearnt, IsLogWithin, IsOutcome, IsSearching};
 ghost use Rattle.lls_solver.specs.Sharing.{HoldsFirst, IsBehind};
-ghost use Rattle.lls_crew.specs.Turns.{IsGrown};
+ghost use Rattle.lls_crew.specs.Turns.{EndsBy, IsGrown};
 
 use lls_base::Memory;
 use lls_cnf::Formula;
@@ -30,6 +30,7 @@ pub(crate) fn take_turn(
     ensures learnt { result ≡ Ok None → HasLearnt formula.now budget log.old.steps log.new.steps searcher.new }
     ensures ended { (outcome : Outcome) (keep_all : Bool) → result ≡ Ok (Some outcome) → IsOutcome formula.now budget keep_all log.new.steps (Ok outcome) }
     ensures whole { (outcome : Outcome) → result ≡ Ok (Some outcome) → Spells searcher.new.store.live (live_after formula.now log.old.steps) }
+    ensures added { (outcome : Outcome) → result ≡ Ok (Some outcome) → EndsBy outcome log.old.steps log.new.steps }
     ensures grown { IsGrown log.old.steps log.new.steps }
     ensures first { HoldsFirst formula.now log.new.steps searcher.new.store.live }
     ensures err { OnErr result (log.new.steps ≡ log.old.steps) }
@@ -53,6 +54,7 @@ fn go_on(
     ensures learnt { result ≡ Ok None → HasLearnt formula.now budget log.old.steps log.new.steps searcher.new }
     ensures ended { (outcome : Outcome) (keep_all : Bool) → result ≡ Ok (Some outcome) → IsOutcome formula.now budget keep_all log.new.steps (Ok outcome) }
     ensures whole { (outcome : Outcome) → result ≡ Ok (Some outcome) → Spells searcher.new.store.live (live_after formula.now log.old.steps) }
+    ensures added { (outcome : Outcome) → result ≡ Ok (Some outcome) → EndsBy outcome log.old.steps log.new.steps }
     ensures grown { IsGrown log.old.steps log.new.steps }
     ensures first { HoldsFirst formula.now log.new.steps searcher.new.store.live }
     ensures err { OnErr result (log.new.steps ≡ log.old.steps) }

@@ -8,13 +8,14 @@ use Rattle.lls_store.specs.Clauses.{LiveClause}
 use Rattle.lls_store.specs.Trail.{TrailState}
 use Rattle.lls_store.specs.Store.{StoreState}
 use Rattle.lls_solver.specs.declared.outcome.Outcome.{Outcome}
-use Rattle.lls_solver.specs.declared.outcome.Outcome.TheVariants.{Undecided}
+use Rattle.lls_solver.specs.declared.outcome.Outcome.TheVariants.{Sat, Unsat, Undecided}
 use Rattle.lls_solver.specs.declared.searcher.Turn.{Turn}
 use Rattle.lls_solver.specs.declared.searcher.Turn.TheVariants.{Complete, Learnt, Refuted, Spent}
 use Rattle.lls_solver.specs.Searching.{IsOutcome, IsSearching}
 use Rattle.lls_solver.specs.Sharing.{HoldsFirst}
 use Rattle.lls_solver.proofs.Outcomes.{exhausted_outcome}
 use Rattle.lls_solver.proofs.Sharing.{first_grown, first_searching}
+use Rattle.lls_crew.specs.Turns.{EndsBy}
 use Rattle.lls_crew.proofs.taking.go_on.Goals as goal
 
 not_learnt_but : (other turn : Turn) (result : Result Turn Memory) → other ≢ Learnt → turn ≡ other → result ≡ Ok turn → result ≢ Ok Learnt
@@ -69,3 +70,15 @@ returns-in-Spent-clause-ended c = λ outcome keep_all is.
     let kept = c.in_ok-turn.ensures.all_kept keep_all (λ _. c.requires.additions) in
     subst (λ (o : Outcome). IsOutcome c.args.formula.now c.args.budget keep_all c.turn.new.log.steps (Ok o)) (same_outcome Undecided outcome is)
     (exhausted_outcome c.args.formula.now c.args.budget keep_all c.turn.new.log.steps exhausted kept)
+
+pub returns-in-Spent-clause-added : goal.returns-in-Spent-clause-added
+returns-in-Spent-clause-added c = λ outcome is.
+    subst (λ (o : Outcome). EndsBy o c.args.log.now.steps c.turn.new.log.steps) (same_outcome Undecided outcome is) (c.in_ok-turn.ensures.spent_stays (ap Ok c.in-Spent.is))
+
+pub returns-in-Refuted-clause-added : goal.returns-in-Refuted-clause-added
+returns-in-Refuted-clause-added c = λ outcome is.
+    subst (λ (o : Outcome). EndsBy o c.args.log.now.steps c.turn.new.log.steps) (same_outcome Unsat outcome is) (c.in_ok-turn.ensures.empty (ap Ok c.in-Refuted.is))
+
+pub returns-in_ok-assignment-in-Complete-clause-added : goal.returns-in_ok-assignment-in-Complete-clause-added
+returns-in_ok-assignment-in-Complete-clause-added c = λ outcome is.
+    subst (λ (o : Outcome). EndsBy o c.args.log.now.steps c.turn.new.log.steps) (same_outcome (Sat c.in_ok-assignment-in-Complete.field-0) outcome is) (c.in_ok-turn.ensures.stays (ap Ok c.in-Complete.is))

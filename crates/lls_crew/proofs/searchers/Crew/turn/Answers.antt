@@ -72,11 +72,13 @@ returns-in-Ok-Some-clause-stops c = λ _ _.
     let new = c.take_turn.new.log.steps in
     let s = c.take_turn.new.searcher in
     let items = set i.searchers.items c.args.k s in
-    let whole = c.take_turn.ensures.whole c.in-Ok-Some.outcome (c.in-Ok-Some.is ∙ ap Ok c.in-Ok-Some.field-0-is) in
+    let came = c.in-Ok-Some.is ∙ ap Ok c.in-Ok-Some.field-0-is in
+    let whole = c.take_turn.ensures.whole c.in-Ok-Some.outcome came in
+    let added = c.take_turn.ensures.added c.in-Ok-Some.outcome came in
     let next = crew_of i.formula.now i.budget i.keep_all items new (Ended c.in-Ok-Some.outcome) in
     subst (λ (v : CrewState). Stops v next c.args.k) c.self.view_is
     (subst (λ (stage : Stage). Stops (crew_of i.formula.now i.budget i.keep_all i.searchers.items old stage) next c.args.k) (sym c.in-Going.is)
-    (ended_seen i.formula.now i.budget i.keep_all i.searchers.items old new c.in-Ok-Some.outcome c.args.k s c.take_turn.ensures.grown whole))
+    (ended_seen i.formula.now i.budget i.keep_all i.searchers.items old new c.in-Ok-Some.outcome c.args.k s c.take_turn.ensures.grown whole added))
 
 pub returns-in-Ok-Some-clause-crew : goal.returns-in-Ok-Some-clause-crew
 returns-in-Ok-Some-clause-crew c =
