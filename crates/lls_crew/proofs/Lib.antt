@@ -1,1 +1,2 @@
+mod Deletions
 mod TurnsTaken

@@ -1,5 +1,5 @@
 -- What a turn makes of searchers over one log.
-use Rattle.std.proofs.Common.{◌≡◌, ℕ, suc, ◌<◌, ◌≤◌, Bool, true, List, [], ◌∷◌, ◌++◌, length, map, replicate, get_or, set, take, Ok, refl, sym, ap, subst, ◌∙◌, arith}
+use Rattle.std.proofs.Common.{◌≡◌, ℕ, suc, ◌+◌, ◌<◌, ◌≤◌, Bool, true, List, [], ◌∷◌, ◌++◌, length, map, replicate, get_or, set, take, Ok, inl, inr, refl, sym, ap, subst, ◌∙◌, append_assoc, arith}
 use Rattle.std.specs.Prelude.{All, ◌||◌, ◌==◌}
 use Rattle.std.specs.List.{list_all, list_any}
 use Rattle.std.proofs.lemmas.Bool.{and_from}
@@ -8,12 +8,14 @@ use Rattle.std.proofs.lemmas.List.Elements.{All-map, All-set}
 use Rattle.std.proofs.lemmas.List.Folds.{list_all-append}
 use Rattle.lls_lit.specs.Formula.{Clause, Cnf}
 use Rattle.lls_prooflog.specs.declared.step.Step.{Step}
+use Rattle.lls_prooflog.specs.declared.step.Step.TheVariants.{Add}
 use Rattle.lls_prooflog.specs.Spent.{is_addition, live_after}
 use Rattle.lls_store.specs.Clauses.{LiveClause}
 use Rattle.lls_solver.specs.declared.outcome.Outcome.{Outcome}
 use Rattle.lls_solver.specs.declared.solving.TheConstants.{MOST_BUDGET}
-use Rattle.lls_solver.specs.Searching.{SearcherState, ids_of, HasLearnt, IsLogWithin, IsOutcome, IsSearching, KeepsAll}
-use Rattle.lls_solver.specs.Sharing.{HoldsFirst, IsBehind}
+use Rattle.lls_solver.specs.Deletion.{ids_left}
+use Rattle.lls_solver.specs.Searching.{SearcherState, additions, ids_of, HasLearnt, IsGoodLog, IsLogWithin, IsOutcome, IsSearching, KeepsAll, LearnsOne}
+use Rattle.lls_solver.specs.Sharing.{AreLiveSteps, HoldsFirst, IsBehind}
 use Rattle.lls_analyse.specs.Spelled.{Spells}
 use Rattle.lls_solver.proofs.Clauses.{spells_ids}
 use Rattle.lls_solver.proofs.Start.{good_none}
@@ -21,7 +23,9 @@ use Rattle.lls_solver.proofs.Sharing.{behind_grown, behind_searching, first_grow
 use Rattle.lls_crew.specs.declared.stage.Stage.{Stage}
 use Rattle.lls_crew.specs.declared.stage.Stage.TheVariants.{Going, Ended, Failed}
 use Rattle.lls_crew.specs.Turns.{EndsBy, IsGrown}
-use Rattle.lls_crew.specs.Crew.{AreFirst, IsCrew, IsCrewOf, Learns, Stops, crew_of, ids_in, started}
+use Rattle.lls_crew.specs.Forgetting.{Forgets, MayDelete, deletion_of, ids_in}
+use Rattle.lls_crew.specs.Crew.{AreFirst, CrewState, IsCrew, IsCrewOf, Learns, Stops, crew_of, started}
+use Rattle.lls_crew.proofs.Deletions.{additions-deletion_of, ids_left-live}
 
 ids_first : (formula : Cnf) (steps : List Step) (s : SearcherState) → HoldsFirst formula steps s.store.live → AreFirst formula (live_after formula steps) (ids_in s)
 ids_first formula steps s h =
@@ -36,15 +40,15 @@ all_weaker : (P Q : SearcherState → Type 0) (searchers : List SearcherState) �
 all_weaker P Q searchers weaker all = λ k d lt. weaker (get_or searchers k d) (all k d lt)
 
 -- what holds of searchers is seen of the crew
-pub crew_is : (formula : Cnf) (budget : ℕ) (keep_all : Bool) (searchers : List SearcherState) (steps : List Step) (stage : Stage) → IsCrewOf formula budget keep_all searchers steps stage → IsCrew (crew_of formula budget keep_all searchers steps stage)
-crew_is formula budget keep_all searchers steps stage h = record {
+pub crew_is : (formula : Cnf) (budget : ℕ) (keep_all : Bool) (searchers : List SearcherState) (steps : List Step) (live : List ℕ) (stage : Stage) → IsCrewOf formula budget keep_all searchers steps live stage → IsCrew (crew_of formula budget keep_all searchers steps stage)
+crew_is formula budget keep_all searchers steps live stage h = record {
   first = All-map (AreFirst formula (live_after formula steps)) ids_in searchers (all_weaker (λ s. HoldsFirst formula steps s.store.live) (λ s. AreFirst formula (live_after formula steps) (ids_in s)) searchers (ids_first formula steps) h.first);
   log = h.log;
 }
 
-module _ (formula : Cnf) (budget : ℕ) (keep_all : Bool) (searchers : List SearcherState) (old new : List Step) (h : IsCrewOf formula budget keep_all searchers old Going) (grown : IsGrown old new) where
-  additions_grown : list_all is_addition new ≡ true
-  additions_grown = ap (list_all is_addition) grown.logged ∙ list_all-append is_addition old grown.more ∙ and_from (list_all is_addition old) (list_all is_addition grown.more) h.additions grown.additions
+module _ (formula : Cnf) (budget : ℕ) (keep_all : Bool) (searchers : List SearcherState) (old new : List Step) (live : List ℕ) (h : IsCrewOf formula budget keep_all searchers old live Going) (grown : IsGrown old new) where
+  kept_grown : KeepsAll keep_all new
+  kept_grown = λ is. ap (list_all is_addition) grown.logged ∙ list_all-append is_addition old grown.more ∙ and_from (list_all is_addition old) (list_all is_addition grown.more) (h.log.1 is) grown.additions
 
   first_set : (k : ℕ) (s : SearcherState) → HoldsFirst formula new s.store.live → All (λ (x : SearcherState). HoldsFirst formula new x.store.live) (set searchers k s)
   first_set k s first =
@@ -60,44 +64,79 @@ module _ (formula : Cnf) (budget : ℕ) (keep_all : Bool) (searchers : List Sear
       in
       All-set (λ (x : SearcherState). IsBehind formula new x.store x.trail) searchers k s (behind_searching formula new s.store s.trail searching) others
 
-  -- after a turn that learnt a clause
-  pub crew_learnt : (k : ℕ) (s : SearcherState) → HasLearnt formula budget old new s → IsCrewOf formula budget keep_all (set searchers k s) new Going
-  crew_learnt k s learnt = record {
+  -- where a clause was learnt
+  pub crew_learnt : (k : ℕ) (s : SearcherState) (now : List ℕ) → HasLearnt formula budget old new s → AreLiveSteps formula new now → IsCrewOf formula budget keep_all (set searchers k s) new now Going
+  crew_learnt k s now learnt lives = record {
     first = first_set k s (first_searching formula new s.store s.trail learnt.searching);
     behind = λ _. behind_set k s learnt.searching;
-    additions = additions_grown;
+    live_steps = λ _. lives;
     budget_fits = h.budget_fits;
-    log = (record { log = learnt.searching.log; within = learnt.within }, λ _. additions_grown);
+    log = (record { log = learnt.searching.log; within = learnt.within }, kept_grown);
   }
 
   -- after a turn that came to an outcome
-  pub crew_ended : (k : ℕ) (s : SearcherState) (outcome : Outcome) → HoldsFirst formula new s.store.live → IsOutcome formula budget keep_all new (Ok outcome) → IsCrewOf formula budget keep_all (set searchers k s) new (Ended outcome)
-  crew_ended k s outcome first right = record {
+  pub crew_ended : (k : ℕ) (s : SearcherState) (now : List ℕ) (outcome : Outcome) → HoldsFirst formula new s.store.live → IsOutcome formula budget keep_all new (Ok outcome) → IsCrewOf formula budget keep_all (set searchers k s) new now (Ended outcome)
+  crew_ended k s now outcome first right = record {
     first = first_set k s first;
     behind = λ is. absurd cc;
-    additions = additions_grown;
+    live_steps = λ is. absurd cc;
     budget_fits = h.budget_fits;
     log = right;
   }
 
   -- after a turn without memory, which left the log as it was
-  pub crew_failed : (k : ℕ) (s : SearcherState) → HoldsFirst formula new s.store.live → new ≡ old → IsCrewOf formula budget keep_all (set searchers k s) new Failed
-  crew_failed k s first same = record {
+  pub crew_failed : (k : ℕ) (s : SearcherState) (now : List ℕ) → HoldsFirst formula new s.store.live → new ≡ old → IsCrewOf formula budget keep_all (set searchers k s) new now Failed
+  crew_failed k s now first same = record {
     first = first_set k s first;
     behind = λ is. absurd cc;
-    additions = additions_grown;
+    live_steps = λ is. absurd cc;
     budget_fits = h.budget_fits;
     log = subst (λ (ss : List Step). IsLogWithin formula budget ss × KeepsAll keep_all ss) (sym same) h.log;
   }
 
--- what is seen of a turn that learnt a clause
-pub learns_seen : (formula : Cnf) (budget : ℕ) (keep_all : Bool) (searchers : List SearcherState) (old new : List Step) (k : ℕ) (s : SearcherState) → HasLearnt formula budget old new s
-    → Learns (crew_of formula budget keep_all searchers old Going) (crew_of formula budget keep_all (set searchers k s) new Going) k
-learns_seen formula budget keep_all searchers old new k s learnt =
+-- where some additions were deleted, or none
+pub crew_forgot : (formula : Cnf) (budget : ℕ) (keep_all : Bool) (searchers left : List SearcherState) (old new : List Step) (live now : List ℕ) → IsCrewOf formula budget keep_all searchers old live Going
+    → Forgets formula keep_all old new (map ids_in searchers) (map ids_in left) → All (λ (s : SearcherState). IsBehind formula new s.store s.trail) left → IsGoodLog formula new → AreLiveSteps formula new now
+    → IsCrewOf formula budget keep_all left new now Going
+crew_forgot formula budget keep_all searchers left old new live now h forgets behind good lives = record {
+  first = all_weaker (λ s. IsBehind formula new s.store s.trail) (λ s. HoldsFirst formula new s.store.live) left (λ s is. is.first) behind;
+  behind = λ _. behind;
+  live_steps = λ _. lives;
+  budget_fits = h.budget_fits;
+  log = (record { log = good; within = omega (arith, h.log.0.within, ap additions forgets.logged, additions-deletion_of old forgets.deleted) }, kept);
+} where
+  kept : KeepsAll keep_all new
+  kept is =
+      let same : new ≡ old = forgets.logged ∙ ap (λ (ids : List ℕ). old ++ deletion_of ids) (forgets.may.kept is) ∙ append-nil old in
+      subst (λ (ss : List Step). list_all is_addition ss ≡ true) (sym same) (h.log.1 is)
+
+-- where that wanted memory
+pub crew_stuck : (formula : Cnf) (budget : ℕ) (keep_all : Bool) (searchers left : List SearcherState) (old new : List Step) (live now : List ℕ) → IsCrewOf formula budget keep_all searchers old live Going → left ≡ searchers → new ≡ old
+    → IsCrewOf formula budget keep_all left new now Failed
+crew_stuck formula budget keep_all searchers left old new live now h same logged =
+    subst (λ (ss : List Step). IsCrewOf formula budget keep_all left ss now Failed) (sym logged) (subst (λ (xs : List SearcherState). IsCrewOf formula budget keep_all xs old now Failed) (sym same) (record {
+      first = h.first;
+      behind = λ is. absurd cc;
+      live_steps = λ is. absurd cc;
+      budget_fits = h.budget_fits;
+      log = h.log;
+    }))
+
+-- what is seen of a turn that learnt a clause, and perhaps deleted some
+pub learns_seen : (formula : Cnf) (budget : ℕ) (keep_all : Bool) (searchers left : List SearcherState) (old middle new : List Step) (k : ℕ) (s : SearcherState) → HasLearnt formula budget old middle s
+    → Forgets formula keep_all middle new (map ids_in (set searchers k s)) (map ids_in left)
+    → Learns (crew_of formula budget keep_all searchers old Going) (crew_of formula budget keep_all left new Going) k
+learns_seen formula budget keep_all searchers left old middle new k s learnt forgets =
     let step = learnt.learns in
-    let live = live_after formula new in
-    let held : map ids_in (set searchers k s) ≡ set (map ids_in searchers) k (ids_of live) =
-    map-set ids_in searchers k s ∙ ap (set (map ids_in searchers) k) (spells_ids s.store.live live learnt.searching.holds.spelled)
+    let deleted = forgets.deleted in
+    let added = Add step.id step.lits step.hints in
+    let logged : new ≡ old ++ added ∷ deletion_of deleted = forgets.logged ∙ ap (λ (ss : List Step). ss ++ deletion_of deleted) step.logged ∙ append_assoc old (added ∷ []) (deletion_of deleted) in
+    let whole : ids_left deleted (ids_in s) ≡ ids_of (live_after formula new) =
+    ap (ids_left deleted) (spells_ids s.store.live (live_after formula middle) learnt.searching.holds.spelled) ∙ ids_left-live formula middle deleted ∙ ap (λ (ss : List Step). ids_of (live_after formula ss)) (sym forgets.logged)
+    in
+    let held : map ids_in left ≡ set (map (ids_left deleted) (map ids_in searchers)) k (ids_of (live_after formula new)) =
+    forgets.held_left ∙ ap (map (ids_left deleted)) (map-set ids_in searchers k s) ∙ map-set (ids_left deleted) (map ids_in searchers) k (ids_in s)
+    ∙ ap (set (map (ids_left deleted) (map ids_in searchers)) k) whole
     in
     record {
       going = refl;
@@ -107,8 +146,10 @@ learns_seen formula budget keep_all searchers old new k s learnt =
       hints = step.hints;
       good = step.good;
       fresh = step.fresh;
+      deleted = deleted;
+      may = subst (λ (ss : List Step). MayDelete formula keep_all ss deleted) step.logged forgets.may;
       learnt = ap (λ (ids : List (List ℕ)). record (crew_of formula budget keep_all searchers new Going) { held = ids }) held
-          ∙ ap (λ (steps : List Step). record (crew_of formula budget keep_all searchers steps Going) { held = set (map ids_in searchers) k (ids_of live) }) step.logged;
+          ∙ ap (λ (steps : List Step). record (crew_of formula budget keep_all searchers steps Going) { held = set (map (ids_left deleted) (map ids_in searchers)) k (ids_of (live_after formula new)) }) logged;
     }
 
 stopped_seen : (formula : Cnf) (budget : ℕ) (keep_all : Bool) (searchers : List SearcherState) (old more new : List Step) (stage : Stage) (k : ℕ) (s : SearcherState) → new ≡ old ++ more
@@ -129,7 +170,7 @@ ended_seen formula budget keep_all searchers old new outcome k s grown spelled e
   stopped = stopped_seen formula budget keep_all searchers old grown.more new (Ended outcome) k s grown.logged;
 }
 
--- and of one without memory
+-- of one without memory
 pub failed_seen : (formula : Cnf) (budget : ℕ) (keep_all : Bool) (searchers : List SearcherState) (old new : List Step) (k : ℕ) (s : SearcherState) → new ≡ old
     → Stops (crew_of formula budget keep_all searchers old Going) (crew_of formula budget keep_all (set searchers k s) new Failed) k
 failed_seen formula budget keep_all searchers old new k s same = record {
@@ -137,9 +178,24 @@ failed_seen formula budget keep_all searchers old new k s same = record {
   ids = ids_in s;
   ended = λ outcome is. absurd cc;
   added = λ outcome is. absurd cc;
-  failed = λ _. refl;
+  failed = λ _. inl same;
   stopped = stopped_seen formula budget keep_all searchers old [] new Failed k s (same ∙ sym (append-nil old));
 }
+
+-- and of one that wanted it behind the clause that it learnt
+pub stuck_seen : (formula : Cnf) (budget : ℕ) (keep_all : Bool) (searchers left : List SearcherState) (old middle new : List Step) (k : ℕ) (s : SearcherState) → HasLearnt formula budget old middle s → left ≡ set searchers k s → new ≡ middle
+    → Stops (crew_of formula budget keep_all searchers old Going) (crew_of formula budget keep_all left new Failed) k
+stuck_seen formula budget keep_all searchers left old middle new k s learnt same logged =
+    let step = learnt.learns in
+    let added = Add step.id step.lits step.hints in
+    subst (λ (xs : List SearcherState). Stops (crew_of formula budget keep_all searchers old Going) (crew_of formula budget keep_all xs new Failed) k) (sym same) (record {
+      more = added ∷ [];
+      ids = ids_in s;
+      ended = λ outcome is. absurd cc;
+      added = λ outcome is. absurd cc;
+      failed = λ _. inr (subst (LearnsOne formula old) (sym logged) step);
+      stopped = stopped_seen formula budget keep_all searchers old (added ∷ []) new Failed k s (logged ∙ step.logged);
+    })
 
 any_id : (live : List LiveClause) (id : ℕ) → list_any (λ (c : LiveClause). c.id == id) live ≡ list_any (λ held. held == id) (map (λ (c : LiveClause). c.id) live)
 any_id [] id = refl
@@ -155,11 +211,11 @@ all_same [] ids all = refl
 all_same (s ∷ searchers) ids all = rw (all 0 s (omega arith), all_same searchers ids (λ k d lt. all (suc k) d (omega arith))) refl
 
 -- searchers that haven't begun
-pub crew_started : (formula : Cnf) (budget : ℕ) (keep_all : Bool) (searchers : List SearcherState) → All (λ (s : SearcherState). IsSearching formula [] s.store s.trail) searchers → budget ≤ MOST_BUDGET → IsCrewOf formula budget keep_all searchers [] Going
+pub crew_started : (formula : Cnf) (budget : ℕ) (keep_all : Bool) (searchers : List SearcherState) → All (λ (s : SearcherState). IsSearching formula [] s.store s.trail) searchers → budget ≤ MOST_BUDGET → IsCrewOf formula budget keep_all searchers [] [] Going
 crew_started formula budget keep_all searchers all fits = record {
   first = all_weaker (λ s. IsSearching formula [] s.store s.trail) (λ s. HoldsFirst formula [] s.store.live) searchers (λ s is. first_searching formula [] s.store s.trail is) all;
   behind = λ _. all_weaker (λ s. IsSearching formula [] s.store s.trail) (λ s. IsBehind formula [] s.store s.trail) searchers (λ s is. behind_searching formula [] s.store s.trail is) all;
-  additions = refl;
+  live_steps = λ _. refl;
   budget_fits = fits;
   log = (record { log = good_none formula; within = omega arith }, λ _. refl);
 }

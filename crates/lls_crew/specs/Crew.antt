@@ -1,16 +1,18 @@
 -- Several searchers over one log.
-use Rattle.std.specs.Prelude.{◌≡◌, ◌<◌, ◌≤◌, ℕ, ℤ, Bool, true, List, [], ◌∷◌, ◌++◌, All, Result, Ok, Err, length, map, replicate, slice_index_or, slice_set, take, ◌==◌}
-use Rattle.std.specs.List.{list_all, list_any}
+use Rattle.std.specs.Prelude.{◌⊎◌, ◌≡◌, ◌<◌, ◌≤◌, ℕ, ℤ, Bool, true, List, [], ◌∷◌, ◌++◌, All, Result, Ok, Err, length, map, replicate, slice_index_or, slice_set, take, ◌==◌}
+use Rattle.std.specs.List.{list_any}
 use Rattle.lls_lit.specs.Formula.{Clause, Cnf}
 use Rattle.lls_base.specs.declared.memory.Memory.{Memory}
 use Rattle.lls_prooflog.specs.UnitWalk.{Live, numbered}
 use Rattle.lls_prooflog.specs.declared.step.Step.{Step}
 use Rattle.lls_prooflog.specs.declared.step.Step.TheVariants.{Add}
-use Rattle.lls_prooflog.specs.Spent.{AddsByPropagation, AddsFresh, is_addition, live_after}
+use Rattle.lls_prooflog.specs.Spent.{AddsByPropagation, AddsFresh, live_after}
 use Rattle.lls_solver.specs.declared.solving.TheConstants.{MOST_BUDGET}
 use Rattle.lls_solver.specs.declared.outcome.Outcome.{Outcome}
-use Rattle.lls_solver.specs.Searching.{SearcherState, additions, ids_of, IsLogWithin, IsOutcome, KeepsAll}
-use Rattle.lls_solver.specs.Sharing.{HoldsFirst, IsBehind}
+use Rattle.lls_solver.specs.Deletion.{ids_left}
+use Rattle.lls_solver.specs.Searching.{SearcherState, additions, ids_of, IsLogWithin, IsOutcome, KeepsAll, LearnsOne}
+use Rattle.lls_solver.specs.Sharing.{AreLiveSteps, HoldsFirst, IsBehind}
+use Rattle.lls_crew.specs.Forgetting.{MayDelete, deletion_of, ids_in}
 use Rattle.lls_crew.specs.Turns.{EndsBy}
 use Rattle.lls_crew.specs.declared.stage.Stage.{Stage}
 use Rattle.lls_crew.specs.declared.stage.Stage.TheVariants.{Going, Ended, Failed}
@@ -51,8 +53,8 @@ answer_of Going = Ok turned.Going
 answer_of (Ended outcome) = Ok turned.Ended
 answer_of Failed = Err (record {})
 
--- searcher k learnt a clause: an addition that is good by unit propagation and fresh against all clauses that were live. Now it holds all that
--- are live, and the others hold what they held
+-- searcher k learnt a clause: an addition that is good by unit propagation and fresh against all clauses that were live. Perhaps some additions were
+-- deleted then, in one step. Now searcher k holds all that are live, and the others what they held without what was deleted
 pub record Learns (old new : CrewState) (k : ℕ) : Type 0 where
   pub going : old.stage ≡ Going
   pub few : additions old.steps < old.budget
@@ -61,16 +63,18 @@ pub record Learns (old new : CrewState) (k : ℕ) : Type 0 where
   pub hints : List ℤ
   pub good : AddsByPropagation (live_of old) id lits hints
   pub fresh : AddsFresh old.formula.vars (live_of old) lits
-  pub learnt : new ≡ record old { steps = old.steps ++ Add id lits hints ∷ []; held = slice_set old.held k (ids_of (live_of new)) }
+  pub deleted : List ℕ
+  pub may : MayDelete old.formula old.keep_all (old.steps ++ Add id lits hints ∷ []) deleted
+  pub learnt : new ≡ record old { steps = old.steps ++ Add id lits hints ∷ deletion_of deleted; held = slice_set (map (ids_left deleted) old.held) k (ids_of (live_of new)) }
 
 -- searcher k's turn was the last. Where it came to an outcome, it holds all clauses that were live, and the log got the empty clause or nothing; where
--- memory was wanted, the log is as it was. The others hold what they held
+-- memory was wanted, the log got nothing, or the clause that was learnt. The others hold what they held
 pub record Stops (old new : CrewState) (k : ℕ) : Type 0 where
   pub more : List Step
   pub ids : List ℕ
   pub ended : (outcome : Outcome) → new.stage ≡ Ended outcome → ids ≡ ids_of (live_of old)
   pub added : (outcome : Outcome) → new.stage ≡ Ended outcome → EndsBy outcome old.steps new.steps
-  pub failed : new.stage ≡ Failed → more ≡ []
+  pub failed : new.stage ≡ Failed → (new.steps ≡ old.steps) ⊎ LearnsOne old.formula old.steps new.steps
   pub stopped : new ≡ record old { steps = old.steps ++ more; held = slice_set old.held k ids; stage = new.stage }
 
 -- the log is right for how far the crew has come
@@ -89,10 +93,6 @@ pub record IsCrew (crew : CrewState) : Type 0 where
   pub first : All (AreFirst crew.formula (live_of crew)) crew.held
   pub log : IsLogAt crew.formula crew.budget crew.keep_all crew.steps crew.stage
 
--- the ids of the clauses that a searcher holds
-abbrev pub ids_in : SearcherState → List ℕ
-ids_in searcher = map (λ clause. clause.id) searcher.store.live
-
 -- what is seen of searchers and their log
 abbrev pub crew_of : Cnf → ℕ → Bool → List SearcherState → List Step → Stage → CrewState
 crew_of formula budget keep_all searchers steps stage = record {
@@ -104,10 +104,10 @@ crew_of formula budget keep_all searchers steps stage = record {
   stage = stage;
 }
 
--- the same of the searchers themselves, which can go on while the crew does
-pub record IsCrewOf (formula : Cnf) (budget : ℕ) (keep_all : Bool) (searchers : List SearcherState) (steps : List Step) (stage : Stage) : Type 0 where
+-- the same of the searchers themselves, which can go on while the crew does, and the numbers of the steps whose additions are live
+pub record IsCrewOf (formula : Cnf) (budget : ℕ) (keep_all : Bool) (searchers : List SearcherState) (steps : List Step) (live : List ℕ) (stage : Stage) : Type 0 where
   pub first : All (λ s. HoldsFirst formula steps s.store.live) searchers
   pub behind : stage ≡ Going → All (λ s. IsBehind formula steps s.store s.trail) searchers
-  pub additions : list_all is_addition steps ≡ true
+  pub live_steps : stage ≡ Going → AreLiveSteps formula steps live
   pub budget_fits : budget ≤ MOST_BUDGET
   pub log : IsLogAt formula budget keep_all steps stage

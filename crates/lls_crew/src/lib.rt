@@ -1,6 +1,7 @@
 //! Several searchers that take turns over one log: what one of them learns is there for the others, whichever order the turns have.
 #![tactic(auto)]
 
+mod forgetting;
 mod searchers;
 mod searching;
 mod stage;

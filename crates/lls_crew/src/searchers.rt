@@ -2,6 +2,7 @@
 ghost use Rattle.std.specs.Prelude.{◌≡◌, ◌≢◌, ◌<◌, ◌≤◌, Ok, IfOk, IfNone, IfSome, length};
 ghost use Rattle.lls_solver.specs.Searching.{IsOutcome};
 
+use crate::forgetting::forget;
 use crate::stage::Stage;
 use crate::starting::new_searchers;
 use crate::taking::take_turn;
@@ -26,12 +27,14 @@ pub enum Turned {
 }
 
 /// Searchers of one formula that take turns, in any order. Each adds the clauses that it learns to one log, and before it goes on,
-/// those of the log that it lacks to its own.
+/// those of the log that it lacks to its own. Now and then a clause that is no searcher's reason goes, out of all that hold it.
 #[derive(Drop)]
 pub struct Crew<'f> {
     formula: &'f Formula,
     searchers: Vec<Searcher<WatchStore>>,
     log: Log,
+    /// The numbers of the log's steps whose additions are live.
+    live: Vec<usize>,
     budget: u32,
     keep_all: bool,
     stage: Stage,
@@ -46,7 +49,7 @@ impl<'f> Model for Crew<'f> {
 
     ghost view = { λ c. crew_of c.formula.now c.budget c.keep_all c.searchers.items c.log.steps c.stage };
 
-    ghost invariant = { λ c. IsCrewOf c.formula.now c.budget c.keep_all c.searchers.items c.log.steps c.stage };
+    ghost invariant = { λ c. IsCrewOf c.formula.now c.budget c.keep_all c.searchers.items c.log.steps c.live.items c.stage };
 }
 
 impl<'f> Crew<'f> {
@@ -69,14 +72,15 @@ impl<'f> Crew<'f> {
             formula,
             searchers: new_searchers(alloc, formula, searchers)?,
             log: Log::new(alloc),
+            live: Vec::new(alloc),
             budget,
             keep_all,
             stage: Stage::Going,
         })
     }
 
-    /// A turn of the searcher of that number. After one that answers `Ended` each turn does, and changes nothing; so it is with
-    /// one that answers `Memory`.
+    /// A turn of the searcher of that number. Where it learns a clause, and not all is to be kept, it may delete some. After one that
+    /// answers `Ended` each turn does, and changes nothing; so it is with one that answers `Memory`.
     pub fn turn(&mut self, alloc: Global, k: u32) -> Result<Turned, Memory>
         requires { k < length self.old.held }
         ensures going { result ≡ Ok Turned.Going → Learns self.old self.new k }
@@ -92,12 +96,34 @@ impl<'f> Crew<'f> {
             Stage::Failed => return Err(Memory),
         }
         let searcher = &mut self.searchers[k as usize];
-        match take_turn(alloc, self.formula, searcher, &mut self.log, self.budget) {
-            Ok(None) => Ok(Turned::Going),
+        match take_turn(
+            alloc,
+            self.formula,
+            searcher,
+            &mut self.log,
+            &mut self.live,
+            self.budget,
+        ) {
+            Ok(None) => {}
             Ok(Some(outcome)) => {
                 self.stage = Stage::Ended(outcome);
-                Ok(Turned::Ended)
+                return Ok(Turned::Ended);
             }
+            Err(memory) => {
+                self.stage = Stage::Failed;
+                return Err(memory);
+            }
+        }
+        match forget(
+            alloc,
+            self.formula,
+            &mut self.searchers,
+            k as usize,
+            &mut self.log,
+            &mut self.live,
+            self.keep_all,
+        ) {
+            Ok(()) => Ok(Turned::Going),
             Err(memory) => {
                 self.stage = Stage::Failed;
                 Err(memory)

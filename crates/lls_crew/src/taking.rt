@@ -1,10 +1,9 @@
 // A turn of one searcher.
-ghost use Rattle.std.specs.Prelude.{◌≡◌, ◌≤◌, Bool, None, Some, Ok, OnErr, true};
-ghost use Rattle.std.specs.List.{list_all};
-ghost use Rattle.lls_prooflog.specs.Spent.{is_addition, live_after};
+ghost use Rattle.std.specs.Prelude.{◌≡◌, ◌≤◌, Bool, None, Some, Ok, OnErr};
+ghost use Rattle.lls_prooflog.specs.Spent.{live_after};
 ghost use Rattle.lls_analyse.specs.Spelled.{Spells};
-ghost use Rattle.lls_solver.specs.Searching.{HasLearnt, IsLogWithin, IsOutcome, IsSearching};
-ghost use Rattle.lls_solver.specs.Sharing.{HoldsFirst, IsBehind};
+ghost use Rattle.lls_solver.specs.Searching.{HasLearnt, IsLogWithin, IsOutcome, IsSearching, KeepsAll};
+ghost use Rattle.lls_solver.specs.Sharing.{AreLiveSteps, HoldsFirst, IsBehind};
 ghost use Rattle.lls_crew.specs.Turns.{EndsBy, IsGrown};
 
 use lls_base::Memory;
@@ -15,28 +14,38 @@ use lls_watch::WatchStore;
 use std::alloc::Global;
 
 /// Has a searcher add the clauses that others learnt, and go on until it learns another one or comes to an outcome. None where it
-/// learnt one.
+/// learnt one. The steps of the numbers `live` are the additions that are live, and so is the new one then.
 pub(crate) fn take_turn(
     alloc: Global,
     formula: &Formula,
     searcher: &mut Searcher<WatchStore>,
     log: &mut Log,
+    live: &mut Vec<usize>,
     budget: u32,
 ) -> Result<Option<Outcome>, Memory>
     requires behind { IsBehind formula.now log.old.steps searcher.old.store searcher.old.trail }
     requires within { IsLogWithin formula.now budget log.old.steps }
-    requires additions { list_all is_addition log.old.steps ≡ true }
+    requires live { AreLiveSteps formula.now log.old.steps live.old.items }
     requires budget { budget ≤ MOST_BUDGET }
     ensures learnt { result ≡ Ok None → HasLearnt formula.now budget log.old.steps log.new.steps searcher.new }
-    ensures ended { (outcome : Outcome) (keep_all : Bool) → result ≡ Ok (Some outcome) → IsOutcome formula.now budget keep_all log.new.steps (Ok outcome) }
+    ensures live { result ≡ Ok None → AreLiveSteps formula.now log.new.steps live.new.items }
+    ensures ended { (outcome : Outcome) (keep_all : Bool) → KeepsAll keep_all log.old.steps → result ≡ Ok (Some outcome) → IsOutcome formula.now budget keep_all log.new.steps (Ok outcome) }
     ensures whole { (outcome : Outcome) → result ≡ Ok (Some outcome) → Spells searcher.new.store.live (live_after formula.now log.old.steps) }
     ensures added { (outcome : Outcome) → result ≡ Ok (Some outcome) → EndsBy outcome log.old.steps log.new.steps }
     ensures grown { IsGrown log.old.steps log.new.steps }
     ensures first { HoldsFirst formula.now log.new.steps searcher.new.store.live }
     ensures err { OnErr result (log.new.steps ≡ log.old.steps) }
 {
-    searcher.catch_up(formula, log)?;
-    go_on(alloc, formula, searcher, log, budget)
+    live.reserve(1)?;
+    searcher.catch_up(formula, log, live)?;
+    let next = log.len();
+    match go_on(alloc, formula, searcher, log, budget)? {
+        None => {
+            live.push_reserved(next);
+            Ok(None)
+        }
+        Some(outcome) => Ok(Some(outcome)),
+    }
 }
 
 // Has a searcher that lacks no clause go on until it learns another one or comes to an outcome.
@@ -49,10 +58,9 @@ fn go_on(
 ) -> Result<Option<Outcome>, Memory>
     requires searching { IsSearching formula.now log.old.steps searcher.old.store searcher.old.trail }
     requires within { IsLogWithin formula.now budget log.old.steps }
-    requires additions { list_all is_addition log.old.steps ≡ true }
     requires budget { budget ≤ MOST_BUDGET }
     ensures learnt { result ≡ Ok None → HasLearnt formula.now budget log.old.steps log.new.steps searcher.new }
-    ensures ended { (outcome : Outcome) (keep_all : Bool) → result ≡ Ok (Some outcome) → IsOutcome formula.now budget keep_all log.new.steps (Ok outcome) }
+    ensures ended { (outcome : Outcome) (keep_all : Bool) → KeepsAll keep_all log.old.steps → result ≡ Ok (Some outcome) → IsOutcome formula.now budget keep_all log.new.steps (Ok outcome) }
     ensures whole { (outcome : Outcome) → result ≡ Ok (Some outcome) → Spells searcher.new.store.live (live_after formula.now log.old.steps) }
     ensures added { (outcome : Outcome) → result ≡ Ok (Some outcome) → EndsBy outcome log.old.steps log.new.steps }
     ensures grown { IsGrown log.old.steps log.new.steps }

@@ -47,7 +47,7 @@ pub ascending_push : (least : ℕ) (ids : List ℕ) (bound : ℕ) → AreAscendi
 ascending_push least [] bound h = (h, omega arith)
 ascending_push least (id ∷ ids) bound h = (h.0, ascending_push (id + 1) ids bound h.1)
 
-ascending_many : (least : ℕ) (ids : List ℕ) (bound : ℕ) → AreAscending least ids bound → least + length ids ≤ bound
+pub ascending_many : (least : ℕ) (ids : List ℕ) (bound : ℕ) → AreAscending least ids bound → least + length ids ≤ bound
 ascending_many least [] bound h = omega (arith, h)
 ascending_many least (id ∷ ids) bound h = omega (arith, h.0, ascending_many (id + 1) ids bound h.1)
 

@@ -29,16 +29,17 @@ use Rattle.lls_store.proofs.Live.{clause_numbered-contained}
 use Rattle.lls_analyse.specs.Spelled.{Spells}
 use Rattle.lls_order.specs.Order.{OrderState}
 use Rattle.lls_solver.specs.Course.{AreClosedBelow, AreWaiting}
-use Rattle.lls_solver.specs.Deletion.{added_after, AreAllLive, is_marked, ids_marked, marked_of, without_marked, IsLate, MayGo}
+use Rattle.lls_solver.specs.Deletion.{AreAllLive, is_marked, ids_marked, marked_of, without_marked, IsLate, MayGo}
 use Rattle.lls_solver.specs.Searching.{additions, ids_of, AreAscending, AreNumberedFrom, HoldsClauses, IsGoodLog, IsSearching}
+use Rattle.lls_solver.specs.Sharing.{added_after}
 use Rattle.lls_solver.proofs.Logs.{additions-cons, each_push, found_added, live_after-push, live_parts}
 
 -- whether the id is one of these
-abbrev is_named : List ℕ → ℕ → Bool
+abbrev pub is_named : List ℕ → ℕ → Bool
 is_named ids id = list_any (λ i. i == id) ids
 
 -- the clauses without the marked ones
-abbrev kept_of : List Bool → List LiveClause → List LiveClause
+abbrev pub kept_of : List Bool → List LiveClause → List LiveClause
 kept_of marks live = filter (λ clause. not (is_marked marks clause.number)) live
 
 there : {X : Type 0} (x y : X) (xs : List X) → Contains xs y → Contains (x ∷ xs) y
@@ -88,16 +89,20 @@ same_number live x y apart (i, in_x, is_x) (j, in_y, is_y) same =
       | inr (inr more) ↦ absurd (apart j i x more in_x (ap id at_y ∙ sym same ∙ sym (ap id is_x)))
     ]
 
--- a live clause stays exactly where its id isn't named
-stays : (live : List LiveClause) (marks : List Bool) (clause : LiveClause) → AllPairs (λ (a b : LiveClause). a.id ≢ b.id) live → Contains live clause → not (is_marked marks clause.number) ≡ not (is_named (ids_marked marks live) clause.id)
-stays live marks clause apart contains =
-    elim (is_marked marks clause.number) as (λ b. is_marked marks clause.number ≡ b → not b ≡ not (is_named (ids_marked marks live) clause.id)) [
-      | true ↦ λ is. ap not (sym (named live marks clause contains is))
-      | false ↦ λ is. ap not (sym (unnamed live marks clause.id (λ x in_live same. ap (is_marked marks) (same_number live x clause apart in_live contains same) ∙ is)))
+-- a live clause is marked exactly where its id is named
+pub marked_named : (live : List LiveClause) (marks : List Bool) (clause : LiveClause) → AllPairs (λ (a b : LiveClause). a.id ≢ b.id) live → Contains live clause → is_marked marks clause.number ≡ is_named (ids_marked marks live) clause.id
+marked_named live marks clause apart contains =
+    elim (is_marked marks clause.number) as (λ b. is_marked marks clause.number ≡ b → b ≡ is_named (ids_marked marks live) clause.id) [
+      | true ↦ λ is. sym (named live marks clause contains is)
+      | false ↦ λ is. sym (unnamed live marks clause.id (λ x in_live same. ap (is_marked marks) (same_number live x clause apart in_live contains same) ∙ is))
     ] refl
 
+-- so it stays exactly where it isn't
+stays : (live : List LiveClause) (marks : List Bool) (clause : LiveClause) → AllPairs (λ (a b : LiveClause). a.id ≢ b.id) live → Contains live clause → not (is_marked marks clause.number) ≡ not (is_named (ids_marked marks live) clause.id)
+stays live marks clause apart contains = ap not (marked_named live marks clause apart contains)
+
 -- what is kept of both by one test is spelled still
-spells_filter : (live : List LiveClause) (pairs : Live) (keep : LiveClause → Bool) (keeps : ℕ → Bool) → ((clause : LiveClause) → Contains live clause → keep clause ≡ keeps clause.id) → Spells live pairs → Spells (filter keep live) (filter (λ (pair : ℕ × Clause). keeps pair.0) pairs)
+pub spells_filter : (live : List LiveClause) (pairs : Live) (keep : LiveClause → Bool) (keeps : ℕ → Bool) → ((clause : LiveClause) → Contains live clause → keep clause ≡ keeps clause.id) → Spells live pairs → Spells (filter keep live) (filter (λ (pair : ℕ × Clause). keeps pair.0) pairs)
 spells_filter [] [] keep keeps same h = tt
 spells_filter [] (pair ∷ pairs) keep keeps same h = absurd h
 spells_filter (clause ∷ live) [] keep keeps same h = absurd h
@@ -110,7 +115,7 @@ spells_filter (clause ∷ live) (pair ∷ pairs) keep keeps same h =
       | false ↦ rest
     ])
 
-spells_renumbered : (all live : List LiveClause) (pairs : Live) → Spells live pairs → Spells (map (renumbered all) live) pairs
+pub spells_renumbered : (all live : List LiveClause) (pairs : Live) → Spells live pairs → Spells (map (renumbered all) live) pairs
 spells_renumbered all [] [] h = tt
 spells_renumbered all [] (pair ∷ pairs) h = absurd h
 spells_renumbered all (clause ∷ live) [] h = absurd h
@@ -177,7 +182,7 @@ settled_renamed live es lits (two_left l m in_l in_m apart l_left m_left) =
     two_left l m in_l in_m apart (λ negated. l_left (sym (has_renamed live es (negation l)) ∙ negated)) (λ negated. m_left (sym (has_renamed live es (negation m)) ∙ negated))
 
 -- propagation had nothing to do below each level, and has none with clauses fewer
-closed_below_forgotten : (live all : List LiveClause) (keep : LiveClause → Bool) (trail : TrailState) → AreClosedBelow live trail → AreClosedBelow (map (renumbered all) (filter keep live)) (renamed all trail)
+pub closed_below_forgotten : (live all : List LiveClause) (keep : LiveClause → Bool) (trail : TrailState) → AreClosedBelow live trail → AreClosedBelow (map (renumbered all) (filter keep live)) (renamed all trail)
 closed_below_forgotten live all keep trail closed level least most =
     let below = entries_below level trail.entries in
     let P : LiveClause → Type 0 = λ clause. IsSettled (entries_below level (map (renamed_entry all) trail.entries)) clause.lits in
@@ -185,7 +190,7 @@ closed_below_forgotten live all keep trail closed level least most =
     let kept : All P (map (renumbered all) (filter keep live)) = All-map P (renumbered all) (filter keep live) (All-filter keep P live each) in
     λ clause contains. All-contains P (map (renumbered all) (filter keep live)) clause kept contains
 
-additions-deleted : (steps : List Step) (ids : List ℕ) → additions (steps ++ Del ids ∷ []) ≡ additions steps
+pub additions-deleted : (steps : List Step) (ids : List ℕ) → additions (steps ++ Del ids ∷ []) ≡ additions steps
 additions-deleted steps ids = sum_by-append (λ s. cond (is_addition s) 1 0) steps (Del ids ∷ []) ∙ omega arith
 
 numbered_deleted : (n : ℕ) (steps : List Step) (ids : List ℕ) → AreNumberedFrom n steps → AreNumberedFrom n (steps ++ Del ids ∷ [])
@@ -214,19 +219,19 @@ spells_found (x ∷ xs) (pair ∷ pairs) clause h (suc k, lt, same) =
     elim (pair.0 == clause.id) as (λ b. is_some (cond b (Some pair.1) (find_clause pairs clause.id)) ≡ true) [ true ↦ refl | false ↦ rest ]
 
 -- a marked clause was learnt
-learnt_marked : (live : List LiveClause) (entries : List Entry) (last : ℕ) (marks : List Bool) (clause : LiveClause) → AllPairs (λ (a b : LiveClause). a.number < b.number) live → ((c : ℕ) → is_marked marks c ≡ true → MayGo live entries last c) → Contains live clause → is_marked marks clause.number ≡ true → last < clause.id
-learnt_marked live entries last marks clause rising may contains is =
+learnt_marked : (live : List LiveClause) (reasons : List Bool) (last : ℕ) (marks : List Bool) (clause : LiveClause) → AllPairs (λ (a b : LiveClause). a.number < b.number) live → ((c : ℕ) → is_marked marks c ≡ true → MayGo live reasons last c) → Contains live clause → is_marked marks clause.number ≡ true → last < clause.id
+learnt_marked live reasons last marks clause rising may contains is =
     let goes = may clause.number is in
     let same : goes.clause ≡ clause = same_Some goes.clause clause (sym goes.is_live ∙ clause_numbered-contained live clause rising contains) in
     subst (λ (c : LiveClause). last < c.id) same goes.learnt
 
-pub good_forgotten : (formula : Cnf) (steps : List Step) (store : StoreState) (entries : List Entry) (marks : List Bool) (last : ℕ) → AreLive store → HoldsClauses store formula.vars (live_after formula steps) last → IsGoodLog formula steps → IsLate formula steps
-    → ((c : ℕ) → is_marked marks c ≡ true → MayGo store.live entries (length formula.clauses) c) → IsGoodLog formula (steps ++ Del (ids_marked marks store.live) ∷ [])
-good_forgotten formula steps store entries marks last live holds log late may =
+pub good_forgotten : (formula : Cnf) (steps : List Step) (store : StoreState) (reasons marks : List Bool) (last : ℕ) → AreLive store → HoldsClauses store formula.vars (live_after formula steps) last → IsGoodLog formula steps → IsLate formula steps
+    → ((c : ℕ) → is_marked marks c ≡ true → MayGo store.live reasons (length formula.clauses) c) → IsGoodLog formula (steps ++ Del (ids_marked marks store.live) ∷ [])
+good_forgotten formula steps store reasons marks last live holds log late may =
     let ids = ids_marked marks store.live in
     let state = fold log_after (log_start formula) steps in
     let added : list_all (λ id. is_some (find_clause state.added id)) ids ≡ true = all_marked store.live marks (λ id. is_some (find_clause state.added id)) (λ clause contains is.
-    found_added formula steps clause.id log (learnt_marked store.live entries (length formula.clauses) marks clause live.numbers may contains is) (spells_found store.live (live_after formula steps) clause holds.spelled contains)) in
+    found_added formula steps clause.id log (learnt_marked store.live reasons (length formula.clauses) marks clause live.numbers may contains is) (spells_found store.live (live_after formula steps) clause holds.spelled contains)) in
     record {
       numbered_on = numbered_deleted (length formula.clauses + 1) steps ids log.numbered_on;
       good = each_push IsGood (log_start formula) steps (Del ids) log.good tt;
@@ -273,11 +278,11 @@ late_exactly formula steps learnt many adds learnt_is many_is adds_is least =
     )
 
 -- a search goes on over the clauses that are left
-pub searching_forgotten : (formula : Cnf) (steps : List Step) (store : StoreState) (trail : TrailState) (marks : List Bool) → AreLive store → IsSearching formula steps store trail → IsLate formula steps
-    → ((c : ℕ) → is_marked marks c ≡ true → MayGo store.live trail.entries (length formula.clauses) c)
+pub searching_forgotten : (formula : Cnf) (steps : List Step) (store : StoreState) (trail : TrailState) (reasons marks : List Bool) → AreLive store → IsSearching formula steps store trail → IsLate formula steps
+    → ((c : ℕ) → is_marked marks c ≡ true → MayGo store.live reasons (length formula.clauses) c)
     → IsSound (compacted (without_marked store marks)).live (renamed (without_marked store marks).live trail)
     → IsSearching formula (steps ++ Del (ids_marked marks store.live) ∷ []) (compacted (without_marked store marks)) (renamed (without_marked store marks).live trail)
-searching_forgotten formula steps store trail marks live h late may sound =
+searching_forgotten formula steps store trail reasons marks live h late may sound =
     let ids = ids_marked marks store.live in
     let new = compacted (without_marked store marks) in
     let last = length formula.clauses + additions steps in
@@ -285,7 +290,7 @@ searching_forgotten formula steps store trail marks live h late may sound =
     record {
       holds = subst (λ n. HoldsClauses new formula.vars (live_after formula (steps ++ Del ids ∷ [])) n) (ap (λ n. length formula.clauses + n) (sym (additions-deleted steps ids)))
           (subst (λ (ps : Live). HoldsClauses new formula.vars ps last) (sym (live_after-push formula steps (Del ids))) holds);
-      log = good_forgotten formula steps store trail.entries marks last live h.holds h.log late may;
+      log = good_forgotten formula steps store reasons marks last live h.holds h.log late may;
       on_course = record {
         sound = sound;
         closed_below = closed_below_forgotten store.live (without_marked store marks).live (λ clause. not (is_marked marks clause.number)) trail h.on_course.closed_below;

@@ -12,5 +12,6 @@ mod Ids
 mod Unlearnt
 pub mod Start
 pub mod Outcomes
-mod Forgotten
-mod Marks
+pub mod Forgotten
+pub mod ForgottenTogether
+pub mod Marks

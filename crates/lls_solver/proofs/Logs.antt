@@ -21,7 +21,7 @@ use Rattle.lls_analyse.specs.Spelled.{Spells}
 use Rattle.lls_solver.specs.Searching.{additions, AreNumberedFrom, HoldsClauses, HoldsFormula, IsGoodLog, IsRefutation, IsExhausted, KeepsAll}
 use Rattle.lls_solver.proofs.Clauses.{holds_sealed}
 
-fold-push : {X S : Type 0} (f : S → X → S) (s : S) (xs : List X) (x : X) → fold f s (xs ++ x ∷ []) ≡ f (fold f s xs) x
+pub fold-push : {X S : Type 0} (f : S → X → S) (s : S) (xs : List X) (x : X) → fold f s (xs ++ x ∷ []) ≡ f (fold f s xs) x
 fold-push f s [] x = refl
 fold-push f s (y ∷ ys) x = fold-push f (f s y) ys x
 

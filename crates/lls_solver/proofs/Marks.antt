@@ -14,18 +14,32 @@ use Rattle.lls_store.specs.Trail.{Entry, IsTrail, TrailState, literals_of, reaso
 use Rattle.lls_store.specs.Clauses.{LiveClause, clause_numbered}
 use Rattle.lls_store.specs.Store.{StoreState, AreLive}
 use Rattle.lls_store.specs.Removal.{IsNoReason, without_clause}
-use Rattle.lls_store.proofs.Live.{clause_numbered-contained}
+use Rattle.lls_store.specs.Sound.{IsSound}
+use Rattle.lls_store.proofs.Live.{clause_numbered-contained, number_given}
+use Rattle.lls_store.proofs.ReasonFound.{reason_found}
 use Rattle.lls_solver.specs.declared.deletion.Candidate.{Candidate}
 use Rattle.lls_solver.proofs.Levels.{is_read, reason_read}
-use Rattle.lls_solver.specs.Deletion.{is_marked, ids_marked, without_marked, AreAllLive, MayGo}
+use Rattle.lls_solver.specs.Deletion.{is_marked, ids_marked, without_marked, AreAllLive, HasReasons, MayGo}
 
 -- a clause that was looked at
-pub may_go_from : (live : List LiveClause) (entries : List Entry) (last c id : ℕ) → is_some (clause_numbered live c) ≡ true → IfSome (clause_numbered live c) (λ clause. id ≡ clause.id) → last < id → IsNoReason entries c → MayGo live entries last c
-may_go_from live entries last c id is_live of_id lt none =
-    elim (clause_numbered live c) as (λ o. clause_numbered live c ≡ o → is_some o ≡ true → IfSome o (λ clause. id ≡ clause.id) → MayGo live entries last c) [
-      | Some clause ↦ λ is _ same. record { clause = clause; is_live = is; learnt = subst (λ n. last < n) same lt; no_reason = none }
+pub may_go_from : (live : List LiveClause) (reasons : List Bool) (last c id : ℕ) → is_some (clause_numbered live c) ≡ true → IfSome (clause_numbered live c) (λ clause. id ≡ clause.id) → last < id → is_marked reasons c ≡ false → MayGo live reasons last c
+may_go_from live reasons last c id is_live of_id lt unmarked =
+    elim (clause_numbered live c) as (λ o. clause_numbered live c ≡ o → is_some o ≡ true → IfSome o (λ clause. id ≡ clause.id) → MayGo live reasons last c) [
+      | Some clause ↦ λ is _ same. record { clause = clause; is_live = is; learnt = subst (λ n. last < n) same lt; unmarked = unmarked }
       | None ↦ λ _ some _. absurd cc
     ] refl is_live of_id
+
+-- a reason is the number of a live clause, which was given
+pub reason_given : (store : StoreState) (trail : TrailState) (v reason : ℕ) → AreLive store → IsSound store.live trail → reason_of trail.entries v ≡ Some reason → reason < store.count
+reason_given store trail v reason live sound is =
+    let found = reason_found store.live trail v reason sound is in
+    number_given store reason found.forced.clause live found.forced.is_live
+
+-- a clause that may go is no reason that was marked
+pub no_reason_goes : (store : StoreState) (entries : List Entry) (reasons : List Bool) (last c : ℕ) → AreLive store → length reasons ≡ store.count → HasReasons entries reasons → MayGo store.live reasons last c → IsNoReason entries c
+no_reason_goes store entries reasons last c live each has goes =
+    let given : c < store.count = number_given store c goes.clause live goes.is_live in
+    has c (omega (arith, given, each)) goes.unmarked
 
 -- one more mark
 pub marked_more : (marks : List Bool) (n c : ℕ) → n < length marks → is_marked (slice_set marks n true) c ≡ false → (c ≢ n) × (is_marked marks c ≡ false)
@@ -34,6 +48,13 @@ marked_more marks n c lt is = (apart, sym (get_or-set_other marks n c true false
   apart same = clash (sym (ap (λ k. is_marked (slice_set marks n true) k) same ∙ get_or-set_same marks n true false lt) ∙ is) where
     clash : true ≡ false → ⊥
     clash e = absurd cc
+
+-- which leaves the others
+pub marked_still : (marks : List Bool) (n c : ℕ) → n < length marks → is_marked marks c ≡ true → is_marked (slice_set marks n true) c ≡ true
+marked_still marks n c lt is = elim (eqb_tells c n) [
+  | inl t ↦ ap (is_marked (slice_set marks n true)) t.1 ∙ get_or-set_same marks n true false lt
+  | inr t ↦ get_or-set_other marks n c true false t.1 ∙ is
+]
 
 -- a clause that is marked then was marked before, or is that one
 pub marked_cases : (marks : List Bool) (n c : ℕ) → is_marked (slice_set marks n true) c ≡ true → (c ≡ n) ⊎ (is_marked marks c ≡ true)
@@ -95,10 +116,7 @@ candidates_more xs k d marks lt fits before =
       IsMarked x = is_marked (slice_set marks n true) x.number ≡ true
 
       still : (x : Candidate) → is_marked marks x.number ≡ true → IsMarked x
-      still x is = elim (eqb_tells x.number n) [
-        | inl t ↦ ap (is_marked (slice_set marks n true)) t.1 ∙ get_or-set_same marks n true false fits
-        | inr t ↦ get_or-set_other marks n x.number true false t.1 ∙ is
-      ]
+      still x is = marked_still marks n x.number fits is
 
 -- what holds of all holds of the first half of them in another order
 pub half_may_go : (P : Candidate → Type 0) (xs sorted half : List Candidate) (n : ℕ) → All P xs → IsPermutation xs sorted → half ≡ take n sorted → All P half
@@ -141,6 +159,18 @@ number_at store k d live all lt = omega (arith, least, gap, last, end) where
 
   end : store.count ≡ k + j + 1
   end = all ∙ whole
+
+-- so there is a live clause of each number that was given
+pub live_at : (store : StoreState) (c : ℕ) → AreLive store → AreAllLive store → c < store.count → IsSome (clause_numbered store.live c)
+live_at store c live all lt =
+    let within : c < length store.live = omega (arith, all, lt) in
+    let x = get_or store.live c blank in
+    let at : get_or store.live c x ≡ x = get_or_default store.live c x blank within in
+    let number : x.number ≡ c = number_at store c blank live all within in
+    let found : clause_numbered store.live c ≡ Some x = ap (clause_numbered store.live) (sym number) ∙ clause_numbered-contained store.live x live.numbers (c, within, at) in
+    subst (λ (o : Option LiveClause). IsSome o) (sym found) refl where
+      blank : LiveClause
+      blank = record { number = 0; id = 0; lits = finset.empty }
 
 -- the ids of the first clauses, and of the one behind them
 abbrev marked_next : List Bool → List LiveClause → ℕ → LiveClause → Bool → List ℕ

@@ -1,12 +1,11 @@
 -- Searchers over one log: the clauses that a store lacks, and the ids that it has.
-use Rattle.std.proofs.Common.{◌≡◌, ℕ, zero, suc, ◌+◌, ◌-◌, ◌≤◌, true, false, not, List, [], ◌∷◌, ◌++◌, length, length-append, map, take, Some, refl, sym, ap, subst, ◌∙◌, arith, append_assoc}
+use Rattle.std.proofs.Common.{◌≡◌, ℕ, zero, suc, ◌+◌, ◌-◌, ◌<◌, ◌≤◌, true, not, List, [], ◌∷◌, ◌++◌, length, length-append, get_or, map, take, Option, Some, None, refl, sym, ap, subst, ◌∙◌, arith, append_assoc}
 use Rattle.std.specs.Prelude.{ℤ, fold, slice_get, ◌==◌}
 use Rattle.std.specs.List.{list_any, list_all, enumerate_from}
-use Rattle.std.proofs.lemmas.Bool.{and_parts}
-use Rattle.std.proofs.lemmas.List.{append-nil, length-map, length-take, length-take-le, take-append-le, take-map, take_all}
+use Rattle.std.proofs.lemmas.List.{append-nil, get_or-map, length-map, length-take, length-take-le, take-append-le, take-map, take_all}
 use Rattle.std.proofs.lemmas.List.FromFn.{length-enumerate_from}
 use Rattle.std.proofs.lemmas.List.Sums.{fold-append}
-use Rattle.std.proofs.lemmas.Option.{slice_get-map, same_Some}
+use Rattle.std.proofs.lemmas.Option.{same_Some, slice_get-get_or, slice_get_within}
 use Rattle.lls_lit.specs.Formula.{Clause, Cnf, is_within}
 use Rattle.lls_prooflog.specs.UnitWalk.{Live, numbered}
 use Rattle.lls_prooflog.specs.Spent.{LogState, log_start, log_after, live_after, EachStep, IsFreshAddition, is_addition}
@@ -19,9 +18,9 @@ use Rattle.lls_store.specs.Sound.{IsSound}
 use Rattle.lls_store.specs.Store.{StoreState, IsNewId, with_clause}
 use Rattle.lls_analyse.specs.Spelled.{Spells}
 use Rattle.lls_solver.specs.Searching.{additions, ids_of, AreAscending, AreNumberedFrom, HoldsClauses, IsGoodLog, IsSearching}
-use Rattle.lls_solver.specs.Sharing.{HoldsFirst, IsBehind}
-use Rattle.lls_solver.proofs.Clauses.{ascending_below, ascending_push, next_id, spells_push}
-use Rattle.lls_solver.proofs.Forgotten.{ascending_filter, spells_length}
+use Rattle.lls_solver.specs.Sharing.{added_after, addition_at, addition_of, AreLiveSteps, HoldsFirst, IsBehind}
+use Rattle.lls_solver.proofs.Clauses.{ascending_below, ascending_many, ascending_push, next_id, spells_push}
+use Rattle.lls_solver.proofs.Forgotten.{ascending_filter, learnt_counted, spells_length}
 use Rattle.lls_solver.proofs.Logs.{additions-cons, live_parts}
 
 ascending_take : (k least : ℕ) (ids : List ℕ) (bound : ℕ) → AreAscending least ids bound → AreAscending least (take k ids) bound
@@ -81,18 +80,43 @@ added state [] all = sym (append-nil state.live)
 added state (Add id lits hints ∷ steps) all = added (log_after state (Add id lits hints)) steps all ∙ append_assoc state.live ((id, lits) ∷ []) (map pair_of steps)
 added state (Del ids ∷ steps) all = absurd cc
 
--- where nothing was deleted, the additions are live behind the formula's clauses
-live_all : (formula : Cnf) (steps : List Step) → list_all is_addition steps ≡ true → live_after formula steps ≡ numbered formula.clauses ++ map pair_of steps
-live_all formula steps all = added (log_start formula) steps all
+-- how many clauses are live
+pub length-live : (formula : Cnf) (steps : List Step) (numbers : List ℕ) → IsGoodLog formula steps → AreLiveSteps formula steps numbers → length (live_after formula steps) ≡ length formula.clauses + length numbers
+length-live formula steps numbers log live =
+    let pairs = added_after formula steps in
+    let many : length numbers ≡ length pairs = sym (length-map numbers (addition_at steps)) ∙ ap length live ∙ length-map pairs (λ (pair : ℕ × Clause). Some pair) in
+    learnt_counted formula steps log ∙ ap (λ n. length formula.clauses + n) (sym many)
 
-pub additions_all : (steps : List Step) → list_all is_addition steps ≡ true → additions steps ≡ length steps
-additions_all [] all = refl
-additions_all (Add id lits hints ∷ steps) all = omega (arith, additions-cons (Add id lits hints) steps, additions_all steps all)
-additions_all (Del ids ∷ steps) all = absurd cc
+-- no more additions are live than there are
+pub live_most : (formula : Cnf) (steps : List Step) (numbers : List ℕ) → IsGoodLog formula steps → AreLiveSteps formula steps numbers → length numbers ≤ additions steps
+live_most formula steps numbers log live =
+    let pairs = live_after formula steps in
+    omega (arith, length-live formula steps numbers log live, length-map pairs (λ (pair : ℕ × Clause). pair.0), ascending_many 1 (ids_of pairs) (length formula.clauses + additions steps + 1) (ascending_live formula steps log))
 
-pub length-live : (formula : Cnf) (steps : List Step) → list_all is_addition steps ≡ true → length (live_after formula steps) ≡ length formula.clauses + length steps
-length-live formula steps all =
-    ap length (live_all formula steps all) ∙ length-append (numbered formula.clauses) (map pair_of steps) ∙ ap (λ n. n + length (map pair_of steps)) (length-enumerate_from 1 formula.clauses) ∙ ap (λ n. length formula.clauses + n) (length-map steps pair_of)
+-- each of the numbers is one of an addition's step
+live_number : (formula : Cnf) (steps : List Step) (numbers : List ℕ) (k : ℕ) → AreLiveSteps formula steps numbers → k < length numbers → addition_at steps (get_or numbers k 0) ≡ Some (get_or (added_after formula steps) k (0, []))
+live_number formula steps numbers k live lt =
+    let pairs = added_after formula steps in
+    let some : ℕ × Clause → Option (ℕ × Clause) = λ pair. Some pair in
+    let many : length numbers ≡ length pairs = sym (length-map numbers (addition_at steps)) ∙ ap length live ∙ length-map pairs some in
+    sym (get_or-map (addition_at steps) numbers k 0 None lt) ∙ ap (λ (os : List (Option (ℕ × Clause))). get_or os k None) live ∙ get_or-map some pairs k (0, []) None (omega (arith, lt, many))
+
+added_within : (steps : List Step) (n : ℕ) (pair : ℕ × Clause) → addition_at steps n ≡ Some pair → n < length steps
+added_within steps n pair is = by_step (slice_get steps n) refl is where
+  by_step : (o : Option Step) → slice_get steps n ≡ o → addition_of o ≡ Some pair → n < length steps
+  by_step (Some step) at adds = slice_get_within steps n step at
+  by_step None none adds = absurd cc
+
+pub number_within : (formula : Cnf) (steps : List Step) (numbers : List ℕ) (k : ℕ) → AreLiveSteps formula steps numbers → k < length numbers → get_or numbers k 0 < length steps
+number_within formula steps numbers k live lt = added_within steps (get_or numbers k 0) (get_or (added_after formula steps) k (0, [])) (live_number formula steps numbers k live lt)
+
+-- so none is one of a deletion
+pub no_deletion : (formula : Cnf) (steps : List Step) (numbers : List ℕ) (k n : ℕ) (ids : List ℕ) → AreLiveSteps formula steps numbers → k < length numbers → n ≡ get_or numbers k 0 → slice_get steps n ≡ Some (Del ids) → ⊥
+no_deletion formula steps numbers k n ids live lt same is =
+    let adds = live_number formula steps numbers k live lt in
+    let none : addition_at steps (get_or numbers k 0) ≡ None = ap (addition_at steps) (sym same) ∙ ap addition_of is in
+    let clash : Some (get_or (added_after formula steps) k (0, [])) ≡ None = sym adds ∙ none in
+    absurd cc
 
 slice_get-behind : (front back : Live) (k : ℕ) → slice_get (front ++ back) (length front + k) ≡ slice_get back k
 slice_get-behind [] back k = let e : 0 + k ≡ k = omega arith in ap (slice_get back) e
@@ -101,12 +125,17 @@ slice_get-behind (pair ∷ front) back k =
     ap (slice_get (pair ∷ front ++ back)) e ∙ slice_get-behind front back k
 
 -- the addition of a step is live behind so many clauses of the formula
-live_at : (formula : Cnf) (steps : List Step) (k id : ℕ) (lits : Clause) (hints : List ℤ) → list_all is_addition steps ≡ true → slice_get steps k ≡ Some (Add id lits hints) → slice_get (live_after formula steps) (length formula.clauses + k) ≡ Some (id, lits)
-unfolding pair_of
-live_at formula steps k id lits hints all is =
+live_at : (formula : Cnf) (steps : List Step) (numbers : List ℕ) (k n id : ℕ) (lits : Clause) (hints : List ℤ) → IsGoodLog formula steps → AreLiveSteps formula steps numbers → k < length numbers → n ≡ get_or numbers k 0 → slice_get steps n ≡ Some (Add id lits hints)
+    → slice_get (live_after formula steps) (length formula.clauses + k) ≡ Some (id, lits)
+live_at formula steps numbers k n id lits hints log live lt same is =
+    let pairs = added_after formula steps in
+    let some : ℕ × Clause → Option (ℕ × Clause) = λ pair. Some pair in
+    let many : length numbers ≡ length pairs = sym (length-map numbers (addition_at steps)) ∙ ap length live ∙ length-map pairs some in
+    let adds : addition_at steps (get_or numbers k 0) ≡ Some (id, lits) = ap (addition_at steps) (sym same) ∙ ap addition_of is in
+    let pair : get_or pairs k (0, []) ≡ (id, lits) = same_Some (get_or pairs k (0, [])) (id, lits) (sym (live_number formula steps numbers k live lt) ∙ adds) in
     let front : length (numbered formula.clauses) ≡ length formula.clauses = length-enumerate_from 1 formula.clauses in
-    ap (λ (pairs : Live). slice_get pairs (length formula.clauses + k)) (live_all formula steps all) ∙ ap (λ n. slice_get (numbered formula.clauses ++ map pair_of steps) (n + k)) (sym front)
-    ∙ slice_get-behind (numbered formula.clauses) (map pair_of steps) k ∙ slice_get-map pair_of steps k ∙ rw is refl
+    ap (λ (ps : Live). slice_get ps (length formula.clauses + k)) (live_parts formula steps log) ∙ ap (λ n. slice_get (numbered formula.clauses ++ pairs) (n + k)) (sym front)
+    ∙ slice_get-behind (numbered formula.clauses) pairs k ∙ slice_get-get_or pairs k (0, []) (omega (arith, lt, many)) ∙ ap some pair
 
 take_one_more : (pairs : Live) (k : ℕ) (pair : ℕ × Clause) → slice_get pairs k ≡ Some pair → take (k + 1) pairs ≡ take k pairs ++ pair ∷ []
 take_one_more [] k pair is = absurd cc
@@ -129,16 +158,16 @@ pub record LacksNext (formula : Cnf) (steps : List Step) (store : StoreState) (k
   pub within : is_within store.vars lits ≡ true
   pub more : HoldsClauses (with_clause store id lits) formula.vars (take (length formula.clauses + (k + 1)) (live_after formula steps)) (length formula.clauses + additions steps)
 
-pub lacks_next : (formula : Cnf) (steps : List Step) (store : StoreState) (k id : ℕ) (lits : Clause) (hints : List ℤ) → IsGoodLog formula steps → list_all is_addition steps ≡ true → slice_get steps k ≡ Some (Add id lits hints)
+pub lacks_next : (formula : Cnf) (steps : List Step) (numbers : List ℕ) (store : StoreState) (k n id : ℕ) (lits : Clause) (hints : List ℤ) → IsGoodLog formula steps → AreLiveSteps formula steps numbers → k < length numbers → n ≡ get_or numbers k 0 → slice_get steps n ≡ Some (Add id lits hints)
     → HoldsClauses store formula.vars (take (length formula.clauses + k) (live_after formula steps)) (length formula.clauses + additions steps) → length formula.clauses + additions steps + 1 ≤ MOST_ID
     → LacksNext formula steps store k id lits
-lacks_next formula steps store k id lits hints log all is h most =
+lacks_next formula steps numbers store k number id lits hints log live lt same is h most =
     let n = length formula.clauses in
     let pairs = live_after formula steps in
     let last = n + additions steps in
     let front = take (n + k) pairs in
     let cut : take (n + (k + 1)) pairs ≡ front ++ (id, lits) ∷ [] =
-    (let e : n + (k + 1) ≡ n + k + 1 = omega arith in ap (λ (i : ℕ). take i pairs) e) ∙ take_one_more pairs (n + k) (id, lits) (live_at formula steps k id lits hints all is)
+    (let e : n + (k + 1) ≡ n + k + 1 = omega arith in ap (λ (i : ℕ). take i pairs) e) ∙ take_one_more pairs (n + k) (id, lits) (live_at formula steps numbers k number id lits hints log live lt same is)
     in
     let ids : AreAscending 1 (ids_of (front ++ (id, lits) ∷ [])) (last + 1) =
     subst (λ (ps : Live). AreAscending 1 (ids_of ps) (last + 1)) cut
@@ -152,7 +181,7 @@ lacks_next formula steps store k id lits hints log all is h most =
     let low : HoldsClauses store formula.vars front (id - 1) = record { store_vars = h.store_vars; no_tail = h.no_tail; spelled = h.spelled; count = h.count; ids = subst (AreAscending 1 (ids_of front)) (sym back) below } in
     record {
       is_new = subst (IsNewId store.live) back (next_id store formula.vars front (id - 1) low (omega (arith, back, up, most)));
-      within = rw h.store_vars (within_at formula.vars (log_start formula) steps k id lits hints log.fresh is);
+      within = rw h.store_vars (within_at formula.vars (log_start formula) steps number id lits hints log.fresh is);
       more = subst (λ (ps : Live). HoldsClauses (with_clause store id lits) formula.vars ps last) (sym cut) (record {
         store_vars = h.store_vars;
         no_tail = h.no_tail;
@@ -193,23 +222,14 @@ first_of formula steps store k last least most h =
     let many : length store.live ≡ k = spells_length store.live (take k pairs) h.spelled ∙ length-take-le k pairs most in
     record { whole_formula = omega (arith, least, many); spelled = subst (λ (n : ℕ). Spells store.live (take n pairs)) (sym many) h.spelled }
 
--- so there is no other step
-pub no_deletion : (steps : List Step) (k : ℕ) (ids : List ℕ) → list_all is_addition steps ≡ true → slice_get steps k ≡ Some (Del ids) → ⊥
-no_deletion [] k ids all is = absurd cc
-no_deletion (step ∷ steps) zero ids all is =
-    let same : step ≡ Del ids = same_Some step (Del ids) is in
-    let no : false ≡ true = subst (λ (s : Step). is_addition s ≡ true) same (and_parts (is_addition step) (list_all is_addition steps) all).0 in
-    absurd cc
-no_deletion (step ∷ steps) (suc k) ids all is = no_deletion steps k ids (and_parts (is_addition step) (list_all is_addition steps) all).1 is
-
 -- how many clauses stand in front
-pub counted : (formula : Cnf) (steps : List Step) (store : StoreState) (k last : ℕ) → list_all is_addition steps ≡ true → k ≤ length steps → HoldsClauses store formula.vars (take (length formula.clauses + k) (live_after formula steps)) last → store.count ≡ length formula.clauses + k
-counted formula steps store k last all most h =
-    h.count ∙ length-take-le (length formula.clauses + k) (live_after formula steps) (omega (arith, length-live formula steps all, most))
+pub counted : (formula : Cnf) (steps : List Step) (numbers : List ℕ) (store : StoreState) (k last : ℕ) → IsGoodLog formula steps → AreLiveSteps formula steps numbers → k ≤ length numbers → HoldsClauses store formula.vars (take (length formula.clauses + k) (live_after formula steps)) last → store.count ≡ length formula.clauses + k
+counted formula steps numbers store k last log live most h =
+    h.count ∙ length-take-le (length formula.clauses + k) (live_after formula steps) (omega (arith, length-live formula steps numbers log live, most))
 
-pub first_added : (formula : Cnf) (steps : List Step) (store : StoreState) (k last : ℕ) → list_all is_addition steps ≡ true → k ≤ length steps → HoldsClauses store formula.vars (take (length formula.clauses + k) (live_after formula steps)) last → HoldsFirst formula steps store.live
-first_added formula steps store k last all most h =
-    first_of formula steps store (length formula.clauses + k) last (omega arith) (omega (arith, length-live formula steps all, most)) h
+pub first_added : (formula : Cnf) (steps : List Step) (numbers : List ℕ) (store : StoreState) (k last : ℕ) → IsGoodLog formula steps → AreLiveSteps formula steps numbers → k ≤ length numbers → HoldsClauses store formula.vars (take (length formula.clauses + k) (live_after formula steps)) last → HoldsFirst formula steps store.live
+first_added formula steps numbers store k last log live most h =
+    first_of formula steps store (length formula.clauses + k) last (omega arith) (omega (arith, length-live formula steps numbers log live, most)) h
 
 -- a search under way has the first of what is live, which is all of it
 pub first_searching : (formula : Cnf) (steps : List Step) (store : StoreState) (trail : TrailState) → IsSearching formula steps store trail → HoldsFirst formula steps store.live
@@ -224,13 +244,13 @@ first_searching formula steps store trail searching =
       spelled = subst (Spells store.live) (sym (take_all (length store.live) pairs (omega (arith, many)))) searching.holds.spelled;
     }
 
--- at the end of the steps nothing is lacked
-pub searching_added : (formula : Cnf) (steps : List Step) (store : StoreState) (trail : TrailState) (k : ℕ) → IsGoodLog formula steps → list_all is_addition steps ≡ true → length steps ≤ k
+-- behind the last of the numbers nothing is lacked
+pub searching_added : (formula : Cnf) (steps : List Step) (numbers : List ℕ) (store : StoreState) (trail : TrailState) (k : ℕ) → IsGoodLog formula steps → AreLiveSteps formula steps numbers → length numbers ≤ k
     → HoldsClauses store formula.vars (take (length formula.clauses + k) (live_after formula steps)) (length formula.clauses + additions steps) → IsSound store.live trail → trail.current ≡ 0 → IsSearching formula steps store trail
-searching_added formula steps store trail k log all most h sound level =
+searching_added formula steps numbers store trail k log live most h sound level =
     let pairs = live_after formula steps in
     record {
-      holds = subst (λ (ps : Live). HoldsClauses store formula.vars ps (length formula.clauses + additions steps)) (take_all (length formula.clauses + k) pairs (omega (arith, length-live formula steps all, most))) h;
+      holds = subst (λ (ps : Live). HoldsClauses store formula.vars ps (length formula.clauses + additions steps)) (take_all (length formula.clauses + k) pairs (omega (arith, length-live formula steps numbers log live, most))) h;
       log = log;
       on_course = record { sound = sound; closed_below = λ other least below. absurd (omega (arith, least, below, level)) };
     }

@@ -1,15 +1,14 @@
 // A searcher that shares a log with others gets the clauses that they added.
 ghost use Rattle.std.specs.Prelude.{◌≡◌, ◌<◌, ◌≤◌, ◌==◌, [], true, false, Ok, OnErr, OnOk};
-ghost use Rattle.std.specs.List.{list_all, list_any};
+ghost use Rattle.std.specs.List.{list_any};
 ghost use Rattle.std.specs.Option.{option_map_or};
 ghost use Rattle.lls_lit.specs.Formula.{is_within};
-ghost use Rattle.lls_prooflog.specs.Spent.{is_addition};
 ghost use Rattle.lls_store.specs.Clauses.{clause_numbered};
 ghost use Rattle.lls_store.specs.Sound.{IsSound};
 ghost use Rattle.lls_store.specs.Store.{IsNewId, with_clause};
 ghost use Rattle.lls_solver.specs.Policy.{policy_for};
 ghost use Rattle.lls_solver.specs.Searching.{additions, IsGoodLog, IsSearching};
-ghost use Rattle.lls_solver.specs.Sharing.{HoldsFirst, IsBehind};
+ghost use Rattle.lls_solver.specs.Sharing.{AreLiveSteps, HoldsFirst, IsBehind};
 
 use crate::course::Course;
 use crate::policy::Policy;
@@ -20,17 +19,19 @@ use lls_lit::Lit;
 use lls_prooflog::{Log, StepRef};
 use lls_store::{MOST_CLAUSES, Store, Trail};
 
-/// Goes back to level 0 and adds what the log has behind the store's last clause, where it has more.
+/// Goes back to level 0 and adds what is live of the log behind the store's last clause, where there is more. The steps of these
+/// numbers are the additions that are live.
 pub(crate) fn catch_up<S: Store>(
     formula: &Formula,
     store: &mut S,
     course: &mut Course,
     policy: &mut Policy,
     log: &Log,
+    live: &[usize],
 ) -> Result<(), Memory>
     requires behind { IsBehind formula.now log.now.steps (S.state store.old) course.old }
     requires good { IsGoodLog formula.now log.now.steps }
-    requires additions { list_all is_addition log.now.steps ≡ true }
+    requires live { AreLiveSteps formula.now log.now.steps live.now }
     requires few { additions log.now.steps ≤ MOST_BUDGET }
     requires tracked { S.tracks store.old course.old }
     requires policy { policy.old ≡ policy_for (S.state store.old) }
@@ -40,24 +41,25 @@ pub(crate) fn catch_up<S: Store>(
     ensures tracked { S.tracks store.new course.new }
     ensures policy { policy.new ≡ policy_for (S.state store.new) }
 {
-    if store.count() as usize == formula.len() + log.len() {
+    if store.count() as usize == formula.len() + live.len() {
         return Ok(());
     }
     course.go_back(store, 0);
-    add_rest(formula, store, &course.trail, policy, log)
+    add_rest(formula, store, &course.trail, policy, log, live)
 }
 
-// Adds what the log has behind the store's last clause.
+// Adds what is live of the log behind the store's last clause.
 fn add_rest<S: Store>(
     formula: &Formula,
     store: &mut S,
     trail: &Trail,
     policy: &mut Policy,
     log: &Log,
+    live: &[usize],
 ) -> Result<(), Memory>
     requires behind { IsBehind formula.now log.now.steps (S.state store.old) trail.now }
     requires good { IsGoodLog formula.now log.now.steps }
-    requires additions { list_all is_addition log.now.steps ≡ true }
+    requires live { AreLiveSteps formula.now log.now.steps live.now }
     requires few { additions log.now.steps ≤ MOST_BUDGET }
     requires level { trail.now.current ≡ 0 }
     requires tracked { S.tracks store.old trail.now }
@@ -69,8 +71,8 @@ fn add_rest<S: Store>(
     ensures policy { policy.new ≡ policy_for (S.state store.new) }
 {
     let from = store.count() as usize - formula.len();
-    for k in from..log.len() {
-        match log.lend(k) {
+    for k in from..live.len() {
+        match log.lend(live[k]) {
             StepRef::Add(addition) => add_clause(store, trail, policy, addition.id, addition.lits)?,
             StepRef::Del(_) => unreachable!(),
         }

@@ -1,14 +1,13 @@
 // What a search forgets: the half of its learnt clauses that was of least use, in one step of the log.
-ghost use Rattle.std.specs.Prelude.{◌≡◌, ◌≤◌, ◌<◌, ◌↔◌, ℕ, All, Contains, Some, false, true, IfOk, IsSome, IsTrue, OnErr, OnOk, length, map, replicate};
+ghost use Rattle.std.specs.Prelude.{◌≡◌, ◌≤◌, ◌<◌, ◌↔◌, ℕ, [], All, Contains, Some, false, true, IfOk, IsTrue, OnErr, OnOk, length, map, replicate};
 ghost use Rattle.lls_lit.specs.Formula.{Cnf};
-ghost use Rattle.lls_prooflog.specs.Spent.{live_after};
 ghost use Rattle.lls_store.specs.Trail.{reason_of};
 ghost use Rattle.lls_store.specs.Sound.{IsSound};
-ghost use Rattle.lls_store.specs.Clauses.{clause_numbered};
-ghost use Rattle.lls_store.specs.Removal.{IsNoReason};
+ghost use Rattle.lls_store.specs.Removal.{IsNoReason, compacted, renamed};
 ghost use Rattle.lls_store.specs.Store.{AreLive};
-ghost use Rattle.lls_solver.specs.Deletion.{added_after, is_marked, ids_marked, without_marked, AreAllLive, HasReasons, IsLate, MayGo};
-ghost use Rattle.lls_solver.specs.Searching.{additions, IsGoodLog, IsSearching};
+ghost use Rattle.lls_solver.specs.Deletion.{is_marked, ids_marked, without_marked, AreAllLive, HasReasons, IsLate, KeepsMarks, MayGo};
+ghost use Rattle.lls_solver.specs.Searching.{additions, IsSearching};
+ghost use Rattle.lls_solver.specs.Sharing.{added_after};
 
 use crate::course::Course;
 use lls_base::Memory;
@@ -65,36 +64,56 @@ pub(crate) fn forget_half<S: Store>(
     ensures tracked { S.tracks store.new course.new }
 {
     // What holds of all live clauses is known from here on.
-    store.count();
-    let marks = marks_of(alloc, store, &course.trail, formula.len() as u64, used)?;
+    let count = store.count() as usize;
+    let mut reasons = vec![in alloc; false; count]?;
+    mark_reasons(&mut reasons, &course.trail);
+    let marks = marks_of(alloc, store, formula.len() as u64, &reasons, used)?;
     let ids = ids_of(alloc, store, &marks)?;
     if ids.is_empty() {
         return Ok(());
     }
     log.reserve(1, 0, ids.len())?;
     log.push_del(&ids);
-    remove_marked(store, &course.trail, &marks);
-    course.compact(store);
+    forget_marked(store, course, &marks);
     Ok(())
 }
 
-// Marks the clauses that go.
-fn marks_of<S: Store>(
+/// Takes the clauses out that are marked, none of which is a reason, and numbers the others anew.
+pub(crate) fn forget_marked<S: Store>(store: &mut S, course: &mut Course, marks: &[bool])
+    requires each { (S.state store.old).count ≤ length marks.now }
+    requires all_live { AreAllLive (S.state store.old) }
+    requires tail { (S.state store.old).tail ≡ [] }
+    requires no_reason { (c : ℕ) → is_marked marks.now c ≡ true → IsNoReason course.old.entries c }
+    requires tracked { S.tracks store.old course.old }
+    requires sound { IsSound (S.state store.old).live course.old }
+    ensures state { S.state store.new ≡ compacted (without_marked (S.state store.old) marks.now) }
+    ensures renamed { course.new ≡ renamed (without_marked (S.state store.old) marks.now).live course.old }
+    ensures count { (S.state store.new).count ≤ (S.state store.old).count }
+    ensures were_live { AreLive (S.state store.old) }
+    ensures tracked { S.tracks store.new course.new }
+    ensures sound { IsSound (S.state store.new).live course.new }
+{
+    // What holds of all live clauses is known from here on.
+    let _count = store.count();
+    remove_marked(store, &course.trail, marks);
+    course.compact(store);
+}
+
+/// Marks the half of the learnt clauses that goes first, of those that aren't marked as reasons.
+pub(crate) fn marks_of<S: Store>(
     alloc: Global,
     store: &S,
-    trail: &Trail,
     last: u64,
+    reasons: &[bool],
     used: &[bool],
 ) -> Result<Vec<bool>, Memory>
+    requires reasons_each { length reasons.now ≡ (S.state store.now).count }
     requires used_each { length used.now ≡ (S.state store.now).count }
-    requires sound { IsSound (S.state store.now).live trail.now }
     ensures len { IfOk result (λ marks. length marks.items ≡ (S.state store.now).count) }
-    ensures may_go { IfOk result (λ marks. (c : ℕ) → is_marked marks.items c ≡ true → MayGo (S.state store.now).live trail.now.entries last c) }
+    ensures may_go { IfOk result (λ marks. (c : ℕ) → is_marked marks.items c ≡ true → MayGo (S.state store.now).live reasons.now last c) }
 {
     let count = store.count() as usize;
-    let mut reasons = vec![in alloc; false; count]?;
-    mark_reasons(&mut reasons, trail);
-    let mut candidates = candidates(alloc, store, trail, last, &reasons, used)?;
+    let mut candidates = candidates(alloc, store, last, reasons, used)?;
     candidates.sort_unstable();
     candidates.truncate(candidates.len() / 2);
     let mut marks = vec![in alloc; false; count]?;
@@ -102,11 +121,12 @@ fn marks_of<S: Store>(
     Ok(marks)
 }
 
-// Marks the clauses that are reasons.
-fn mark_reasons(marks: &mut [bool], trail: &Trail)
+/// Marks the clauses that are reasons, beside those that are marked.
+pub(crate) fn mark_reasons(marks: &mut [bool], trail: &Trail)
     requires given { (v c : ℕ) → reason_of trail.now.entries v ≡ Some c → c < length marks.old }
     ensures len { length marks.new ≡ length marks.old }
     ensures reasons { HasReasons trail.now.entries marks.new }
+    ensures kept { KeepsMarks marks.old marks.new }
 {
     for k in 0..trail.len() {
         if let Some(reason) = trail.known_reason(trail.lit(k).var()) {
@@ -128,23 +148,21 @@ fn mark_numbers(marks: &mut [bool], candidates: &[Candidate])
     }
 }
 
-// The learnt clauses that are no reason.
+// The learnt clauses that aren't marked as reasons.
 fn candidates<S: Store>(
     alloc: Global,
     store: &S,
-    trail: &Trail,
     last: u64,
     reasons: &[bool],
     used: &[bool],
 ) -> Result<Vec<Candidate>, Memory>
     requires reasons_each { length reasons.now ≡ (S.state store.now).count }
     requires used_each { length used.now ≡ (S.state store.now).count }
-    requires reasons { HasReasons trail.now.entries reasons.now }
-    ensures { IfOk result (λ candidates. All (λ x. MayGo (S.state store.now).live trail.now.entries last x.number) candidates.items) }
+    ensures { IfOk result (λ candidates. All (λ x. MayGo (S.state store.now).live reasons.now last x.number) candidates.items) }
 {
     let mut candidates = Vec::new(alloc);
     for c in 0..store.count() {
-        if may_go(store, trail, last, reasons, c) {
+        if may_go(store, last, reasons, c) {
             let candidate = Candidate {
                 used: used[c as usize],
                 len: Reverse(store.lits(c).len()),
@@ -156,12 +174,11 @@ fn candidates<S: Store>(
     Ok(candidates)
 }
 
-// Whether a clause was learnt and is no reason. Those of the formula have the ids up to the last one.
-fn may_go<S: Store>(store: &S, trail: &Trail, last: u64, reasons: &[bool], c: u32) -> bool
+// Whether a clause was learnt and isn't marked as a reason. Those of the formula have the ids up to the last one.
+fn may_go<S: Store>(store: &S, last: u64, reasons: &[bool], c: u32) -> bool
     requires given { c < (S.state store.now).count }
     requires within { c < length reasons.now }
-    requires reasons { HasReasons trail.now.entries reasons.now }
-    ensures { IsTrue result → MayGo (S.state store.now).live trail.now.entries last c }
+    ensures { IsTrue result → MayGo (S.state store.now).live reasons.now last c }
 {
     if reasons[c as usize] || !store.live(c) {
         return false;
@@ -169,8 +186,8 @@ fn may_go<S: Store>(store: &S, trail: &Trail, last: u64, reasons: &[bool], c: u3
     store.id(c) > last
 }
 
-// The ids of the clauses that are marked.
-fn ids_of<S: Store>(alloc: Global, store: &S, marks: &[bool]) -> Result<Vec<u64>, Memory>
+/// The ids of the clauses that are marked.
+pub(crate) fn ids_of<S: Store>(alloc: Global, store: &S, marks: &[bool]) -> Result<Vec<u64>, Memory>
     requires all_live { AreAllLive (S.state store.now) }
     requires each { length marks.now ≡ (S.state store.now).count }
     ensures { IfOk result (λ ids. ids.items ≡ ids_marked marks.now (S.state store.now).live) }
@@ -186,8 +203,8 @@ fn ids_of<S: Store>(alloc: Global, store: &S, marks: &[bool]) -> Result<Vec<u64>
 
 // Takes the clauses out that are marked.
 fn remove_marked<S: Store>(store: &mut S, trail: &Trail, marks: &[bool])
-    requires each { length marks.now ≡ (S.state store.old).count }
-    requires live { (c : ℕ) → is_marked marks.now c ≡ true → IsSome (clause_numbered (S.state store.old).live c) }
+    requires each { (S.state store.old).count ≤ length marks.now }
+    requires all_live { AreAllLive (S.state store.old) }
     requires no_reason { (c : ℕ) → is_marked marks.now c ≡ true → IsNoReason trail.now.entries c }
     requires tracked { S.tracks store.old trail.now }
     requires sound { IsSound (S.state store.old).live trail.now }

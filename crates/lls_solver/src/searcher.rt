@@ -1,17 +1,18 @@
 // A searcher, which takes turns.
-ghost use Rattle.std.specs.Prelude.{◌≡◌, ◌≢◌, ◌≤◌, ◌==◌, Bool, [], true, Ok, IfOk, OnErr, OnOk};
-ghost use Rattle.std.specs.List.{list_all, list_any};
-ghost use Rattle.lls_prooflog.specs.Spent.{is_addition};
+ghost use Rattle.std.specs.Prelude.{◌≡◌, ◌≢◌, ◌≤◌, ◌==◌, ℕ, Bool, [], true, length, Ok, IfOk, IsTrue, OnErr, OnOk};
+ghost use Rattle.std.specs.List.{list_any};
 ghost use Rattle.lls_store.specs.Changes.{empty_trail};
-ghost use Rattle.lls_store.specs.Store.{empty_store};
+ghost use Rattle.lls_store.specs.Sound.{IsSound};
+ghost use Rattle.lls_store.specs.Store.{AreLive, empty_store};
 ghost use Rattle.lls_solver.specs.Course.{IsComplete};
+ghost use Rattle.lls_solver.specs.Deletion.{is_marked, ids_marked, AreAllLive, HasForgotten, HasReasons, IsLate, KeepsMarks, MayGo, MayLose};
 ghost use Rattle.lls_solver.specs.Searching.{additions, AddsEmpty, HasLearnt, HoldsFormula, IsExhausted, IsGoodLog, IsModel, IsRefutation, IsSearching, KeepsAll};
-ghost use Rattle.lls_solver.specs.Sharing.{HoldsFirst, IsBehind};
+ghost use Rattle.lls_solver.specs.Sharing.{AreLiveSteps, HoldsFirst, IsBehind};
 
 use crate::catching_up::{catch_up, has_id};
 use crate::conflict::go_to_conflict;
 use crate::course::Course;
-use crate::deletion::{forget_half, is_late};
+use crate::deletion::{forget_half, forget_marked, ids_of, is_late, mark_reasons, marks_of};
 use crate::descent::{Descent, descend};
 use crate::learning::{learn_from, learn_further, refute_by};
 use crate::loading::load;
@@ -161,11 +162,11 @@ impl<S: Store> Searcher<S> {
     }
 
     /// Gets the clauses that others added to the log, where it lacks some: it goes back to level 0 then, and adds them in their
-    /// order. This takes time by what it lacks.
-    pub fn catch_up(&mut self, formula: &Formula, log: &Log) -> Result<(), Memory>
+    /// order. The steps of these numbers are the additions that are live. This takes time by what it lacks.
+    pub fn catch_up(&mut self, formula: &Formula, log: &Log, live: &[usize]) -> Result<(), Memory>
         requires behind { IsBehind formula.now log.now.steps self.old.store self.old.trail }
         requires good { IsGoodLog formula.now log.now.steps }
-        requires additions { list_all is_addition log.now.steps ≡ true }
+        requires live { AreLiveSteps formula.now log.now.steps live.now }
         requires few { additions log.now.steps ≤ MOST_BUDGET }
         ensures searching { OnOk result (IsSearching formula.now log.now.steps self.new.store self.new.trail) }
         ensures first { HoldsFirst formula.now log.now.steps self.new.store.live }
@@ -176,6 +177,7 @@ impl<S: Store> Searcher<S> {
             &mut self.course,
             &mut self.policy,
             log,
+            live,
         )
     }
 
@@ -227,8 +229,7 @@ impl<S: Store> Searcher<S> {
         ensures additions { additions log.new.steps ≡ additions log.old.steps }
         ensures err { OnErr result (log.new.steps ≡ log.old.steps) }
     {
-        let learnt = u64::from(self.store.count()) - formula.len() as u64;
-        if !self.policy.wants_round(learnt) || !is_late(log, learnt) {
+        if !self.wants_to_forget(formula, log) {
             return Ok(());
         }
         forget_half(
@@ -241,6 +242,78 @@ impl<S: Store> Searcher<S> {
         )?;
         self.policy.end_round(self.store.count() as usize);
         Ok(())
+    }
+
+    /// Whether it is time to forget learnt clauses, where so many are live that a deletion may come.
+    pub fn wants_to_forget(&self, formula: &Formula, log: &Log) -> bool
+        requires { IsSearching formula.now log.now.steps self.now.store self.now.trail }
+        ensures { IsTrue result → IsLate formula.now log.now.steps }
+    {
+        let learnt = u64::from(self.store.count()) - formula.len() as u64;
+        if !self.policy.wants_round(learnt) {
+            return false;
+        }
+        is_late(log, learnt)
+    }
+
+    /// Marks the clauses that are its reasons, by number, beside those that are marked.
+    pub fn mark_reasons(&self, marks: &mut [bool])
+        requires sound { IsSound self.now.store.live self.now.trail }
+        requires each { self.now.store.count ≤ length marks.old }
+        ensures len { length marks.new ≡ length marks.old }
+        ensures reasons { HasReasons self.now.trail.entries marks.new }
+        ensures kept { KeepsMarks marks.old marks.new }
+    {
+        // What holds of all live clauses is known from here on.
+        let _count = self.store.count();
+        let course = &self.course;
+        mark_reasons(marks, &course.trail);
+    }
+
+    /// Marks by number the half of the learnt clauses that is of least use, of those that aren't marked as reasons.
+    pub fn mark_half(
+        &self,
+        alloc: Global,
+        formula: &Formula,
+        reasons: &[bool],
+    ) -> Result<Vec<bool>, Memory>
+        requires { length reasons.now ≡ self.now.store.count }
+        ensures len { IfOk result (λ marks. length marks.items ≡ self.now.store.count) }
+        ensures may_go { IfOk result (λ marks. (c : ℕ) → is_marked marks.items c ≡ true → MayGo self.now.store.live reasons.now (length formula.now.clauses) c) }
+    {
+        marks_of(
+            alloc,
+            &self.store,
+            formula.len() as u64,
+            reasons,
+            self.policy.used(),
+        )
+    }
+
+    /// The ids of the clauses that are marked.
+    pub fn ids_of(&self, alloc: Global, marks: &[bool]) -> Result<Vec<u64>, Memory>
+        requires all_live { AreAllLive self.now.store }
+        requires each { length marks.now ≡ self.now.store.count }
+        ensures { IfOk result (λ ids. ids.items ≡ ids_marked marks.now self.now.store.live) }
+    {
+        ids_of(alloc, &self.store, marks)
+    }
+
+    /// How many clauses it holds, where all numbers that were given are live.
+    pub fn count(&self) -> u32
+        ensures count { result ≡ self.now.store.count }
+        ensures live { AreLive self.now.store }
+    {
+        self.store.count()
+    }
+
+    /// Loses the clauses that are marked, and numbers the others anew.
+    pub fn remove(&mut self, marks: &[bool])
+        requires { MayLose marks.now self.old }
+        ensures { HasForgotten marks.now self.old self.new }
+    {
+        forget_marked(&mut self.store, &mut self.course, marks);
+        self.policy.end_round(self.store.count() as usize);
     }
 
     /// The assignment that the trail is, where every variable has a value and no clause is false.

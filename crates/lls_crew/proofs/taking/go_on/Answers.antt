@@ -65,9 +65,9 @@ returns-in-Refuted-clause-first c =
     (subst (λ (ss : List Step). HoldsFirst formula ss c.args.searcher.now.store.live) (sym empty.logged) (first_grown formula c.args.log.now.steps (step ∷ []) c.args.searcher.now.store.live refl (first_searching formula c.args.log.now.steps c.args.searcher.now.store c.args.searcher.now.trail c.requires.searching)))
 
 pub returns-in-Spent-clause-ended : goal.returns-in-Spent-clause-ended
-returns-in-Spent-clause-ended c = λ outcome keep_all is.
+returns-in-Spent-clause-ended c = λ outcome keep_all before is.
     let exhausted = c.in_ok-turn.ensures.spent (ap Ok c.in-Spent.is) in
-    let kept = c.in_ok-turn.ensures.all_kept keep_all (λ _. c.requires.additions) in
+    let kept = c.in_ok-turn.ensures.all_kept keep_all before in
     subst (λ (o : Outcome). IsOutcome c.args.formula.now c.args.budget keep_all c.turn.new.log.steps (Ok o)) (same_outcome Undecided outcome is)
     (exhausted_outcome c.args.formula.now c.args.budget keep_all c.turn.new.log.steps exhausted kept)
 

@@ -1,18 +1,18 @@
 use Rattle.std.proofs.Common.{◌≡◌, sym, ap, ◌∙◌, subst, arith}
 use Rattle.lls_store.specs.Trail.{TrailState}
 use Rattle.lls_store.specs.Sound.{IsSound}
-use Rattle.lls_solver.proofs.Sharing.{additions_all, behind_back, length-live, searching_whole}
+use Rattle.lls_solver.proofs.Sharing.{behind_back, length-live, live_most, searching_whole}
 use Rattle.lls_solver.proofs.catching_up.catch_up.Goals as goal
 
 pub overflow_add-len : goal.overflow_add-len
-overflow_add-len g c = omega (arith, c.len.ensures.most, c.len-2.ensures, additions_all c.args.log.now.steps c.requires.additions, c.requires.few)
+overflow_add-len g c = omega (arith, c.len.ensures.most, live_most c.args.formula.now c.args.log.now.steps c.args.live.now c.requires.good c.requires.live, c.requires.few)
 
 pub returns-then-count-len-clause-searching : goal.returns-then-count-len-clause-searching
 returns-then-count-len-clause-searching g c =
     let formula = c.args.formula.now in
     let steps = c.args.log.now.steps in
     searching_whole formula steps (g.S.Store.state c.args.store.now) c.args.course.now c.requires.good c.requires.behind
-    (omega (arith, length-live formula steps c.requires.additions, c.count.ensures.count, c.len.ensures.len, c.len-2.ensures, c.if-count-len.true))
+    (omega (arith, length-live formula steps c.args.live.now c.requires.good c.requires.live, c.count.ensures.count, c.len.ensures.len, c.if-count-len.true))
 
 pub add_rest-requires-clause-behind : goal.add_rest-requires-clause-behind
 add_rest-requires-clause-behind g c =

@@ -6,7 +6,7 @@ use Rattle.lls_solver.proofs.deletion.candidates.Goals.{then-may_go+in_ok-push, 
 
 pub loop-c-preserved : goal.loop-c-preserved
 loop-c-preserved g c =
-    let P : Candidate → Type 0 = λ x. MayGo (g.S.Store.state c.args.store.now).live c.args.trail.now.entries c.args.last x.number in
+    let P : Candidate → Type 0 = λ x. MayGo (g.S.Store.state c.args.store.now).live c.args.reasons.now c.args.last x.number in
     elim c.if-may_go.branch [
       | then-may_go+in_ok-push w ↦ rw w.candidates-is (record { may_go = rw w.in_ok-push.ensures.items (All-push P c.loop-c.candidates.items _ c.loop-c.invariant.may_go (c.may_go.ensures w.if-may_go.true)) })
       | else-may_go w ↦ rw w.candidates-is (record { may_go = c.loop-c.invariant.may_go })

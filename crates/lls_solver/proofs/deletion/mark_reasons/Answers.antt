@@ -3,7 +3,7 @@ use Rattle.std.proofs.lemmas.List.{take_all}
 use Rattle.lls_store.specs.Trail.{Entry, entry_of, level_of}
 use Rattle.lls_store.specs.Removal.{IsNoReason}
 use Rattle.lls_solver.proofs.Levels.{is_read, known_at_level}
-use Rattle.lls_solver.proofs.Marks.{reasons_more, reasons_same}
+use Rattle.lls_solver.proofs.Marks.{marked_still, reasons_more, reasons_same}
 use Rattle.lls_solver.proofs.deletion.mark_reasons.Goals as goal
 use Rattle.lls_solver.proofs.deletion.mark_reasons.Goals.{in-Some, in_default}
 
@@ -25,11 +25,13 @@ loop-k-preserved c =
           rw w.marks-is (record {
             len = length-set c.loop-k.marks r true ∙ c.loop-k.invariant.len;
             reasons = reasons_more t c.loop-k.k c.var.result r c.lit.result c.loop-k.marks kept c.lit.ensures c.var.ensures.var is lt c.loop-k.invariant.reasons;
+            kept = λ n was. marked_still c.loop-k.marks r n lt (c.loop-k.invariant.kept n was);
           })
       | in_default w ↦
           rw w.marks-is (record {
             len = c.loop-k.invariant.len;
             reasons = reasons_same t c.loop-k.k c.var.result c.lit.result c.loop-k.marks kept c.lit.ensures c.var.ensures.var (sym w.in_default.is ∙ c.known_reason.ensures) c.loop-k.invariant.reasons;
+            kept = c.loop-k.invariant.kept;
           })
     ]
 

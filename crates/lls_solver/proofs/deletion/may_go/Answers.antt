@@ -5,4 +5,4 @@ use Rattle.lls_solver.proofs.deletion.may_go.Goals as goal
 
 pub returns : goal.returns
 returns g c = λ above.
-    may_go_from (g.S.Store.state c.args.store.now).live c.args.trail.now.entries c.args.last c.args.c c.id.result (sym c.live.ensures ∙ c.if-not-live.false) c.id.ensures (ltb-true c.args.last c.id.result above) (c.requires.reasons c.args.c c.requires.within c.if-reasons-c.false)
+    may_go_from (g.S.Store.state c.args.store.now).live c.args.reasons.now c.args.last c.args.c c.id.result (sym c.live.ensures ∙ c.if-not-live.false) c.id.ensures (ltb-true c.args.last c.id.result above) c.if-reasons-c.false

@@ -3,7 +3,7 @@ use Rattle.std.specs.Prelude.{IsSome}
 use Rattle.lls_store.specs.Clauses.{clause_numbered}
 use Rattle.lls_store.specs.Store.{StoreState}
 use Rattle.lls_store.specs.Removal.{without_clause}
-use Rattle.lls_solver.proofs.Marks.{first_live, without_first, without_first-all, without_first-marked, without_first-none, without_first-unmarked}
+use Rattle.lls_solver.proofs.Marks.{first_live, live_at, without_first, without_first-all, without_first-marked, without_first-none, without_first-unmarked}
 use Rattle.lls_solver.proofs.deletion.remove_marked.Goals as goal
 use Rattle.lls_solver.proofs.deletion.remove_marked.Goals.{then-marks-c, else-marks-c}
 
@@ -12,7 +12,7 @@ loop-c-init g c = record { state = without_first-none (g.S.Store.state c.args.st
 
 pub remove-requires-clause-live : goal.remove-requires-clause-live
 remove-requires-clause-live g c =
-    subst (λ (s : StoreState). IsSome (clause_numbered s.live c.loop-c.c)) (sym c.loop-c.invariant.state) (first_live (g.S.Store.state c.args.store.now) c.args.marks.now c.loop-c.c (c.requires.live c.loop-c.c c.if-marks-c.true))
+    subst (λ (s : StoreState). IsSome (clause_numbered s.live c.loop-c.c)) (sym c.loop-c.invariant.state) (first_live (g.S.Store.state c.args.store.now) c.args.marks.now c.loop-c.c (live_at (g.S.Store.state c.args.store.now) c.loop-c.c c.count-c-end.ensures.live c.requires.all_live (omega (arith, c.loop-c-test.true, c.count-c-end.ensures.count))))
 
 pub loop-c-preserved : goal.loop-c-preserved
 loop-c-preserved g c =

@@ -1,6 +1,7 @@
 use Rattle.std.proofs.Common.{◌≡◌, length, sym, ap, ◌∙◌, arith}
 use Rattle.std.proofs.lemmas.List.{length-map}
-use Rattle.lls_crew.specs.Crew.{CrewState, ids_in, is_held}
+use Rattle.lls_crew.specs.Forgetting.{ids_in}
+use Rattle.lls_crew.specs.Crew.{CrewState, is_held}
 use Rattle.lls_crew.proofs.TurnsTaken.{held_at}
 use Rattle.lls_crew.proofs.searchers.Crew.holds.Goals as goal
 

@@ -1,4 +1,4 @@
-use Rattle.std.proofs.Common.{List, sym, ap, ◌∙◌, subst}
+use Rattle.std.proofs.Common.{List, ℕ, [], sym, ap, ◌∙◌, subst}
 use Rattle.lls_prooflog.specs.Log.{Logged}
 use Rattle.lls_prooflog.specs.declared.step.Step.{Step}
 use Rattle.lls_crew.specs.declared.stage.Stage.TheVariants.{Going}
@@ -10,8 +10,10 @@ pub invariant_of-result : goal.invariant_of-result
 invariant_of-result c =
     let items = c.in_ok-new_searchers.field-0.items in
     let none = ap (λ (log : Logged). log.steps) c.new.ensures in
-    subst (λ (steps : List Step). IsCrewOf c.args.formula.now c.args.budget c.args.keep_all items steps Going) (sym none)
-    (crew_started c.args.formula.now c.args.budget c.args.keep_all items c.in_ok-new_searchers.ensures.searching c.requires.budget)
+    let empty = c.new-2.ensures.items in
+    subst (λ (steps : List Step). IsCrewOf c.args.formula.now c.args.budget c.args.keep_all items steps c.new-2.result.items Going) (sym none)
+    (subst (λ (live : List ℕ). IsCrewOf c.args.formula.now c.args.budget c.args.keep_all items [] live Going) (sym empty)
+    (crew_started c.args.formula.now c.args.budget c.args.keep_all items c.in_ok-new_searchers.ensures.searching c.requires.budget))
 
 pub returns : goal.returns
 returns c =

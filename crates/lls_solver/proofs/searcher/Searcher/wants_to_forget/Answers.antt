@@ -1,17 +1,17 @@
 use Rattle.std.proofs.Common.{ap, arith}
 use Rattle.lls_solver.specs.Searching.{SearcherState}
 use Rattle.lls_solver.proofs.Forgotten.{learnt_counted}
-use Rattle.lls_solver.proofs.searcher.Searcher.forget.Goals as goal
+use Rattle.lls_solver.proofs.searcher.Searcher.wants_to_forget.Goals as goal
 
 pub overflow_sub-learnt : goal.overflow_sub-learnt
 overflow_sub-learnt g c =
-    let h = c.requires.searching in
+    let h = c.requires in
     let same = ap (λ (s : SearcherState). s.store.count) c.self.view_is in
     omega (arith, c.from.ensures, c.count.ensures.count, same, h.holds.count, c.len.ensures.len, learnt_counted c.args.formula.now c.args.log.now.steps h.log)
 
-pub forget_half-requires-clause-late : goal.forget_half-requires-clause-late
-forget_half-requires-clause-late g c =
-    let h = c.requires.searching in
+pub returns : goal.returns
+returns g c =
+    let h = c.requires in
     let same = ap (λ (s : SearcherState). s.store.count) c.self.view_is in
     let exactly = c.is_late.ensures c.args.formula.now (omega (arith, c.from.ensures, c.count.ensures.count, same, h.holds.count, c.len.ensures.len, learnt_counted c.args.formula.now c.args.log.now.steps h.log)) in
-    exactly.0 c.if-not-is_late.false
+    exactly.0
