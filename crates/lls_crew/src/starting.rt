@@ -2,9 +2,10 @@
 ghost use Rattle.std.specs.Prelude.{◌≡◌, [], All, IfOk, length};
 ghost use Rattle.lls_solver.specs.Searching.{IsSearching};
 
+use crate::searchers::MOST_SEARCHERS;
 use lls_base::Memory;
 use lls_cnf::Formula;
-use lls_solver::Searcher;
+use lls_solver::{Manner, Searcher};
 use lls_watch::WatchStore;
 use std::alloc::Global;
 
@@ -24,12 +25,24 @@ pub(crate) fn new_searchers(
     Ok(searchers)
 }
 
-// The searcher of a number: the first decisions of every second one go towards true.
+// The searcher of a number. The first and every second one after it are restless, the others steady; the first decisions of one in
+// each pair of neighbours go towards true, from the second one on; and each begins at a variable of its own.
 fn searcher(alloc: Global, formula: &Formula, k: u32) -> Result<Searcher<WatchStore>, Memory>
     ensures { IfOk result (λ searcher. IsSearching formula.now [] searcher.store searcher.trail) }
 {
     let vars = formula.vars();
-    let phases = vec![in alloc; k % 2 == 1; vars as usize]?;
+    let phases = vec![in alloc; k / 2 % 2 != k % 2; vars as usize]?;
     let store = WatchStore::new(alloc, vars)?;
-    Searcher::new(alloc, store, formula, &phases)
+    let mut searcher = Searcher::new(alloc, store, formula, &phases, manner(k))?;
+    searcher.begin_at(vars / MOST_SEARCHERS * (k % MOST_SEARCHERS));
+    Ok(searcher)
+}
+
+// The manner of the searcher of a number.
+fn manner(k: u32) -> Manner {
+    if k % 2 == 0 {
+        Manner::Restless
+    } else {
+        Manner::Steady
+    }
 }

@@ -103,6 +103,33 @@ impl Course {
         }
     }
 
+    /// So it has those of the clauses that forced these literals, or their negations.
+    pub(crate) fn bump_reasons<S: Store>(&mut self, store: &S, lits: &[Lit])
+        requires vars { (S.state store.now).vars ≡ self.old.vars }
+        requires have_values { HaveValues self.old.entries lits.now }
+        requires sound { IsSound (S.state store.now).live self.old }
+        ensures { self.new ≡ self.old }
+    {
+        // What holds of all live clauses is known from here on.
+        let _count = store.count();
+        for lit in lits {
+            if let Some(reason) = self.trail.known_reason(lit.var()) {
+                self.bump(store.lits(reason));
+            }
+        }
+    }
+
+    /// Has the variables from a number on be decided before the others, those of lesser numbers first.
+    pub(crate) fn begin_at(&mut self, first: u32)
+        ensures { self.new ≡ self.old }
+    {
+        for n in (first..self.order.vars() + 1).rev() {
+            if let Some(var) = Var::from_number(n) {
+                self.order.bump(var);
+            }
+        }
+    }
+
     /// Goes back to where the next variable would be decided otherwise than it was: the levels stay whose decisions would be the
     /// same once more (van der Tak, Ramos, Heule, *Reusing the Assignment Trail in CDCL Solvers*, 2011).
     pub(crate) fn restart<S: Store>(&mut self, store: &mut S)

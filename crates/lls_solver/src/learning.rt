@@ -56,6 +56,7 @@ pub(crate) fn learn_from<S: Store>(
         analyser.resolved(),
     );
     course.bump(analyser.met());
+    course.bump_reasons(store, policy.followed(store.lits(learnt.clause)));
     course.go_back(store, learnt.back);
     Ok(())
 }

@@ -9,14 +9,17 @@ mod descent;
 mod glue;
 mod learning;
 mod loading;
+mod manner;
 mod mean;
 mod outcome;
 mod policy;
+mod rare_restarts;
 mod restarts;
 mod searcher;
 mod solving;
 mod values;
 
+pub use manner::Manner;
 pub use outcome::Outcome;
 pub use searcher::{Searcher, Turn};
 pub use solving::{MOST_BUDGET, solve, solve_from};

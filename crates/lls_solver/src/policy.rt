@@ -1,8 +1,11 @@
 // What a search goes by where its contracts leave it free: when it restarts, when it forgets clauses, and which.
-ghost use Rattle.std.specs.Prelude.{◌≡◌, ◌≤◌, ◌<◌, ◌+◌, ◌-◌, All, IfOk, OnErr, OnOk, length};
+ghost use Rattle.std.specs.Prelude.{◌≡◌, ◌≤◌, ◌<◌, ◌+◌, ◌-◌, List, All, IfOk, OnErr, OnOk, length};
+ghost use Rattle.lls_store.specs.Trail.{Entry};
 ghost use Rattle.lls_analyse.specs.Valued.{HaveValues};
 
 use crate::glue::LevelStamps;
+use crate::manner::Manner;
+use crate::rare_restarts::RareRestarts;
 use crate::restarts::Restarts;
 use lls_base::Memory;
 use lls_lit::{Lit, Var};
@@ -19,8 +22,10 @@ const MORE_EACH_ROUND: u64 = 512;
 /// Seen as the number of variables, and the number of clauses of which it knows whether conflicts came by them.
 #[derive(Debug, Drop)]
 pub(crate) struct Policy {
+    manner: Manner,
     levels: LevelStamps,
     restarts: Restarts,
+    rare_restarts: RareRestarts,
     /// By number, whether a conflict came by the clause since the last round.
     used: Vec<bool>,
     rounds: u32,
@@ -37,15 +42,22 @@ impl Model for Policy {
 
 impl Policy {
     /// For so many variables and clauses, none of which was used.
-    pub(crate) fn new(alloc: Global, vars: u32, clauses: usize) -> Result<Policy, Memory>
+    pub(crate) fn new(
+        alloc: Global,
+        vars: u32,
+        clauses: usize,
+        manner: Manner,
+    ) -> Result<Policy, Memory>
         requires { vars ≤ Var.MOST }
         ensures { IfOk result (λ policy. policy ≡ record { levels = vars + 1; clauses = clauses }) }
     {
         let levels = LevelStamps::new(alloc, vars)?;
         let used = vec![in alloc; false; clauses]?;
         Ok(Policy {
+            manner,
             levels,
             restarts: Restarts::new(),
+            rare_restarts: RareRestarts::new(),
             used,
             rounds: 0,
         })
@@ -78,11 +90,25 @@ impl Policy {
     {
         mark_used(&mut self.used, resolved);
         self.restarts.learn(self.levels.glue(trail, lits));
+        self.rare_restarts.learn();
+    }
+
+    /// Those of a learnt clause's literals where the search goes on with the clauses that forced their negations: all or none.
+    pub(crate) fn followed<'l>(&self, lits: &'l [Lit]) -> &'l [Lit]
+        ensures { (entries : List Entry) → HaveValues entries lits.now → HaveValues entries result.now }
+    {
+        match self.manner {
+            Manner::Restless => &[],
+            Manner::Steady => lits,
+        }
     }
 
     /// Whether the search should restart.
     pub(crate) fn wants_restart(&self) -> bool {
-        self.restarts.is_due()
+        match self.manner {
+            Manner::Restless => self.restarts.is_due(),
+            Manner::Steady => self.rare_restarts.is_due(),
+        }
     }
 
     /// The search restarts.
@@ -90,6 +116,7 @@ impl Policy {
         ensures { self.new ≡ self.old }
     {
         self.restarts.begin();
+        self.rare_restarts.begin();
     }
 
     /// Whether the search should forget the half of so many learnt clauses.

@@ -16,6 +16,7 @@ use crate::deletion::{forget_half, forget_marked, ids_of, is_late, mark_reasons,
 use crate::descent::{Descent, descend};
 use crate::learning::{learn_from, learn_further, refute_by};
 use crate::loading::load;
+use crate::manner::Manner;
 use crate::policy::Policy;
 use crate::solving::MOST_BUDGET;
 use crate::values::values_of;
@@ -77,6 +78,7 @@ impl<S: Store + Drop> Searcher<S> {
         mut store: S,
         formula: &Formula,
         phases: &[bool],
+        manner: Manner,
     ) -> Result<Searcher<S>, Memory>
         requires store { S.state store ≡ empty_store formula.now.vars }
         requires tracked { S.tracks store (empty_trail formula.now.vars) }
@@ -86,7 +88,7 @@ impl<S: Store + Drop> Searcher<S> {
         let course = Course::new(alloc, vars, phases)?;
         let analyser = Analyser::new(alloc, vars)?;
         load(&mut store, &course.trail, formula)?;
-        let policy = Policy::new(alloc, vars, store.count() as usize)?;
+        let policy = Policy::new(alloc, vars, store.count() as usize, manner)?;
         Ok(Searcher {
             store,
             course,
@@ -159,6 +161,13 @@ impl<S: Store> Searcher<S> {
             conflict,
         )?;
         Ok(Turn::Learnt)
+    }
+
+    /// Has the variables from a number on be decided before the others, those of lesser numbers first.
+    pub fn begin_at(&mut self, first: u32)
+        ensures { self.new ≡ self.old }
+    {
+        self.course.begin_at(first);
     }
 
     /// Gets the clauses that others added to the log, where it lacks some: it goes back to level 0 then, and adds them in their

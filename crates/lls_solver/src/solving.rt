@@ -2,6 +2,7 @@
 ghost use Rattle.std.specs.Prelude.{◌≡◌, ◌≤◌, [], Ok};
 ghost use Rattle.lls_solver.specs.Searching.{IsOutcome, IsSearching};
 
+use crate::manner::Manner;
 use crate::outcome::Outcome;
 use crate::searcher::{Searcher, Turn};
 use lls_base::Memory;
@@ -49,7 +50,7 @@ pub fn solve_from(
 {
     let vars = formula.vars();
     let store = WatchStore::new(alloc, vars)?;
-    let mut searcher = Searcher::new(alloc, store, formula, phases)?;
+    let mut searcher = Searcher::new(alloc, store, formula, phases, Manner::Restless)?;
     take_turns(alloc, formula, &mut searcher, log, budget, keep_all)
 }
 

@@ -1,4 +1,4 @@
-use Rattle.std.proofs.Common.{◌≡◌, ◌+◌, Bool, List, length, get_or, ap, ◌∙◌, subst, arith}
+use Rattle.std.proofs.Common.{◌+◌, Bool, List, length, get_or, ap, ◌∙◌, subst, arith}
 use Rattle.std.proofs.lemmas.Bool.Decides.{nat_tests}
 use Rattle.lls_solver.specs.Deletion.{MayGo, ids_marked}
 use Rattle.lls_solver.specs.Searching.{SearcherState, additions, IsSearching}

@@ -63,14 +63,31 @@ bump-requires-clause-have_values g c =
     let values = all_have_values t.entries met c.learn-learnt.ensures.comes_by.are_met.all_false in
     subst (λ (x : TrailState). HaveValues x.entries c.met.result.now) c.course.view_is (subst (HaveValues t.entries) (sym c.met.ensures.met) values)
 
+pub bump_reasons-requires-clause-vars : goal.bump_reasons-requires-clause-vars
+bump_reasons-requires-clause-vars g c =
+    let t = c.course.inside.trail in
+    sym (ap (λ (x : TrailState). x.vars) (c.bump.ensures ∙ sym c.course.view_is) ∙ g.met.S.Store.tracks_vars c.learn-learnt.new.store t c.learn-learnt.ensures.tracked)
+
+pub bump_reasons-requires-clause-have_values : goal.bump_reasons-requires-clause-have_values
+bump_reasons-requires-clause-have_values g c =
+    let t = c.course.inside.trail in
+    let middle = g.S.Store.state c.reserve_conflict.new.store in
+    let new = g.S.Store.state c.learn-learnt.new.store in
+    let learnt = c.learn-learnt.result in
+    let values = learnt_values middle new t c.args.conflict (c.len.result + c.additions.result + 1) learnt.back learnt.clause c.reserve_conflict.new.log.steps c.learn-learnt.new.log.steps c.lits-2.result.now c.learn-learnt.ensures.learns c.count-count.ensures.live c.learn-learnt.ensures.clause c.lits-2.ensures in
+    subst (λ (x : TrailState). HaveValues x.entries c.followed.result.now) (c.course.view_is ∙ sym c.bump.ensures) (c.followed.ensures t.entries values)
+
+pub bump_reasons-requires-clause-sound : goal.bump_reasons-requires-clause-sound
+bump_reasons-requires-clause-sound g c = sound_moved (g.S.Store.state c.learn-learnt.new.store) c.course.inside.trail c.bump.new.self (c.course.view_is ∙ sym c.bump.ensures) c.learn-learnt.ensures.sound
+
 pub go_back-requires-clause-level : goal.go_back-requires-clause-level
 go_back-requires-clause-level g c =
     let learns = c.learn-learnt.ensures.learns in
-    omega (arith, back_most c.course.inside.trail learns.lits c.learn-learnt.result.back learns.clause.is_back, ap (λ (t : TrailState). t.current) (c.bump.ensures ∙ sym c.course.view_is))
+    omega (arith, back_most c.course.inside.trail learns.lits c.learn-learnt.result.back learns.clause.is_back, ap (λ (t : TrailState). t.current) (c.bump_reasons.ensures ∙ c.bump.ensures ∙ sym c.course.view_is))
 
 pub go_back-requires-clause-sound : goal.go_back-requires-clause-sound
 go_back-requires-clause-sound g c =
-    sound_moved (g.S.Store.state c.learn-learnt.new.store) c.course.inside.trail c.bump.new.self (c.course.view_is ∙ sym c.bump.ensures) c.learn-learnt.ensures.sound
+    sound_moved (g.S.Store.state c.learn-learnt.new.store) c.course.inside.trail c.bump_reasons.new.self (c.course.view_is ∙ sym c.bump.ensures ∙ sym c.bump_reasons.ensures) c.learn-learnt.ensures.sound
 
 pub returns-clause-learns : goal.returns-clause-learns
 returns-clause-learns g c =
@@ -125,7 +142,7 @@ returns-clause-searching g c =
     let closed = closed_below_kept old middle t (sym c.in_ok-reserve_conflict.ensures.state) (closed_below_moved old c.args.course.now t (sym c.course.view_is) h.on_course.closed_below) in
     let adds = adds_learnt formula.vars (live_after formula steps) middle new t c.args.conflict id back c.reserve_conflict.new.log.steps c.learn-learnt.new.log.steps learns holds.spelled vars above closed in
     let log : IsGoodLog formula (steps ++ step ∷ []) = good_push formula steps id learns.lits learns.hints h.log after good adds in
-    let cut : cut_to t back ≡ c.go_back.new.self = ap (λ (x : TrailState). cut_to x back) (c.course.view_is ∙ sym c.bump.ensures) ∙ sym c.go_back.ensures.cut in
+    let cut : cut_to t back ≡ c.go_back.new.self = ap (λ (x : TrailState). cut_to x back) (c.course.view_is ∙ sym c.bump.ensures ∙ sym c.bump_reasons.ensures) ∙ sym c.go_back.ensures.cut in
     record {
       holds = subst (λ (s : StoreState). HoldsClauses s formula.vars (live_after formula c.learn-learnt.new.log.steps) (length formula.clauses + additions c.learn-learnt.new.log.steps)) (sym (c.go_back.ensures.state ∙ learns.store))
           (subst (λ (ss : List Step). HoldsClauses (sealed (record middle { tail = learns.lits }) id) formula.vars (live_after formula ss) (length formula.clauses + additions ss)) (sym logged) more);
