@@ -1,0 +1,13 @@
+pub mod Listing
+pub mod Closing
+pub mod Reading
+pub mod Carried
+pub mod Logs
+pub mod UnitTables
+pub mod Open
+pub mod Beyond
+pub mod AtZero
+pub mod Tautologies
+pub mod Tried
+pub mod Loaded
+pub mod Without

@@ -1,0 +1,150 @@
+-- A log that grows by good steps, and the clauses that are live behind it.
+use Rattle.std.proofs.Common.{◌≡◌, ◌≢◌, ℕ, ◌+◌, ◌≤◌, ◌<◌, true, false, cond, List, [], ◌∷◌, ◌++◌, Option, Some, None, is_some, refl, sym, ap, subst, ◌∙◌, inl, inr, arith, append_assoc}
+use Rattle.std.specs.Prelude.{ℤ, fold, Contains, ◌==◌}
+use Rattle.std.specs.List.{list_all}
+use Rattle.std.specs.FinSet as set
+use Rattle.std.specs.Cmp.Derive.{both_true}
+use Rattle.std.proofs.lemmas.Bool.{and_parts, ne_eqb, eq-eqb}
+use Rattle.std.proofs.lemmas.Bool.Decides.{nat_tests}
+use Rattle.std.proofs.lemmas.List.{append-nil}
+use Rattle.std.proofs.lemmas.List.Elements.{Contains-push_cases}
+use Rattle.lls_lit.specs.Formula.{Clause, Cnf}
+use Rattle.lls_prooflog.specs.UnitWalk.{Live, find_clause, unit_walk}
+use Rattle.lls_prooflog.specs.Range.{is_id, is_hint, IsInRange}
+use Rattle.lls_prooflog.specs.Steps.{after}
+use Rattle.lls_prooflog.specs.Spent.{LogState, EachStep, IsGood, is_positive, log_start, log_after, live_after}
+use Rattle.lls_prooflog.specs.declared.step.Step.{Step}
+use Rattle.lls_prooflog.specs.declared.step.Step.TheVariants.{Add}
+use Rattle.lls_prooflog.specs.declared.step_fault.StepFault.TheVariants.{IdLive}
+use Rattle.lls_store.specs.declared.store.TheConstants.{MOST_ID}
+use Rattle.lls_store.specs.Clauses.{LiveClause}
+use Rattle.lls_store.specs.Store.{StoreState, IsNewId, with_clause}
+use Rattle.lls_analyse.specs.Spelled.{Spells}
+use Rattle.lls_analyse.proofs.Gathering.{later}
+use Rattle.lls_lemmas.specs.Lemmas.{GoesOnWell}
+use Rattle.lls_lemmas.specs.Behind.{GivesClause, Grows, HoldsLive}
+use Rattle.lls_lemmas.specs.Closing.{is_id_hint}
+
+fold-append : {X S : Type 0} (f : S → X → S) (s : S) (xs ys : List X) → fold f s (xs ++ ys) ≡ fold f (fold f s xs) ys
+fold-append f s [] ys = refl
+fold-append f s (x ∷ xs) ys = fold-append f (f s x) xs ys
+
+pub live_after-push : (formula : Cnf) (steps : List Step) (step : Step) → live_after formula (steps ++ step ∷ []) ≡ after (live_after formula steps) step
+live_after-push formula steps step = ap (λ (state : LogState). state.live) (fold-append log_after (log_start formula) steps (step ∷ []))
+
+each-append : (P : LogState → Step → Type 0) (state : LogState) (xs ys : List Step) → EachStep P state xs → EachStep P (fold log_after state xs) ys → EachStep P state (xs ++ ys)
+each-append P state [] ys first second = second
+each-append P state (x ∷ xs) ys first second = (first.0, each-append P (log_after state x) xs ys first.1 second)
+
+pub well-none : (formula : Cnf) (steps : List Step) → GoesOnWell formula steps steps
+well-none formula steps = record { more = []; follows = sym (append-nil steps); good = tt }
+
+pub well-one : (formula : Cnf) (steps : List Step) (step : Step) → IsGood (fold log_after (log_start formula) steps) step → GoesOnWell formula steps (steps ++ step ∷ [])
+well-one formula steps step good = record { more = step ∷ []; follows = refl; good = (good, tt) }
+
+pub well-then : (formula : Cnf) (a b c : List Step) → GoesOnWell formula a b → GoesOnWell formula b c → GoesOnWell formula a c
+well-then formula a b c first second =
+    let behind : fold log_after (log_start formula) b ≡ fold log_after (fold log_after (log_start formula) a) first.more = ap (fold log_after (log_start formula)) first.follows ∙ fold-append log_after (log_start formula) a first.more in
+    let P : LogState → Type 0 = λ s. EachStep IsGood s second.more in
+    record {
+      more = first.more ++ second.more;
+      follows = second.follows ∙ ap (λ (xs : List Step). xs ++ second.more) first.follows ∙ append_assoc a first.more second.more;
+      good = each-append IsGood (fold log_after (log_start formula) a) first.more second.more first.good (subst P behind second.good);
+    }
+
+-- all steps are good where those before are
+pub good-then : (formula : Cnf) (old new : List Step) → EachStep IsGood (log_start formula) old → GoesOnWell formula old new → EachStep IsGood (log_start formula) new
+good-then formula old new good well =
+    let P : List Step → Type 0 = λ steps. EachStep IsGood (log_start formula) steps in
+    subst P (sym well.follows) (each-append IsGood (log_start formula) old well.more good well.good)
+
+pub grows-none : (formula : Cnf) (steps : List Step) → Grows formula steps steps
+grows-none formula steps = record { well = well-none formula steps; stays = λ id clause found. found }
+
+pub grows-then : (formula : Cnf) (a b c : List Step) → Grows formula a b → Grows formula b c → Grows formula a c
+grows-then formula a b c first second = record { well = well-then formula a b c first.well second.well; stays = λ id clause found. second.stays id clause (first.stays id clause found) }
+
+-- a clause that is found stays found where one comes behind
+find-kept : (live : Live) (id q : ℕ) (lits clause : Clause) → find_clause live q ≡ Some clause → find_clause (live ++ (id, lits) ∷ []) q ≡ Some clause
+find-kept [] id q lits clause found = absurd cc
+find-kept (p ∷ ps) id q lits clause found =
+    elim (p.0 == q) as (λ b. cond b (Some p.1) (find_clause ps q) ≡ Some clause → cond b (Some p.1) (find_clause (ps ++ (id, lits) ∷ []) q) ≡ Some clause) [
+      | true ↦ λ h. h
+      | false ↦ λ h. find-kept ps id q lits clause h
+    ] found
+
+find-last : (live : Live) (id : ℕ) (lits : Clause) → find_clause live id ≡ None → find_clause (live ++ (id, lits) ∷ []) id ≡ Some lits
+find-last [] id lits none = ap (λ b. cond b (Some lits) None) (eq-eqb id id refl)
+find-last (p ∷ ps) id lits none =
+    elim (p.0 == id) as (λ b. cond b (Some p.1) (find_clause ps id) ≡ None → cond b (Some p.1) (find_clause (ps ++ (id, lits) ∷ []) id) ≡ Some lits) [
+      | true ↦ λ h. absurd cc
+      | false ↦ λ h. find-last ps id lits h
+    ] none
+
+-- no list that spells the live clauses has a new id
+pub new_id : (live : List LiveClause) (pairs : Live) (id : ℕ) → Spells live pairs → ((clause : LiveClause) → Contains live clause → clause.id ≢ id) → find_clause pairs id ≡ None
+new_id [] [] id spells new = refl
+new_id [] (p ∷ ps) id spells new = absurd spells
+new_id (c ∷ cs) [] id spells new = absurd spells
+new_id (c ∷ cs) (p ∷ ps) id spells new =
+    ap (λ b. cond b (Some p.1) (find_clause ps id)) (ne_eqb p.0 id (λ same. new c (0, omega arith, refl) (sym spells.0 ∙ same)))
+    ∙ new_id cs ps id spells.1.1 (λ clause inside. new clause (later c cs clause inside))
+
+pub spells-push : (live : List LiveClause) (pairs : Live) (number id : ℕ) (lits : List ℤ) → Spells live pairs → Spells (live ++ record { number = number; id = id; lits = set.from_list lits } ∷ []) (pairs ++ (id, lits) ∷ [])
+spells-push [] [] number id lits h = (refl, (refl, tt))
+spells-push [] (pair ∷ pairs) number id lits h = absurd h
+spells-push (clause ∷ live) [] number id lits h = absurd h
+spells-push (clause ∷ live) (pair ∷ pairs) number id lits h = (h.0, (h.1.0, spells-push live pairs number id lits h.1.1))
+
+-- hints that are ids are in range, and positive
+pub id_hints : (hints : List ℤ) → list_all is_id_hint hints ≡ true → (list_all is_hint hints ≡ true) × (list_all is_positive hints ≡ true)
+id_hints [] all = (refl, refl)
+id_hints (h ∷ hs) all =
+    let parts = and_parts (is_id_hint h) (list_all is_id_hint hs) all in
+    let one = and_parts (is_hint h) (is_positive h) parts.0 in
+    let rest = id_hints hs parts.1 in
+    (both_true one.0 rest.0, both_true one.1 rest.1)
+
+pub id_within : (n : ℕ) → 1 ≤ n → n ≤ 9223372036854775807 → is_id n ≡ true
+id_within n low high = grind (arith, nat_tests)
+
+pub adds_in_range : (id : ℕ) (lits hints : List ℤ) → 1 ≤ id → id ≤ MOST_ID → list_all is_id_hint hints ≡ true → IsInRange (Add id lits hints)
+adds_in_range id lits hints low high all = both_true (id_within id low high) (id_hints hints all).0
+
+pub new_next : (formula : Cnf) (steps : List Step) (store : StoreState) (last : ℕ) → HoldsLive formula steps store last → last < MOST_ID → IsNewId store.live (last + 1)
+new_next formula steps store last holds lt = record { least = omega arith; most = omega (arith, lt); new = λ clause inside same. omega (arith, holds.ids clause inside, same) }
+
+-- one clause more, to which hints lead
+module _ (formula : Cnf) (steps : List Step) (store : StoreState) (last : ℕ) (lits hints : List ℤ) (holds : HoldsLive formula steps store last) (gives : GivesClause store.live lits hints) (all : list_all is_id_hint hints ≡ true) where
+  next_new : find_clause (live_after formula steps) (last + 1) ≡ None
+  next_new = new_id store.live (live_after formula steps) (last + 1) holds.spelled (λ clause inside same. omega (arith, holds.ids clause inside, same))
+
+  pub adds_good : IsGood (fold log_after (log_start formula) steps) (Add (last + 1) lits hints)
+  adds_good =
+      let live = live_after formula steps in
+      record {
+        positive = (id_hints hints all).1;
+        good = ap (λ (o : Option Clause). cond (is_some o) (Some (IdLive (last + 1))) (unit_walk live lits hints)) next_new ∙ gives live holds.spelled;
+      }
+
+  pub adds_grows : Grows formula steps (steps ++ Add (last + 1) lits hints ∷ [])
+  adds_grows = record {
+    well = well-one formula steps (Add (last + 1) lits hints) adds_good;
+    stays = λ id clause found. ap (λ (live : Live). find_clause live id) (live_after-push formula steps (Add (last + 1) lits hints)) ∙ find-kept (live_after formula steps) (last + 1) id lits clause found;
+  }
+
+  pub adds_found : find_clause (live_after formula (steps ++ Add (last + 1) lits hints ∷ [])) (last + 1) ≡ Some lits
+  adds_found = ap (λ (live : Live). find_clause live (last + 1)) (live_after-push formula steps (Add (last + 1) lits hints)) ∙ find-last (live_after formula steps) (last + 1) lits next_new
+
+  pub adds_holds : HoldsLive formula (steps ++ Add (last + 1) lits hints ∷ []) (with_clause store (last + 1) lits) (last + 1)
+  adds_holds =
+      let P : Live → Type 0 = λ pairs. Spells (with_clause store (last + 1) lits).live pairs in
+      record {
+        no_tail = holds.no_tail;
+        spelled = subst P (sym (live_after-push formula steps (Add (last + 1) lits hints))) (spells-push store.live (live_after formula steps) store.count (last + 1) lits holds.spelled);
+        ids = λ clause inside. elim (Contains-push_cases store.live (record { number = store.count; id = last + 1; lits = set.from_list lits }) clause inside) [
+          | inl old ↦ omega (arith, holds.ids clause old)
+          | inr same ↦ omega (arith, ap (λ (c : LiveClause). c.id) same)
+        ];
+        good = good-then formula steps (steps ++ Add (last + 1) lits hints ∷ []) holds.good adds_grows.well;
+      }

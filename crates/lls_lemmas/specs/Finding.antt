@@ -1,0 +1,17 @@
+-- For private contracts: a live clause that is found by its literals, and whether it may go.
+use Rattle.std.specs.Prelude.{◌≡◌, ◌≢◌, ℕ, ℤ, List, Option, Some, slice_index_or, None}
+use Rattle.std.specs.FinSet as set
+use Rattle.lls_store.specs.Trail.{Entry}
+use Rattle.lls_store.specs.Clauses.{LiveClause, clause_numbered}
+use Rattle.lls_store.specs.Removal.{IsNoReason}
+
+-- the clause of that number is live and has just these literals
+pub record HasLiterals (live : List LiveClause) (number : ℕ) (lits : List ℤ) : Type 0 where
+  pub clause : LiveClause
+  pub is_live : clause_numbered live number ≡ Some clause
+  pub same : set.from_list lits ≡ clause.lits
+
+-- it forced no literal, and stands for no value of level 0
+pub record IsFree (live : List LiveClause) (entries : List Entry) (units : List (Option ℕ)) (number : ℕ) : Type 0 where
+  pub no_reason : IsNoReason entries number
+  pub no_unit : (clause : LiveClause) → clause_numbered live number ≡ Some clause → (i id : ℕ) → slice_index_or units i None ≡ Some id → clause.id ≢ id

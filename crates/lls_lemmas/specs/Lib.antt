@@ -1,0 +1,7 @@
+pub mod Lemmas
+pub mod Behind
+pub mod Closing
+pub mod Units
+pub mod Assumed
+pub mod Engine
+pub mod Finding

@@ -1,0 +1,117 @@
+// A live clause of just these literals.
+ghost use Rattle.std.specs.Prelude.{◌≡◌, ◌≤◌, ◌⊎◌, ℤ, true, Contains, IfSome};
+ghost use Rattle.std.specs.FinSet as set;
+ghost use Rattle.std.specs.Ordering.{int_cmp};
+ghost use Rattle.lls_lit.specs.Formula.{is_within};
+ghost use Rattle.lls_store.specs.Clauses.{IsIn};
+ghost use Rattle.lls_store.specs.Store.{AreLive};
+ghost use Rattle.lls_lemmas.specs.Finding.{HasLiterals};
+
+use crate::index::Index;
+use lls_lit::{Lit, Marks};
+use lls_store::Store;
+
+// By what a literal's place is multiplied in the hash of a clause: 2^64 by the golden ratio.
+const FACTOR: u64 = 11_400_714_819_323_198_485;
+
+/// The hash of a set of literals: it depends on no order, and counts no literal twice. What is marked is lost.
+pub(crate) fn hash_of(marks: &mut Marks, lits: &[Lit]) -> u64
+    requires { is_within marks.old.vars lits.now ≡ true }
+    ensures vars { marks.new.vars ≡ marks.old.vars }
+{
+    marks.clear();
+    let mut hash: u64 = 0;
+    for lit in lits {
+        if !marks.has(*lit) {
+            marks.put(*lit);
+            let mixed = (lit.index() as u64 + 1).wrapping_mul(FACTOR);
+            hash = hash.wrapping_add(mixed ^ (mixed >> 29));
+        }
+    }
+    hash
+}
+
+// Marks literals, where none was marked.
+fn mark_all(marks: &mut Marks, lits: &[Lit])
+    requires { is_within marks.old.vars lits.now ≡ true }
+    ensures of { (l : ℤ) → IsIn marks.new.lits l → Contains lits.now l }
+    ensures vars { marks.new.vars ≡ marks.old.vars }
+{
+    marks.clear();
+    for lit in lits {
+        marks.put(*lit);
+    }
+}
+
+// Whether all the literals are marked.
+fn are_marked(marks: &Marks, lits: &[Lit]) -> bool
+    requires { is_within marks.now.vars lits.now ≡ true }
+    ensures { result ≡ true → (l : ℤ) → Contains lits.now l → IsIn marks.now.lits l }
+{
+    for lit in lits {
+        if !marks.has(*lit) {
+            return false;
+        }
+    }
+    true
+}
+
+// Whether two clauses have the same literals.
+fn are_same(marks: &mut Marks, a: &[Lit], b: &[Lit]) -> bool
+    requires a { is_within marks.old.vars a.now ≡ true }
+    requires b { is_within marks.old.vars b.now ≡ true }
+    ensures same { result ≡ true → set.from_list {R = int_cmp} a.now ≡ set.from_list b.now }
+    ensures vars { marks.new.vars ≡ marks.old.vars }
+{
+    mark_all(marks, a);
+    if !are_marked(marks, b) {
+        return false;
+    }
+    mark_all(marks, b);
+    are_marked(marks, a)
+}
+
+// Whether the clause of a number is live and has just these literals.
+fn has_literals<S: Store>(store: &S, marks: &mut Marks, number: u32, lits: &[Lit]) -> bool
+    requires vars { (S.state store.now).vars ≡ marks.old.vars }
+    requires within { is_within marks.old.vars lits.now ≡ true }
+    ensures has { result ≡ true → HasLiterals (S.state store.now).live number lits.now }
+    ensures vars { marks.new.vars ≡ marks.old.vars }
+{
+    if number >= store.count() {
+        return false;
+    }
+    if !store.live(number) {
+        return false;
+    }
+    are_same(marks, lits, store.lits(number))
+}
+
+/// The number of a live clause of just these literals: of several that are known under the hash the newest.
+pub(crate) fn find<S: Store>(
+    store: &S,
+    marks: &mut Marks,
+    index: &Index,
+    hash: u64,
+    lits: &[Lit],
+) -> Option<u32>
+    requires vars { (S.state store.now).vars ≡ marks.old.vars }
+    requires within { is_within marks.old.vars lits.now ≡ true }
+    ensures has { IfSome result (λ number. HasLiterals (S.state store.now).live number lits.now) }
+    ensures vars { marks.new.vars ≡ marks.old.vars }
+{
+    let mut left = index.entries.len();
+    let mut at = index.newest(hash);
+    while let Some(place) = at {
+        if place >= left {
+            return None;
+        }
+        left = place;
+        let entry = index.entries[place];
+        if has_literals(store, marks, entry.number, lits) {
+            return Some(entry.number);
+        }
+        at = entry.before;
+    }
+    None
+}

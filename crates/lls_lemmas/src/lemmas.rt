@@ -1,0 +1,309 @@
+// An engine of lemmas.
+ghost use Rattle.std.specs.Prelude.{◌≡◌, ◌≢◌, ◌⊎◌, ◌≤◌, [], ℤ, List, true, false, Ok, IfOk, OnErr, OnOk};
+ghost use Rattle.lls_lit.specs.Formula.{is_within, IsUnsatisfiable};
+ghost use Rattle.lls_prooflog.specs.Spent.{EachStep, IsGood, log_start};
+ghost use Rattle.lls_store.specs.Changes.{empty_trail};
+ghost use Rattle.lls_store.specs.Store.{empty_store};
+ghost use Rattle.lls_lemmas.specs.Lemmas.{is_tautology, DeletesOne, EndsEmpty, GoesOnWell, IsLive, IsNotImplied, KeepsLive};
+
+use crate::deleting::{delete_clause, is_needed};
+use crate::finding::{find, hash_of};
+use crate::gathering::Gathering;
+use crate::index::Index;
+use crate::loading::{index_clauses, load};
+use crate::logging::add_step;
+use crate::settling::{Settled, settle};
+use crate::tautology::is_tautology;
+use crate::trying::try_clause;
+use crate::units::Units;
+use lls_base::Memory;
+use lls_cnf::Formula;
+use lls_lit::{Lit, Marks, Var};
+use lls_prooflog::Log;
+use lls_store::{Store, Trail};
+use std::alloc::Global;
+use std::marker::Model;
+
+/// What became of a lemma.
+#[derive(Clone, Copy, Debug, PartialEq, Eq)]
+pub enum Added {
+    /// Unit propagation gives it: it was added, with its hints.
+    Implied,
+    /// The empty clause was added, by this lemma or before.
+    Refuted,
+    /// It has a literal beside its negation, and was passed over.
+    Tautology,
+    /// Unit propagation doesn't give it, by no hints whatever.
+    NotImplied,
+}
+
+/// What became of a deletion.
+#[derive(Clone, Copy, Debug, PartialEq, Eq)]
+pub enum Deleted {
+    /// A live clause of just these literals was taken out.
+    Gone,
+    /// The clause forced a literal at level 0 or stands for its value, and stays.
+    Reason,
+    /// No such clause is known.
+    Unknown,
+    /// The empty clause was added before, and nothing changes.
+    Refuted,
+}
+
+/// The clauses that are live behind a log, and the log, which gets each lemma that they imply with the hints that lead to it.
+///
+/// Each literal that they imply alone has a unit clause of its own in the log, which the hints of later lemmas name.
+#[derive(Drop)]
+pub struct Lemmas<'f, S: Store> {
+    formula: &'f Formula,
+    store: S,
+    trail: Trail,
+    log: Log,
+    last: u64,
+    units: Units,
+    gathering: Gathering,
+    index: Index,
+    settled: bool,
+    refuted: bool,
+}
+
+impl<'f, S: Store> Model for Lemmas<'f, S> {
+    ghost use Rattle.lls_lemmas.specs.Engine.{IsEngine};
+    ghost use Rattle.lls_lemmas.specs.Lemmas.{LemmasState};
+
+    ghost Value = { LemmasState };
+
+    ghost view = { λ e. record { formula = e.formula.now; vars = e.trail.vars; steps = e.log.steps; settled = e.settled; refuted = e.refuted } };
+
+    ghost invariant = { λ e. S.tracks e.store e.trail
+        × IsEngine e.formula.now e.log.steps (S.state e.store) e.trail e.units.ids.items e.units.done e.last e.settled e.refuted e.gathering.marks.vars };
+}
+
+impl<'f, S: Store + Drop> Lemmas<'f, S> {
+    /// The clauses of a formula, under the ids from 1. Lemmas may have variables up to `vars`, beyond the formula's too.
+    pub fn new(
+        alloc: Global,
+        mut store: S,
+        formula: &'f Formula,
+        vars: u32,
+    ) -> Result<Lemmas<'f, S>, Memory>
+        requires most { vars ≤ Var.MOST }
+        requires vars { formula.now.vars ≤ vars }
+        requires store { S.state store ≡ empty_store vars }
+        requires tracked { S.tracks store (empty_trail vars) }
+        ensures formula { IfOk result (λ lemmas. lemmas.formula ≡ formula.now) }
+        ensures vars { IfOk result (λ lemmas. lemmas.vars ≡ vars) }
+        ensures well { IfOk result (λ lemmas. GoesOnWell formula.now [] lemmas.steps) }
+        ensures settled { IfOk result (λ lemmas. (lemmas.refuted ≡ true) ⊎ (lemmas.settled ≡ true)) }
+    {
+        let trail = Trail::new(alloc, vars)?;
+        load(&mut store, &trail, formula)?;
+        let units = Units::new(alloc, vars)?;
+        let mut marks = Marks::new(alloc, vars)?;
+        let mut index = Index::new(alloc);
+        index_clauses(&mut index, &mut marks, formula)?;
+        // What holds of every trail is known from here on.
+        let _len = trail.len();
+        let log = Log::new(alloc);
+        let mut lemmas = Lemmas {
+            formula,
+            store,
+            trail,
+            log,
+            last: formula.len() as u64,
+            units,
+            gathering: Gathering {
+                marks,
+                met: Vec::new(alloc),
+                hints: Vec::new(alloc),
+            },
+            index,
+            settled: false,
+            refuted: false,
+        };
+        lemmas.settle()?;
+        Ok(lemmas)
+    }
+
+    /// The log alone.
+    pub fn into_log(self) -> Log
+        ensures steps { result.steps ≡ self.entry.steps }
+        ensures good { EachStep IsGood (log_start self.entry.formula) result.steps }
+    {
+        let Lemmas { log, .. } = self;
+        log
+    }
+}
+
+impl<'f, S: Store> Lemmas<'f, S> {
+    /// Takes a lemma, which is added where unit propagation gives it. Where the call before ended with `Memory`, unit clauses
+    /// may be added too before the lemma is tried. After the empty clause nothing changes.
+    pub fn add(&mut self, lits: &[Lit]) -> Result<Added, Memory>
+        requires within { is_within self.old.vars lits.now ≡ true }
+        ensures well { GoesOnWell self.old.formula self.old.steps self.new.steps }
+        ensures implied { result ≡ Ok Added.Implied → IsLive self.old.formula self.new.steps lits.now }
+        ensures refuted { result ≡ Ok Added.Refuted → EndsEmpty self.new.steps }
+        ensures unsatisfiable { result ≡ Ok Added.Refuted → IsUnsatisfiable self.old.formula }
+        ensures tautology { result ≡ Ok Added.Tautology → (is_tautology lits.now ≡ true) × (self.new ≡ self.old) }
+        ensures not_implied { result ≡ Ok Added.NotImplied → IsNotImplied self.old.formula self.new.steps lits.now }
+        ensures stays { result ≡ Ok Added.NotImplied → self.old.settled ≡ true → self.new ≡ self.old }
+        ensures done { self.old.refuted ≡ true → self.new ≡ self.old }
+        ensures formula { self.new.formula ≡ self.old.formula }
+        ensures vars { self.new.vars ≡ self.old.vars }
+    {
+        if self.refuted {
+            return Ok(Added::Refuted);
+        }
+        if self.has_both(lits) {
+            return Ok(Added::Tautology);
+        }
+        self.settle()?;
+        if self.is_refuted() {
+            return Ok(Added::Refuted);
+        }
+        if !self.add_implied(lits)? {
+            return Ok(Added::NotImplied);
+        }
+        self.settle()?;
+        if self.is_refuted() {
+            return Ok(Added::Refuted);
+        }
+        Ok(Added::Implied)
+    }
+
+    /// Takes a live clause of just these literals out, in any order and with repetitions: of several the newest. One that forced a
+    /// literal at level 0, or stands for its value, stays. After `Memory` nothing has changed.
+    pub fn delete(&mut self, lits: &[Lit]) -> Result<Deleted, Memory>
+        requires within { is_within self.old.vars lits.now ≡ true }
+        ensures gone { result ≡ Ok Deleted.Gone → DeletesOne self.old.formula self.old.steps self.new.steps lits.now }
+        ensures stays { result ≢ Ok Deleted.Gone → self.new.steps ≡ self.old.steps }
+        ensures settled { self.new.settled ≡ self.old.settled }
+        ensures refuted { self.new.refuted ≡ self.old.refuted }
+        ensures formula { self.new.formula ≡ self.old.formula }
+        ensures vars { self.new.vars ≡ self.old.vars }
+    {
+        if self.refuted {
+            return Ok(Deleted::Refuted);
+        }
+        // What holds of all live clauses is known from here on.
+        let _count = self.store.count();
+        let marks = &mut self.gathering.marks;
+        let hash = hash_of(marks, lits);
+        let Some(number) = find(&self.store, marks, &self.index, hash, lits) else {
+            return Ok(Deleted::Unknown);
+        };
+        let units = self.units.ids.as_slice();
+        if is_needed(&self.store, &self.trail, units, number) {
+            return Ok(Deleted::Reason);
+        }
+        delete_clause(
+            self.formula,
+            &mut self.store,
+            &self.trail,
+            &mut self.log,
+            self.last,
+            units,
+            self.units.done,
+            number,
+            lits,
+        )?;
+        Ok(Deleted::Gone)
+    }
+
+    /// The log.
+    pub fn log(&self) -> &Log
+        ensures steps { result.now.steps ≡ self.now.steps }
+        ensures good { EachStep IsGood (log_start self.now.formula) self.now.steps }
+    {
+        &self.log
+    }
+
+    /// Whether the empty clause was added.
+    pub fn is_refuted(&self) -> bool
+        ensures refuted { result ≡ self.now.refuted }
+        ensures ends { result ≡ true → EndsEmpty self.now.steps }
+        ensures unsatisfiable { result ≡ true → IsUnsatisfiable self.now.formula }
+    {
+        self.refuted
+    }
+
+    // Whether a lemma has a literal and its negation.
+    fn has_both(&mut self, lits: &[Lit]) -> bool
+        requires { is_within self.old.vars lits.now ≡ true }
+        ensures answer { result ≡ is_tautology lits.now }
+        ensures same { self.new ≡ self.old }
+    {
+        is_tautology(&mut self.gathering.marks, lits)
+    }
+
+    // Extends the trail by what unit propagation forces, and gives each literal a unit clause, where that isn't done yet.
+    fn settle(&mut self) -> Result<(), Memory>
+        ensures well { GoesOnWell self.old.formula self.old.steps self.new.steps }
+        ensures keeps { KeepsLive self.old.formula self.old.steps self.new.steps }
+        ensures ok { OnOk result ((self.new.refuted ≡ true) ⊎ (self.new.settled ≡ true)) }
+        ensures settled { self.old.settled ≡ true → self.new ≡ self.old }
+        ensures refuted { self.old.refuted ≡ true → self.new ≡ self.old }
+        ensures formula { self.new.formula ≡ self.old.formula }
+        ensures vars { self.new.vars ≡ self.old.vars }
+    {
+        if self.refuted {
+            return Ok(());
+        }
+        if self.settled {
+            return Ok(());
+        }
+        let settled = settle(
+            self.formula,
+            &mut self.store,
+            &mut self.trail,
+            &mut self.log,
+            &mut self.last,
+            &mut self.units,
+            &mut self.gathering,
+        )?;
+        match settled {
+            Settled::Open => self.settled = true,
+            Settled::Refuted => self.refuted = true,
+        }
+        Ok(())
+    }
+
+    // Adds a lemma where unit propagation gives it. Answers whether it does.
+    fn add_implied(&mut self, lits: &[Lit]) -> Result<bool, Memory>
+        requires within { is_within self.old.vars lits.now ≡ true }
+        requires no_tautology { is_tautology lits.now ≡ false }
+        requires settled { self.old.settled ≡ true }
+        requires going { self.old.refuted ≡ false }
+        ensures well { GoesOnWell self.old.formula self.old.steps self.new.steps }
+        ensures implied { result ≡ Ok true → IsLive self.old.formula self.new.steps lits.now }
+        ensures not_implied { result ≡ Ok false → IsNotImplied self.old.formula self.old.steps lits.now }
+        ensures stays { result ≡ Ok false → self.new ≡ self.old }
+        ensures going { self.new.refuted ≡ false }
+        ensures formula { self.new.formula ≡ self.old.formula }
+        ensures vars { self.new.vars ≡ self.old.vars }
+    {
+        let implied = try_clause(
+            &mut self.store,
+            &mut self.trail,
+            self.units.ids.as_slice(),
+            &mut self.gathering,
+            lits,
+        )?;
+        if !implied {
+            return Ok(false);
+        }
+        let hash = hash_of(&mut self.gathering.marks, lits);
+        self.index.put(hash, self.store.count())?;
+        add_step(
+            self.formula,
+            &mut self.store,
+            &self.trail,
+            &mut self.log,
+            &mut self.last,
+            lits,
+            self.gathering.hints.as_slice(),
+        )?;
+        self.settled = false;
+        Ok(true)
+    }
+}
