@@ -1,0 +1,4 @@
+pub mod Hinting
+pub mod Outputs
+pub mod WordsTaken
+pub mod Leaving

@@ -1,0 +1,98 @@
+// The delivery of what a proof comes to, and of faults: the file first, then the text; or a line on the standard error.
+ghost use Rattle.std.specs.Prelude.{◌≡◌, ◌⊎◌};
+ghost use Rattle.std.specs.FinMap as map;
+ghost use Rattle.std.specs.Option.{option_map};
+ghost use Rattle.lls_base.specs.Shelf.{known_files};
+ghost use Rattle.lls_hinting.specs.Fault.{status_of, words_status};
+ghost use Rattle.lls_hinting.specs.Ends.{KeepsBut};
+
+use crate::fault::{Fault, OutsideFault};
+use crate::outcome::Hints;
+use crate::status::Status;
+use crate::words_error::WordsError;
+use lls_base::{FileFault, Name, Shelf, Sink, write_all, write_file};
+use std::alloc::Global;
+
+// Writes a line to the standard error. A fault of it changes nothing.
+fn write_line<E: Sink>(err: &mut E, line: &[u8]) {
+    let _ = write_all(err, line);
+}
+
+/// Says a failure of the outside on the standard error. It takes no memory.
+pub fn say<E: Sink>(fault: OutsideFault, err: &mut E) -> Status
+    ensures status { result ≡ Status.Outside }
+{
+    write_line(err, fault.line());
+    Status::Outside
+}
+
+/// Says want of memory on the standard error. It takes none.
+pub fn lack<E: Sink>(err: &mut E) -> Status
+    ensures status { result ≡ Status.Memory }
+{
+    write_line(err, b"lls-hints: memory\n");
+    Status::Memory
+}
+
+/// Says a fault of the inputs on the standard error. Where there is no memory for its line, it says want of memory.
+pub fn refuse<E: Sink>(alloc: Global, fault: Fault, err: &mut E) -> Status
+    ensures status { (result ≡ status_of fault) ⊎ (result ≡ Status.Memory) }
+{
+    match fault.line(alloc) {
+        Ok(line) => {
+            write_line(err, line.as_bytes());
+            fault.status()
+        }
+        Err(_) => lack(err),
+    }
+}
+
+/// The same of words that are no command line.
+pub fn refuse_words<E: Sink>(alloc: Global, error: WordsError, err: &mut E) -> Status
+    ensures status { (result ≡ words_status error) ⊎ (result ≡ Status.Memory) }
+{
+    match error.line(alloc) {
+        Ok(line) => {
+            write_line(err, line.as_bytes());
+            error.status()
+        }
+        Err(_) => lack(err),
+    }
+}
+
+// The failure of the outside that a file's fault is.
+fn file_fault(fault: FileFault) -> OutsideFault {
+    match fault {
+        FileFault::CreateFailed => OutsideFault::CreateFailed,
+        FileFault::WriteFailed => OutsideFault::WriteFailed,
+    }
+}
+
+/// Writes a proof with hints to the file of that name, and then says what there is to say of it.
+pub fn give_hints<S: Shelf, O: Sink, E: Sink>(
+    hints: &Hints,
+    output: &Name,
+    shelf: &mut S,
+    out: &mut O,
+    err: &mut E,
+) -> Status
+    ensures status { (result ≡ Status.Done) ⊎ (result ≡ Status.Outside) }
+    ensures done { result ≡ Status.Done →
+        known_files (S.told shelf.new) ≡ option_map (λ files. map.insert files output.now hints.now.bytes.items) (known_files (S.told shelf.old)) }
+    ensures others { KeepsBut output.now (known_files (S.told shelf.old)) (known_files (S.told shelf.new)) }
+{
+    match write_file(shelf, output, &hints.bytes) {
+        Ok(()) => give_text(&hints.text, Status::Done, out, err),
+        Err(fault) => say(file_fault(fault), err),
+    }
+}
+
+/// Says a text on the standard output, which ends the run with that status.
+pub fn give_text<O: Sink, E: Sink>(text: &[u8], status: Status, out: &mut O, err: &mut E) -> Status
+    ensures status { (result ≡ status) ⊎ (result ≡ Status.Outside) }
+{
+    match write_all(out, text) {
+        Ok(()) => status,
+        Err(_) => say(OutsideFault::OutFailed, err),
+    }
+}
