@@ -13,8 +13,6 @@ mod drat;
 #[cfg(test)]
 mod draws;
 #[cfg(test)]
-mod lemmas;
-#[cfg(test)]
 mod order;
 #[cfg(test)]
 mod solver;
