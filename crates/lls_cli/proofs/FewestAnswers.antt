@@ -1,7 +1,6 @@
 -- What a search for the fewest live cells comes to is a right answer.
-use Rattle.std.proofs.Common.{◌≡◌, ◌<◌, ◌≤◌, ◌+◌, ℕ, suc, Bool, List, sym, subst, arith}
+use Rattle.std.proofs.Common.{◌≡◌, ◌<◌, ℕ, suc, Bool, List, sym, subst, arith}
 use Rattle.std.specs.Prelude.{codes}
-use Rattle.lls_lit.specs.Formula.{Cnf}
 use Rattle.lls_grid.specs.History.{History}
 use Rattle.lls_prooflog.specs.declared.step.Step.{Step}
 use Rattle.lls_prooflog.specs.Log.{log_text}

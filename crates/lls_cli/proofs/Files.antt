@@ -5,7 +5,6 @@ use Rattle.std.specs.FinMap as map
 use Rattle.std.specs.Option.{option_map}
 use Rattle.lls_base.specs.Results.{and_then}
 use Rattle.lls_base.specs.Shelf.{Files}
-use Rattle.lls_base.proofs.FileMaps.{get-insert_same}
 use Rattle.lls_words.specs.declared.error.WordsError.{WordsError}
 use Rattle.lls_words.specs.declared.job.Job.{Job}
 use Rattle.lls_words.specs.declared.job.Job.TheVariants as jobs
@@ -18,14 +17,14 @@ use Rattle.lls_cli.specs.declared.fault.Fault.{Fault}
 use Rattle.lls_cli.specs.declared.status.Status.{Status}
 use Rattle.lls_cli.specs.declared.status.Status.TheVariants as statuses
 use Rattle.lls_cli.specs.Question.{asked_with, opened_with, effort_of, default_effort, problem_in, roomy_problem_in, small_problem_in, formula_in, pattern_in, Asks}
-use Rattle.lls_cli.specs.Answer.{Answers, Holds}
+use Rattle.lls_cli.specs.Answer.{Holds}
 use Rattle.lls_cli.specs.Moment.{ShelfMoment, Moment, files_at}
 use Rattle.lls_cli.specs.Ends.{WroteFile, LeavesPart, End, refused, lacked, input_failed, ahead_failed, answered, file_failed, output_failed, IsEndBehind, Ends, ahead_of, IsEnd}
 use Rattle.lls_cli.specs.Claims.{search_file_at, outputs_of, outputs_of_words, ChangesOnly}
 use Rattle.lls_cli.proofs.Behind.{answer_of, WroteAhead}
 use Rattle.lls_cli.proofs.Consequences.{ahead_part}
 use Rattle.lls_cli.proofs.Changes.{Same, changes_both, changes_none, inserted, part_changes, wrote_none, wrote_some}
-use Rattle.lls_cli.proofs.Outputs.{Writes, WritesAtMost, writes, written_at}
+use Rattle.lls_cli.proofs.Outputs.{WritesAtMost, writes, written_at}
 
 -- a result of two parts is Ok by both
 pub and_then-both : {A B E : Type 0} (part : Result A E) (more : A → Result B E) (value : B) → Ok value ≡ and_then part more → (x : A) × (Ok value ≡ more x)

@@ -1,5 +1,5 @@
 -- What an answer leaves in its file, by its status.
-use Rattle.std.proofs.Common.{◌≡◌, ℕ, suc, Bool, List, Option, None, Some, Result, Ok, Err, refl, ap, sym, subst}
+use Rattle.std.proofs.Common.{◌≡◌, ℕ, Bool, List, Option, None, Some, Result, Ok, Err, refl, ap, sym, subst}
 use Rattle.std.specs.FinMap as map
 use Rattle.std.specs.Option.{option_map}
 use Rattle.lls_base.specs.Shelf.{Files}
@@ -28,7 +28,7 @@ use Rattle.lls_cli.specs.declared.status.Status.TheVariants as statuses
 use Rattle.lls_cli.specs.Question.{formula_asked, formula_opened}
 use Rattle.lls_cli.specs.Evidence.{HasLog, HasProof, HasSpentLog}
 use Rattle.lls_cli.specs.Fewest.{asked_fewer, IsAbove, IsOfFewest, whole, below}
-use Rattle.lls_cli.specs.Answer.{Answers, IsAnswer, check_answer, judge_answer, IsDecision, IsFewest, IsFinding, IsMaking, IsOpening, IsTrim, satisfied, unsatisfied, unknown, found, absent, undecided, solved, unsolved, none_live, fewest, no_solution, at_most, unsettled, opened, no_rule, left_open, kept, not_accepted, by_pivot}
+use Rattle.lls_cli.specs.Answer.{Answers, check_answer, judge_answer, IsDecision, IsFewest, IsFinding, IsMaking, IsOpening, IsTrim, satisfied, unsatisfied, unknown, found, absent, undecided, solved, unsolved, none_live, fewest, no_solution, at_most, unsettled, opened, no_rule, left_open, kept, not_accepted, by_pivot}
 use Rattle.lls_cli.specs.Trimming.{HasTrimmed}
 use Rattle.lls_cli.specs.Moment.{ShelfMoment, Moment, files_at}
 use Rattle.lls_cli.specs.Ends.{WroteFile, End, IsEnd}

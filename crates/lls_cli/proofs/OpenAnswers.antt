@@ -1,11 +1,10 @@
 -- What a search over the rules between two comes to is a right answer.
-use Rattle.std.proofs.Common.{◌≡◌, ◌≤◌, ◌+◌, ℕ, Bool, List, length, sym, subst, arith}
+use Rattle.std.proofs.Common.{◌≡◌, ◌≤◌, ◌+◌, Bool, List, length, sym, subst, arith}
 use Rattle.std.specs.Prelude.{codes}
-use Rattle.lls_lit.specs.Formula.{Cnf}
 use Rattle.lls_grid.specs.History.{History}
 use Rattle.lls_prooflog.specs.declared.step.Step.{Step}
 use Rattle.lls_prooflog.specs.Log.{log_text}
-use Rattle.lls_solver.specs.Searching.{IsExhausted, IsRefutation, KeepsAll}
+use Rattle.lls_solver.specs.Searching.{IsExhausted, KeepsAll}
 use Rattle.lls_problem.proofs.Plane.{plane_law}
 use Rattle.lls_open.specs.Between.{with_rule, IsOpenSolution}
 use Rattle.lls_open.specs.Classes.{open_classes}
@@ -20,7 +19,7 @@ use Rattle.lls_cli.specs.Question.{formula_opened}
 use Rattle.lls_cli.specs.Opened.{opened_text}
 use Rattle.lls_cli.specs.Answer.{IsAnswer, IsFoundBetween, shown, said_behind, opened, no_rule, left_open}
 use Rattle.lls_cli.specs.Shown.{ShowsNoRule}
-use Rattle.lls_cli.proofs.Searches.{log_of, proof_of, short_of}
+use Rattle.lls_cli.proofs.Searches.{log_of, short_of}
 
 -- there is a variable for each cell and each open class
 pub classes_fit : (asked : OpenAsked) → length asked.problem.posed.cells + length (open_classes asked.problem.rule asked.high) ≤ (formula_opened asked).vars

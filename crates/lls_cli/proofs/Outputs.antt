@@ -1,5 +1,5 @@
 -- The file that an answer writes, if it writes one, and what it leaves there.
-use Rattle.std.proofs.Common.{◌≡◌, ℕ, suc, Bool, List, [], ◌∷◌, Option, None, Some, Result, Ok, Err, refl, ap, sym, subst, inl, inr, ◌⊎◌}
+use Rattle.std.proofs.Common.{◌≡◌, ℕ, Bool, List, [], ◌∷◌, None, Some, Result, Ok, Err, refl, ap, sym, subst, inl, inr, ◌⊎◌}
 use Rattle.lls_problem.specs.declared.judgement.Judgement.{Judgement}
 use Rattle.lls_problem.specs.declared.judgement.Judgement.TheVariants as judgements
 use Rattle.lls_lit.specs.Formula.{Cnf}

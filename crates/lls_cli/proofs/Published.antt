@@ -1,6 +1,6 @@
 -- What a search found to be absent is checked again with the same words.
 use Rattle.std.proofs.Common.{◌≡◌, ◌≢◌, ◌≤◌, ℕ, suc, Bool, true, false, List, [], ◌∷◌, Option, None, Some, Result, Ok, Err, refl, sym, ap, subst, ◌∙◌, length, arith}
-use Rattle.std.specs.Prelude.{nat_lt, if◌then◌else◌}
+use Rattle.std.specs.Prelude.{if◌then◌else◌}
 use Rattle.std.proofs.lemmas.Bool.{le-ltb}
 use Rattle.std.proofs.lemmas.List.Elements.{All-nil, All-cons}
 use Rattle.std.specs.FinMap as map
@@ -21,13 +21,12 @@ use Rattle.lls_words.specs.declared.job.Job.{Job}
 use Rattle.lls_words.specs.declared.job.Job.TheVariants as jobs
 use Rattle.lls_cli.specs.Questions.{Question}
 use Rattle.lls_cli.specs.Questions as questions
-use Rattle.lls_cli.specs.declared.effort.Effort.{Effort}
 use Rattle.lls_cli.specs.declared.asked.Asked.{Asked}
 use Rattle.lls_cli.specs.declared.status.Status.{Status}
 use Rattle.lls_cli.specs.declared.status.Status.TheVariants as statuses
 use Rattle.lls_cli.specs.declared.fault.Fault.{Fault}
-use Rattle.lls_cli.specs.Question.{asked_with, opened_with, demanded, effort_of, formula_asked, formula_opened, input_from, input_of, posed_in, problem_in, roomy_problem_in, small_problem_in, with_room, with_few_cells, proof_limit, search_limit, question_of}
-use Rattle.lls_cli.specs.Fewest.{asked_fewer, IsOfFewest}
+use Rattle.lls_cli.specs.Question.{asked_with, opened_with, demanded, effort_of, input_from, input_of, problem_in, roomy_problem_in, small_problem_in, with_room, proof_limit, search_limit, question_of}
+use Rattle.lls_cli.specs.Fewest.{IsOfFewest}
 use Rattle.lls_cli.specs.Answer.{NoneHolds, YesHolds}
 use Rattle.lls_cli.specs.Claims.{OfQuestion, LeavesCertificate, LeavesProof, ChangesOnly, IsPublished, Publishes, PublishesFewest, demands_fewer, certificate_at, log_at, outputs_of_words}
 use Rattle.lls_cli.proofs.Apart.{AreApart}

@@ -1,11 +1,11 @@
 -- What a search comes to is a right answer.
-use Rattle.std.proofs.Common.{◌≡◌, ◌≤◌, ◌+◌, ℕ, Bool, true, List, length, sym, subst, arith}
+use Rattle.std.proofs.Common.{◌≡◌, ◌≤◌, Bool, true, List, length, sym, subst, arith}
 use Rattle.std.specs.Prelude.{codes}
 use Rattle.std.proofs.lemmas.List.Sums.{count_by-le-length}
 use Rattle.std.specs.List.{list_all}
 use Rattle.lls_lit.specs.Formula.{Cnf, IsUnsatisfiable}
 use Rattle.lls_grid.specs.History.{History}
-use Rattle.lls_problem.specs.Solution.{IsSolution, IsAbsent}
+use Rattle.lls_problem.specs.Solution.{IsSolution}
 use Rattle.lls_problem.proofs.Plane.{plane_law}
 use Rattle.lls_encode.specs.Formula.{formula_of}
 use Rattle.lls_prooflog.specs.declared.step.Step.{Step}

@@ -1,5 +1,5 @@
 -- A trim: what its file has, and what it says.
-use Rattle.std.specs.Prelude.{◌≡◌, ℕ, true, ◌++◌, List, codes, decimal, map, length}
+use Rattle.std.specs.Prelude.{◌≡◌, ℕ, true, ◌++◌, List, codes, decimal, map}
 use Rattle.std.specs.List.{list_all}
 use Rattle.lls_lit.specs.Formula.{Cnf}
 use Rattle.lls_prooflog.specs.declared.step.Step.{Step}

@@ -1,5 +1,5 @@
 // The text of an assignment.
-ghost use Rattle.std.specs.Prelude.{◌≡◌, ◌≤◌, ◌<◌, ◌++◌, ◌+◌, ℤ, pos, length, IfOk, OnOk};
+ghost use Rattle.std.specs.Prelude.{◌≡◌, ◌≤◌, ◌<◌, ◌++◌, ◌+◌, length, IfOk, OnOk};
 ghost use Rattle.lls_cli.specs.ModelText.{model_text, number_text, true_literal};
 
 use itoa::Buffer;

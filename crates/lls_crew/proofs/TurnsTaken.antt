@@ -24,7 +24,7 @@ use Rattle.lls_crew.specs.declared.stage.Stage.{Stage}
 use Rattle.lls_crew.specs.declared.stage.Stage.TheVariants.{Going, Ended, Failed}
 use Rattle.lls_crew.specs.Turns.{EndsBy, IsGrown}
 use Rattle.lls_crew.specs.Forgetting.{Forgets, MayDelete, deletion_of, ids_in}
-use Rattle.lls_crew.specs.Crew.{AreFirst, CrewState, IsCrew, IsCrewOf, Learns, Stops, crew_of, started}
+use Rattle.lls_crew.specs.Crew.{AreFirst, IsCrew, IsCrewOf, Learns, Stops, crew_of, started}
 use Rattle.lls_crew.proofs.Deletions.{additions-deletion_of, ids_left-live}
 
 ids_first : (formula : Cnf) (steps : List Step) (s : SearcherState) → HoldsFirst formula steps s.store.live → AreFirst formula (live_after formula steps) (ids_in s)

@@ -1,5 +1,5 @@
 -- Several searchers over one log.
-use Rattle.std.specs.Prelude.{◌⊎◌, ◌≡◌, ◌<◌, ◌≤◌, ℕ, ℤ, Bool, true, List, [], ◌∷◌, ◌++◌, All, Result, Ok, Err, length, map, replicate, slice_index_or, slice_set, take, ◌==◌}
+use Rattle.std.specs.Prelude.{◌⊎◌, ◌≡◌, ◌<◌, ◌≤◌, ℕ, ℤ, Bool, List, [], ◌∷◌, ◌++◌, All, Result, Ok, Err, length, map, replicate, slice_index_or, slice_set, take, ◌==◌}
 use Rattle.std.specs.List.{list_any}
 use Rattle.lls_lit.specs.Formula.{Clause, Cnf}
 use Rattle.lls_base.specs.declared.memory.Memory.{Memory}

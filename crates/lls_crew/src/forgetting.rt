@@ -1,5 +1,5 @@
 // What a crew forgets: clauses that are no searcher's reason go out of each that holds them, in one step of the log.
-ghost use Rattle.std.specs.Prelude.{◌≡◌, ◌<◌, ◌≤◌, ℕ, All, IfOk, IfSome, OnErr, drop, length, map, slice_get};
+ghost use Rattle.std.specs.Prelude.{◌≡◌, ◌<◌, ◌≤◌, All, IfOk, IfSome, OnErr, drop, length, map, slice_get};
 ghost use Rattle.lls_store.specs.Sound.{IsSound};
 ghost use Rattle.lls_solver.specs.Deletion.{HasReasons, MayLose, numbers_left};
 ghost use Rattle.lls_solver.specs.Searching.{IsGoodLog, IsSearching};

@@ -1,5 +1,5 @@
 // The first reading of a proof: its form, its faults and its greatest variable.
-ghost use Rattle.std.specs.Prelude.{◌≡◌, ◌≤◌, IfOk, IsTrue, OnOk};
+ghost use Rattle.std.specs.Prelude.{◌≡◌, ◌≤◌, IfOk, IsTrue};
 ghost use Rattle.lls_base.specs.Shelf.{known_files};
 
 use crate::fault::Fault;

@@ -1,12 +1,10 @@
 // A clause that is taken out.
-ghost use Rattle.std.specs.Prelude.{◌≡◌, ◌≢◌, ◌≤◌, true, false, length, Some, IsSome, OnErr, OnOk};
+ghost use Rattle.std.specs.Prelude.{◌≡◌, ◌≢◌, true, false, length, Some, IsSome, OnErr, OnOk};
 ghost use Rattle.lls_lit.specs.Literal.{variable_of};
-ghost use Rattle.lls_lit.specs.Formula.{is_within, is_literal_of};
-ghost use Rattle.lls_prooflog.specs.declared.step.Step.TheVariants.{Del};
+ghost use Rattle.lls_lit.specs.Formula.{is_literal_of};
 ghost use Rattle.lls_store.specs.Trail.{IsTrail, reason_of};
 ghost use Rattle.lls_store.specs.Clauses.{clause_numbered};
 ghost use Rattle.lls_store.specs.Sound.{IsSound};
-ghost use Rattle.lls_store.specs.Removal.{without_clause};
 ghost use Rattle.lls_store.specs.Store.{AreLive};
 ghost use Rattle.lls_lemmas.specs.Finding.{HasLiterals, IsFree};
 ghost use Rattle.lls_lemmas.specs.Lemmas.{DeletesOne};

@@ -1,10 +1,9 @@
 // A live clause of just these literals.
-ghost use Rattle.std.specs.Prelude.{◌≡◌, ◌≤◌, ◌⊎◌, ℤ, true, Contains, IfSome};
+ghost use Rattle.std.specs.Prelude.{◌≡◌, ℤ, true, Contains, IfSome};
 ghost use Rattle.std.specs.FinSet as set;
 ghost use Rattle.std.specs.Ordering.{int_cmp};
 ghost use Rattle.lls_lit.specs.Formula.{is_within};
 ghost use Rattle.lls_store.specs.Clauses.{IsIn};
-ghost use Rattle.lls_store.specs.Store.{AreLive};
 ghost use Rattle.lls_lemmas.specs.Finding.{HasLiterals};
 
 use crate::index::Index;

@@ -1,6 +1,6 @@
 // The hints of a clause that unit propagation gives: from the conflict back along the reasons of what was false (Goldberg and
 // Novikov, Verification of Proofs of Unsatisfiability for CNF Formulas, 2003).
-ghost use Rattle.std.specs.Prelude.{◌≡◌, ◌≤◌, ◌<◌, ◌+◌, ◌++◌, ◌∷◌, [], ℤ, true, length, reverse, Contains, IsSome, OnOk};
+ghost use Rattle.std.specs.Prelude.{◌≡◌, ◌≤◌, ◌<◌, ◌+◌, ◌++◌, ◌∷◌, [], ℤ, true, length, reverse, IsSome, OnOk};
 ghost use Rattle.std.specs.List.{list_all, filter_map, cons_option};
 ghost use Rattle.lls_lit.specs.Formula.{is_literal_of, is_within};
 ghost use Rattle.lls_store.specs.Trail.{IsTrail};

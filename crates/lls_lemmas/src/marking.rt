@@ -1,6 +1,5 @@
 // The literals that a way back from a conflict comes by.
-ghost use Rattle.std.specs.Prelude.{◌≡◌, ◌≤◌, ℤ, true, Contains, OnOk};
-ghost use Rattle.lls_lit.specs.Literal.{variable_of};
+ghost use Rattle.std.specs.Prelude.{◌≡◌, ℤ, true, Contains, OnOk};
 ghost use Rattle.lls_lit.specs.Formula.{is_literal_of, is_within};
 ghost use Rattle.lls_store.specs.Trail.{HasNegated};
 ghost use Rattle.lls_store.specs.Clauses.{IsIn};

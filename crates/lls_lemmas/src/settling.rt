@@ -1,7 +1,5 @@
 // Level 0: unit propagation, with a unit clause for each literal, and the empty clause at a conflict.
 ghost use Rattle.std.specs.Prelude.{◌≡◌, ◌≢◌, length, Ok, OnErr, OnOk};
-ghost use Rattle.lls_prooflog.specs.Spent.{EachStep, IsGood, log_start};
-ghost use Rattle.lls_store.specs.Closed.{IsClosed};
 ghost use Rattle.lls_store.specs.Store.{IsConflict};
 ghost use Rattle.lls_lemmas.specs.Behind.{Grows};
 ghost use Rattle.lls_lemmas.specs.Lemmas.{EndsEmpty};

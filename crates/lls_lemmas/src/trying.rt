@@ -6,7 +6,6 @@ ghost use Rattle.lls_store.specs.Trail.{Has, IsTrail};
 ghost use Rattle.lls_store.specs.Closed.{IsClosed};
 ghost use Rattle.lls_store.specs.Sound.{IsSound};
 ghost use Rattle.lls_store.specs.Store.{AreLive, IsConflict};
-ghost use Rattle.lls_lemmas.specs.Assumed.{Assumes};
 ghost use Rattle.lls_lemmas.specs.Behind.{GivesClause, HasNoHints};
 ghost use Rattle.lls_lemmas.specs.Closing.{DecidesFor, is_id_hint};
 ghost use Rattle.lls_lemmas.specs.Lemmas.{is_tautology};

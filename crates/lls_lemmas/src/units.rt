@@ -1,5 +1,5 @@
 // Unit clauses that stand for the values of level 0.
-ghost use Rattle.std.specs.Prelude.{◌≡◌, ◌≤◌, ◌<◌, ◌+◌, ◌++◌, ◌∷◌, ℤ, [], Some, None, length, replicate, slice_get, IfOk, OnErr, OnOk};
+ghost use Rattle.std.specs.Prelude.{◌≡◌, ◌<◌, ◌+◌, ℤ, Some, None, length, replicate, slice_get, IfOk, OnOk};
 ghost use Rattle.lls_lit.specs.Literal.{variable_of};
 ghost use Rattle.lls_store.specs.Trail.{literals_of};
 ghost use Rattle.lls_lemmas.specs.Behind.{Grows};

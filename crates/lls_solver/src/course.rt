@@ -9,7 +9,6 @@ ghost use Rattle.lls_store.specs.Sound.{IsSound};
 ghost use Rattle.lls_store.specs.Store.{IsConflict};
 ghost use Rattle.lls_store.specs.Changes.{cut_to, empty_trail};
 ghost use Rattle.lls_store.specs.Removal.{compacted, renamed};
-ghost use Rattle.lls_order.specs.Order.{is_in};
 ghost use Rattle.lls_analyse.specs.Valued.{HaveValues};
 ghost use Rattle.lls_solver.specs.Course.{IsDecision, IsNext, IsOnCourse, AreWaiting, AllSet};
 

@@ -1,5 +1,5 @@
 // What a search forgets: the half of its learnt clauses that was of least use, in one step of the log.
-ghost use Rattle.std.specs.Prelude.{◌≡◌, ◌≤◌, ◌<◌, ◌↔◌, ℕ, [], All, Contains, Some, false, true, IfOk, IsTrue, OnErr, OnOk, length, map, replicate};
+ghost use Rattle.std.specs.Prelude.{◌≡◌, ◌≤◌, ◌<◌, ◌↔◌, ℕ, [], All, Contains, Some, false, true, IfOk, IsTrue, OnErr, length, map, replicate};
 ghost use Rattle.lls_lit.specs.Formula.{Cnf};
 ghost use Rattle.lls_store.specs.Trail.{reason_of};
 ghost use Rattle.lls_store.specs.Sound.{IsSound};

@@ -1,8 +1,7 @@
-use Rattle.std.proofs.Common.{sym, subst, ◌∙◌}
+use Rattle.std.proofs.Common.{sym, subst}
 use Rattle.lls_lit.specs.Formula.{Cnf, IsUnsatisfiable}
 use Rattle.lls_cli.specs.Questions as questions
 use Rattle.lls_cli.specs.Answer.{IsAnswer}
-use Rattle.lls_cli.specs.Question.{formula_opened}
 use Rattle.lls_cli.proofs.FedProofs.{comes_along}
 use Rattle.lls_cli.proofs.RightAnswers.{loose_checked_answer}
 use Rattle.lls_cli.proofs.Stopped.{Reads-along}

@@ -1,4 +1,4 @@
-use Rattle.std.proofs.Common.{◌≡◌, ◌-◌, ap, sym, subst, arith, Bool, List, ℕ, suc, ◌∙◌}
+use Rattle.std.proofs.Common.{◌≡◌, ◌-◌, ap, sym, subst, arith, Bool, List, suc, ◌∙◌}
 use Rattle.std.specs.Prelude.{codes}
 use Rattle.std.proofs.lemmas.Result.{IfOk-weaker}
 use Rattle.lls_lit.specs.Formula.{Cnf}

@@ -1,4 +1,4 @@
-use Rattle.std.proofs.Common.{◌≡◌, ◌-◌, ap, arith, Bool, List, ℕ, suc, ◌∙◌}
+use Rattle.std.proofs.Common.{◌≡◌, ◌-◌, ap, arith, Bool, List, suc, ◌∙◌}
 use Rattle.std.specs.Prelude.{codes}
 use Rattle.lls_least.specs.Fewer.{live_cells}
 use Rattle.lls_cli.specs.declared.status.Status.TheVariants as statuses

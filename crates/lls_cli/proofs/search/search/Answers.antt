@@ -1,4 +1,4 @@
-use Rattle.std.proofs.Common.{◌≡◌, ap, subst, arith, Bool, List, Ok, ℕ, ◌∙◌}
+use Rattle.std.proofs.Common.{ap, subst, arith, Bool, List, Ok, ◌∙◌}
 use Rattle.std.proofs.lemmas.Result.{IfOk-weaker}
 use Rattle.lls_lit.specs.Formula.{Cnf}
 use Rattle.lls_solver.specs.Searching.{IsModel, IsExhausted}

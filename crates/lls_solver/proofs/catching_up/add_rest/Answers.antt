@@ -1,9 +1,6 @@
-use Rattle.std.proofs.Common.{rules, ◌≡◌, ◌+◌, ◌-◌, ℕ, length, take, Some, refl, sym, ap, ◌∙◌, subst, arith}
-use Rattle.std.specs.Prelude.{slice_get}
+use Rattle.std.proofs.Common.{rules, ◌≡◌, ◌+◌, ◌-◌, ℕ, length, take, refl, sym, ap, ◌∙◌, subst, arith}
 use Rattle.lls_prooflog.specs.Spent.{live_after}
 use Rattle.lls_prooflog.specs.Lent.{hints_of, ids_of}
-use Rattle.lls_prooflog.specs.Log.{step_of_ref}
-use Rattle.lls_prooflog.specs.declared.step_ref.StepRef.{StepRef}
 use Rattle.lls_store.specs.Store.{StoreState}
 use Rattle.lls_solver.specs.Searching.{additions, HoldsClauses}
 use Rattle.lls_solver.specs.Sharing.{HoldsFirst}

@@ -7,7 +7,7 @@ use Rattle.lls_prooflog.specs.Spent.{is_addition}
 use Rattle.lls_prooflog.specs.Steps.{numbered, are_accepted}
 use Rattle.lls_trim.specs.declared.trimming.Trimming.{Trimming}
 use Rattle.lls_trim.specs.Placed.{steps_of_log}
-use Rattle.lls_trim.specs.Inferences.{Inference, inferences_of}
+use Rattle.lls_trim.specs.Inferences.{Inference}
 use Rattle.lls_lrat.specs.Verdict.{log_verdict}
 use Rattle.lls_lrat.proofs.Logs.{accepted_log}
 use Rattle.lls_trim.specs.Needed.{IsFirstRat, NeedsNoRat}
