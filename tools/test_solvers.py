@@ -1,5 +1,5 @@
 #!/usr/bin/env python3
-"""Tests of the scripts that bring other solvers' answers to the program: hints.py and with_solver.py.
+"""Tests of the scripts that bring other solvers' answers to the program: hints.py, with_solver.py, and turns.py, which counts what a search learns.
 
     test_solvers.py
 
@@ -388,6 +388,33 @@ esac
         os.remove(f"{self.folder}/lls")
         status, out, said = self.solved("cadical", "exit 20")
         self.assertEqual((status, out, said[-1]), (1, "", "./lls: No such file or directory"))
+
+
+class Turns(Scratch):
+    """The program's part is played by a script that needs 0, 1000 and 77 clauses for the `--turns` 0 to 2, and 65 alone."""
+
+    LLS = """#!/bin/sh
+echo "$*" >> calls
+[ "$1 $2 $4 $5" = "search q.lls --period 3" ] || exit 2
+case "$*" in *"--turns 0 "*) needed=0 ;; *"--turns 1 "*) needed=1000 ;; *"--turns 2 "*) needed=77 ;; *) needed=65 ;; esac
+for budget; do :; done
+[ "$budget" -ge "$needed" ] && exit 20
+exit 30
+"""
+
+    def test_least_budgets(self):
+        self.write("lls", self.LLS, True)
+        words = ("turns.py", "--lls", "./lls")
+        self.assertEqual(ran(*words, "q.lls", "--period", "3", folder=self.folder), (0, "alone: 65\n", ""))
+        status, out, err = ran(*words, "--crew", "4", "--seeds", "3", "q.lls", "--period", "3", folder=self.folder)
+        crews = "".join(f"--crew 4 --turns {seed}: {needed}\n" for seed, needed in enumerate((0, 1000, 77)))
+        self.assertEqual((status, out, err), (0, "alone: 65\n" + crews, ""))
+        self.assertIn("--period 3 --crew 4 --turns 1 --budget 1000", self.read("calls"))
+        self.assertEqual(ran(*words, "other.lls", folder=self.folder), (1, "", "turns.py: `lls search` ended with 2\n"))
+
+    def test_a_search_that_no_budget_decides(self):
+        self.write("lls", "#!/bin/sh\nexit 30\n", True)
+        self.assertEqual(ran("turns.py", "--lls", "./lls", "q.lls", folder=self.folder), (1, "", "turns.py: the greatest budget is spent\n"))
 
 
 if __name__ == "__main__":

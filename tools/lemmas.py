@@ -1,0 +1,126 @@
+#!/usr/bin/env python3
+"""Writes small random formulas, each with a random proof without hints, and says what `lls-hints` has to answer.
+
+    lemmas.py FOLDER COUNT SEED
+
+FOLDER gets the files N.cnf, N.drat, the proof as text, and N.bytes, the same proof in bytes, for N from 0 on. A line of the standard output
+has N and the answer: `hinted`, or `refused: ` with the first lemma that unit propagation doesn't give, or that there is no empty clause. All
+clauses are gone through until nothing new follows; nothing is watched, sorted or looked up by a hash. Where the answer is `hinted` all
+assignments are tried, and the script ends with a failure if one satisfies the formula.
+"""
+import itertools
+import os
+import random
+
+import ending
+
+
+def forced(clauses, true):
+    """What unit propagation makes true, or None where it comes to a conflict."""
+    true = set(true)
+    while True:
+        before = len(true)
+        for clause in clauses:
+            left = {literal for literal in clause if -literal not in true}
+            if not left:
+                return None
+            if len(left) == 1:
+                true |= left
+        if len(true) == before:
+            return true
+
+
+def is_implied(clauses, lemma):
+    negated = {-literal for literal in lemma}
+    return any(-literal in negated for literal in negated) or forced(clauses, negated) is None
+
+
+def answer(formula, lemmas):
+    """What comes of the lemmas, each a pair of whether it is deleted and its literals."""
+    live, units = [frozenset(clause) for clause in formula], set()
+    for line, (is_deletion, lemma) in enumerate(lemmas, 1):
+        clauses = live + [frozenset({unit}) for unit in units]
+        at_zero = forced(clauses, ())
+        if at_zero is None:
+            return "hinted"
+        # What holds for good stays so, whatever is deleted.
+        units = at_zero
+        if is_deletion and frozenset(lemma) in live:
+            live.remove(frozenset(lemma))
+        elif not is_deletion and not is_implied(clauses, lemma):
+            return f"refused: NotImplied {line}"
+        elif not is_deletion and not any(-literal in lemma for literal in lemma):
+            live.append(frozenset(lemma))
+    return "hinted" if forced(live + [frozenset({unit}) for unit in units], ()) is None else "refused: NoEmpty"
+
+
+def drawn_clause(draw, count, least):
+    chosen = [draw.randint(1, count) for _ in range(draw.randint(least, 3))]
+    return [draw.choice((v, -v)) for v in chosen]
+
+
+def drawn(draw):
+    """A formula of few variables, most of them without a solution, and lemmas most of which are implied."""
+    count = draw.randint(2, 4)
+    formula = [drawn_clause(draw, count, 1) for _ in range(draw.randint(3, 4 * count))]
+    live, lemmas = list(formula), []
+    for _ in range(draw.randint(0, 12)):
+        if live and draw.random() < 0.2:
+            gone = draw.choice(live)
+            lemmas.append((True, draw.sample(gone, len(gone))))
+        elif draw.random() < 0.05:
+            lemmas.append((True, drawn_clause(draw, count, 1)))
+        else:
+            lemma = drawn_clause(draw, count + (draw.random() < 0.1), 1)
+            if is_implied(live, lemma) or draw.random() < 0.1:
+                lemmas.append((False, lemma))
+                live.append(lemma)
+    if draw.random() < 0.5:
+        lemmas.append((False, []))
+    return count, formula, lemmas
+
+
+def number_in_bytes(number):
+    low = bytearray()
+    while number > 127:
+        low.append(number % 128 + 128)
+        number //= 128
+    return bytes(low) + bytes([number])
+
+
+def in_bytes(lemmas):
+    literals = lambda lemma: b"".join(number_in_bytes(2 * abs(literal) + (literal < 0)) for literal in lemma)
+    return b"".join((b"d" if is_deletion else b"a") + literals(lemma) + b"\0" for is_deletion, lemma in lemmas)
+
+
+def in_text(lemmas):
+    return "".join(" ".join(["d"] * is_deletion + [*map(str, lemma), "0"]) + "\n" for is_deletion, lemma in lemmas)
+
+
+def has_solution(count, formula):
+    return any(
+        all(any(signs[abs(literal) - 1] == (literal > 0) for literal in clause) for clause in formula)
+        for signs in itertools.product((False, True), repeat=count)
+    )
+
+
+def main():
+    folder, count, seed = ending.words(__doc__, "FOLDER", "COUNT", "SEED")
+    draw = random.Random(ending.number(seed, "SEED"))
+    for n in range(ending.number(count, "COUNT")):
+        variables, formula, lemmas = drawn(draw)
+        found = answer(formula, lemmas)
+        if found == "hinted" and has_solution(variables, formula):
+            return f"lemmas.py: the formula {n} has a solution"
+        with open(os.path.join(folder, f"{n}.cnf"), "w", encoding="ascii") as file:
+            file.write(f"p cnf {variables} {len(formula)}\n" + "".join(f"{' '.join(map(str, [*clause, 0]))}\n" for clause in formula))
+        with open(os.path.join(folder, f"{n}.drat"), "w", encoding="ascii") as file:
+            file.write(in_text(lemmas))
+        with open(os.path.join(folder, f"{n}.bytes"), "wb") as file:
+            file.write(in_bytes(lemmas))
+        print(n, found, sep="\t")
+    return 0
+
+
+if __name__ == "__main__":
+    ending.run(main, __doc__)
