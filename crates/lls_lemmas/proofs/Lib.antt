@@ -11,3 +11,4 @@ pub mod Tautologies
 pub mod Tried
 pub mod Loaded
 pub mod Without
+pub mod Found

@@ -74,3 +74,10 @@ first_more lits k x l marked lt is of inside =
       | inl same ↦ (let Q : ℤ → Type 0 = λ m. Contains (take k lits ++ x ∷ []) m in subst Q (sym same) (Contains-push (take k lits) x))
       | inr old ↦ Contains-append_left (take k lits) (x ∷ []) l (of l old)
     ])
+
+-- and each of the first of the list is marked
+pub marked_more : (lits : List ℤ) (k : ℕ) (x l : ℤ) (marked : Literals) → k < length lits → x ≡ get_or lits k x → ((m : ℤ) → Contains (take k lits) m → IsIn marked m) → Contains (take (k + 1) lits) l → IsIn (set.insert marked x) l
+marked_more lits k x l marked lt is all inside = elim (Contains-take_more lits k x l lt is inside) [
+  | inl old ↦ insert_keeps marked x l (all l old)
+  | inr same ↦ (let P : ℤ → Type 0 = λ m. IsIn (set.insert marked x) m in subst P same (insert_has marked x))
+]

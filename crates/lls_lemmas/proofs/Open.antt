@@ -29,12 +29,12 @@ use Rattle.lls_analyse.proofs.Trails.{apart, consistent_trail}
 use Rattle.lls_lemmas.proofs.Listing.{among-from_Contains, Contains-from_among}
 
 -- a clause that was found is one of the store's
-record IsOfStore (live : List LiveClause) (lits : Clause) : Type 0 where
-  clause : LiveClause
-  is_live : Contains live clause
-  same : set.from_list lits ≡ clause.lits
+pub record IsOfStore (live : List LiveClause) (lits : Clause) : Type 0 where
+  pub clause : LiveClause
+  pub is_live : Contains live clause
+  pub same : set.from_list lits ≡ clause.lits
 
-found_of : (live : List LiveClause) (pairs : Live) (id : ℕ) (lits : Clause) → Spells live pairs → find_clause pairs id ≡ Some lits → IsOfStore live lits
+pub found_of : (live : List LiveClause) (pairs : Live) (id : ℕ) (lits : Clause) → Spells live pairs → find_clause pairs id ≡ Some lits → IsOfStore live lits
 found_of [] [] id lits spells found = absurd cc
 found_of [] (p ∷ ps) id lits spells found = absurd spells
 found_of (c ∷ cs) [] id lits spells found = absurd spells

@@ -12,7 +12,7 @@ use Rattle.lls_lit.proofs.Flipped.{negation_twice}
 use Rattle.lls_prooflog.specs.UnitWalk.{is_among}
 use Rattle.lls_store.specs.Clauses.{Literals, IsIn}
 use Rattle.lls_lemmas.specs.Lemmas.{is_tautology}
-use Rattle.lls_lemmas.proofs.Listing.{Contains-from_among, among-from_Contains, inserted, insert_has, insert_keeps, Contains-take_more}
+use Rattle.lls_lemmas.proofs.Listing.{Contains-from_among, among-from_Contains, inserted, marked_more, Contains-take_more}
 use Rattle.lls_analyse.proofs.Gathering.{later, nothing_there}
 
 pub both_there : (lits : List ℤ) (l : ℤ) → Contains lits l → Contains lits (negation l) → is_tautology lits ≡ true
@@ -53,10 +53,7 @@ apart_start lits = record {
 
 pub apart_more : (lits : List ℤ) (k : ℕ) (x : ℤ) (marked : Literals) → k < length lits → x ≡ get_or lits k x → 1 ≤ variable_of x → set.contains marked (negation x) ≡ false → AreApart lits k marked → AreApart lits (k + 1) (set.insert marked x)
 apart_more lits k x marked lt is low none h = record {
-  marks = λ l inside. elim (Contains-take_more lits k x l lt is inside) [
-    | inl old ↦ insert_keeps marked x l (h.marks l old)
-    | inr same ↦ (let P : ℤ → Type 0 = λ m. IsIn (set.insert marked x) m in subst P same (insert_has marked x))
-  ];
+  marks = λ l inside. marked_more lits k x l marked lt is h.marks inside;
   of = λ l inside. elim (inserted marked x l inside) [
     | inl same ↦ (let P : ℤ → Type 0 = λ m. Contains (take (k + 1) lits) m in subst P (sym same) (in_more x (inr refl)))
     | inr old ↦ in_more l (inl (h.of l old))

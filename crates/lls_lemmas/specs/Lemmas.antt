@@ -49,6 +49,13 @@ pub record EndsEmpty (steps : List Step) : Type 0 where
 abbrev pub IsNotImplied : Cnf → List Step → Clause → Type 0
 IsNotImplied formula steps lits = (hints : List ℤ) → unit_walk (live_after formula steps) lits hints ≡ None → ⊥
 
+-- a clause of just these literals is live behind the steps, in any order and with repetitions
+pub record HasClause (formula : Cnf) (steps : List Step) (lits : Clause) : Type 0 where
+  pub id : ℕ
+  pub clause : Clause
+  pub found : find_clause (live_after formula steps) id ≡ Some clause
+  pub same_literals : set.from_list {R = int_cmp} clause ≡ set.from_list lits
+
 -- one step more, the deletion of a live clause of just these literals
 pub record DeletesOne (formula : Cnf) (old new : List Step) (lits : Clause) : Type 0 where
   pub id : ℕ

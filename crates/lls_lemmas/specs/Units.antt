@@ -69,3 +69,9 @@ pub record StoreGrows (trail : TrailState) (old new : StoreState) : Type 0 where
 pub record HasSettled (store : StoreState) (trail : TrailState) (done : ℕ) : Type 0 where
   pub closed : IsClosed store.live trail
   pub all_done : done ≡ length trail.entries
+
+-- clauses can be tried: at level 0 unit propagation has nothing to do, each literal of the trail has a unit clause, and each variable marks
+pub record IsReady (store : StoreState) (trail : TrailState) (units : List (Option ℕ)) (marks : ℕ) : Type 0 where
+  pub has_units : HasUnits store trail units (length trail.entries)
+  pub closed : IsClosed store.live trail
+  pub marks_vars : marks ≡ trail.vars

@@ -1,5 +1,5 @@
 // A live clause of just these literals.
-ghost use Rattle.std.specs.Prelude.{◌≡◌, ℤ, true, Contains, IfSome};
+ghost use Rattle.std.specs.Prelude.{◌≡◌, ◌≢◌, ℕ, ℤ, true, false, Contains, IfNone, IfSome};
 ghost use Rattle.std.specs.FinSet as set;
 ghost use Rattle.std.specs.Ordering.{int_cmp};
 ghost use Rattle.lls_lit.specs.Formula.{is_within};
@@ -34,6 +34,7 @@ pub(crate) fn hash_of(marks: &mut Marks, lits: &[Lit]) -> u64
 fn mark_all(marks: &mut Marks, lits: &[Lit])
     requires { is_within marks.old.vars lits.now ≡ true }
     ensures of { (l : ℤ) → IsIn marks.new.lits l → Contains lits.now l }
+    ensures all { (l : ℤ) → Contains lits.now l → IsIn marks.new.lits l }
     ensures vars { marks.new.vars ≡ marks.old.vars }
 {
     marks.clear();
@@ -45,7 +46,8 @@ fn mark_all(marks: &mut Marks, lits: &[Lit])
 // Whether all the literals are marked.
 fn are_marked(marks: &Marks, lits: &[Lit]) -> bool
     requires { is_within marks.now.vars lits.now ≡ true }
-    ensures { result ≡ true → (l : ℤ) → Contains lits.now l → IsIn marks.now.lits l }
+    ensures all { result ≡ true → (l : ℤ) → Contains lits.now l → IsIn marks.now.lits l }
+    ensures some { result ≡ false → ((l : ℤ) → Contains lits.now l → IsIn marks.now.lits l) → ⊥ }
 {
     for lit in lits {
         if !marks.has(*lit) {
@@ -60,6 +62,7 @@ fn are_same(marks: &mut Marks, a: &[Lit], b: &[Lit]) -> bool
     requires a { is_within marks.old.vars a.now ≡ true }
     requires b { is_within marks.old.vars b.now ≡ true }
     ensures same { result ≡ true → set.from_list {R = int_cmp} a.now ≡ set.from_list b.now }
+    ensures differ { result ≡ false → set.from_list {R = int_cmp} a.now ≢ set.from_list b.now }
     ensures vars { marks.new.vars ≡ marks.old.vars }
 {
     mark_all(marks, a);
@@ -75,6 +78,7 @@ fn has_literals<S: Store>(store: &S, marks: &mut Marks, number: u32, lits: &[Lit
     requires vars { (S.state store.now).vars ≡ marks.old.vars }
     requires within { is_within marks.old.vars lits.now ≡ true }
     ensures has { result ≡ true → HasLiterals (S.state store.now).live number lits.now }
+    ensures lacks { result ≡ false → HasLiterals (S.state store.now).live number lits.now → ⊥ }
     ensures vars { marks.new.vars ≡ marks.old.vars }
 {
     if number >= store.count() {
@@ -86,8 +90,8 @@ fn has_literals<S: Store>(store: &S, marks: &mut Marks, number: u32, lits: &[Lit
     are_same(marks, lits, store.lits(number))
 }
 
-/// The number of a live clause of just these literals: of several that are known under the hash the newest.
-pub(crate) fn find<S: Store>(
+// The number of such a clause among those that are known under the hash: of several the newest.
+fn find_known<S: Store>(
     store: &S,
     marks: &mut Marks,
     index: &Index,
@@ -113,4 +117,41 @@ pub(crate) fn find<S: Store>(
         at = entry.before;
     }
     None
+}
+
+// The number of such a clause among all.
+fn find_anywhere<S: Store>(store: &S, marks: &mut Marks, lits: &[Lit]) -> Option<u32>
+    requires vars { (S.state store.now).vars ≡ marks.old.vars }
+    requires within { is_within marks.old.vars lits.now ≡ true }
+    ensures has { IfSome result (λ number. HasLiterals (S.state store.now).live number lits.now) }
+    ensures none { IfNone result ((number : ℕ) → HasLiterals (S.state store.now).live number lits.now → ⊥) }
+    ensures vars { marks.new.vars ≡ marks.old.vars }
+{
+    for number in 0..store.count() {
+        if has_literals(store, marks, number, lits) {
+            return Some(number);
+        }
+    }
+    None
+}
+
+/// The number of a live clause of just these literals: of several that are known under the hash the newest. Where none is known,
+/// which a proof seldom asks for, all clauses are looked at.
+pub(crate) fn find<S: Store>(
+    store: &S,
+    marks: &mut Marks,
+    index: &Index,
+    hash: u64,
+    lits: &[Lit],
+) -> Option<u32>
+    requires vars { (S.state store.now).vars ≡ marks.old.vars }
+    requires within { is_within marks.old.vars lits.now ≡ true }
+    ensures has { IfSome result (λ number. HasLiterals (S.state store.now).live number lits.now) }
+    ensures none { IfNone result ((number : ℕ) → HasLiterals (S.state store.now).live number lits.now → ⊥) }
+    ensures vars { marks.new.vars ≡ marks.old.vars }
+{
+    match find_known(store, marks, index, hash, lits) {
+        Some(number) => Some(number),
+        None => find_anywhere(store, marks, lits),
+    }
 }

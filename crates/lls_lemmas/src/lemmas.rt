@@ -4,7 +4,7 @@ ghost use Rattle.lls_lit.specs.Formula.{is_within, IsUnsatisfiable};
 ghost use Rattle.lls_prooflog.specs.Spent.{EachStep, IsGood, log_start};
 ghost use Rattle.lls_store.specs.Changes.{empty_trail};
 ghost use Rattle.lls_store.specs.Store.{empty_store};
-ghost use Rattle.lls_lemmas.specs.Lemmas.{is_tautology, DeletesOne, EndsEmpty, GoesOnWell, IsLive, IsNotImplied, KeepsLive};
+ghost use Rattle.lls_lemmas.specs.Lemmas.{is_tautology, DeletesOne, EndsEmpty, GoesOnWell, HasClause, IsLive, IsNotImplied, KeepsLive};
 
 use crate::deleting::{delete_clause, is_needed};
 use crate::finding::{find, hash_of};
@@ -147,6 +147,11 @@ impl<'f, S: Store> Lemmas<'f, S> {
         ensures tautology { result ≡ Ok Added.Tautology → (is_tautology lits.now ≡ true) × (self.new ≡ self.old) }
         ensures not_implied { result ≡ Ok Added.NotImplied → IsNotImplied self.old.formula self.new.steps lits.now }
         ensures stays { result ≡ Ok Added.NotImplied → self.old.settled ≡ true → self.new ≡ self.old }
+        ensures ended { result ≡ Ok Added.Refuted → self.new.refuted ≡ true }
+        ensures going { result ≡ Ok Added.Implied → self.new.refuted ≡ false }
+        ensures going_on { result ≡ Ok Added.NotImplied → self.new.refuted ≡ false }
+        ensures settled { result ≡ Ok Added.Implied → self.new.settled ≡ true }
+        ensures settled_still { result ≡ Ok Added.NotImplied → self.new.settled ≡ true }
         ensures done { self.old.refuted ≡ true → self.new ≡ self.old }
         ensures formula { self.new.formula ≡ self.old.formula }
         ensures vars { self.new.vars ≡ self.old.vars }
@@ -177,6 +182,9 @@ impl<'f, S: Store> Lemmas<'f, S> {
         requires within { is_within self.old.vars lits.now ≡ true }
         ensures gone { result ≡ Ok Deleted.Gone → DeletesOne self.old.formula self.old.steps self.new.steps lits.now }
         ensures stays { result ≢ Ok Deleted.Gone → self.new.steps ≡ self.old.steps }
+        ensures reason { result ≡ Ok Deleted.Reason → HasClause self.old.formula self.old.steps lits.now }
+        ensures unknown { result ≡ Ok Deleted.Unknown → HasClause self.old.formula self.old.steps lits.now → ⊥ }
+        ensures ended { result ≡ Ok Deleted.Refuted → self.old.refuted ≡ true }
         ensures settled { self.new.settled ≡ self.old.settled }
         ensures refuted { self.new.refuted ≡ self.old.refuted }
         ensures formula { self.new.formula ≡ self.old.formula }
@@ -223,6 +231,7 @@ impl<'f, S: Store> Lemmas<'f, S> {
         ensures refuted { result ≡ self.now.refuted }
         ensures ends { result ≡ true → EndsEmpty self.now.steps }
         ensures unsatisfiable { result ≡ true → IsUnsatisfiable self.now.formula }
+        ensures unrefuted { result ≡ false → self.now.settled ≡ true → IsNotImplied self.now.formula self.now.steps [] }
     {
         self.refuted
     }

@@ -9,7 +9,7 @@ ghost use Rattle.lls_store.specs.Store.{AreLive, IsConflict};
 ghost use Rattle.lls_lemmas.specs.Behind.{GivesClause, HasNoHints};
 ghost use Rattle.lls_lemmas.specs.Closing.{DecidesFor, is_id_hint};
 ghost use Rattle.lls_lemmas.specs.Lemmas.{is_tautology};
-ghost use Rattle.lls_lemmas.specs.Units.{AreUnits, HasUnits, HaveUnits};
+ghost use Rattle.lls_lemmas.specs.Units.{AreUnits, HaveUnits, IsReady};
 
 use crate::assuming::{Assumed, assume_all};
 use crate::gathering::{Gathering, gather};
@@ -117,10 +117,8 @@ fn try_settled<S: Store>(
     lits: &[Lit],
 ) -> Result<bool, Memory>
     requires settled { S.settled store.old trail.old }
-    requires units { HasUnits (S.state store.old) trail.old units.now (length trail.old.entries) }
-    requires closed { IsClosed (S.state store.old).live trail.old }
+    requires ready { IsReady (S.state store.old) trail.old units.now gathering.old.marks.vars }
     requires live { AreLive (S.state store.old) }
-    requires vars { gathering.old.marks.vars ≡ trail.old.vars }
     requires within { is_within trail.old.vars lits.now ≡ true }
     requires no_tautology { is_tautology lits.now ≡ false }
     ensures gives { result ≡ Ok true → GivesClause (S.state store.old).live lits.now gathering.new.hints.items }
@@ -147,9 +145,7 @@ pub(crate) fn try_clause<S: Store>(
     lits: &[Lit],
 ) -> Result<bool, Memory>
     requires tracked { S.tracks store.old trail.old }
-    requires units { HasUnits (S.state store.old) trail.old units.now (length trail.old.entries) }
-    requires closed { IsClosed (S.state store.old).live trail.old }
-    requires vars { gathering.old.marks.vars ≡ trail.old.vars }
+    requires ready { IsReady (S.state store.old) trail.old units.now gathering.old.marks.vars }
     requires within { is_within trail.old.vars lits.now ≡ true }
     requires no_tautology { is_tautology lits.now ≡ false }
     ensures gives { result ≡ Ok true → GivesClause (S.state store.old).live lits.now gathering.new.hints.items }

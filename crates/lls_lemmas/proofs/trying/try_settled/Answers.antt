@@ -15,14 +15,14 @@ pub explain-explained-requires-clause-are_units : goal.explain-explained-require
 explain-explained-requires-clause-are_units g c =
     let a = c.assume_all-assumed in
     subst (λ (s : StoreState). AreUnits s.live a.new.trail.entries c.args.units.now) (sym a.ensures.state)
-    (are_units_on (g.S.Store.state c.args.store.now).live c.args.trail.now a.new.trail c.args.lits.now c.args.units.now c.requires.units.are_units a.ensures.assumes)
+    (are_units_on (g.S.Store.state c.args.store.now).live c.args.trail.now a.new.trail c.args.lits.now c.args.units.now c.requires.ready.has_units.are_units a.ensures.assumes)
 
 pub explain-explained-requires-clause-complete : goal.explain-explained-requires-clause-complete
 explain-explained-requires-clause-complete g c =
     let a = c.assume_all-assumed in
     let base = c.args.trail.now in
     let P : ℕ → Type 0 = λ n. HaveUnits a.new.trail.entries c.args.units.now n in
-    subst P (sym c.len-base.ensures.len) (have_units_on base a.new.trail c.args.lits.now c.args.units.now (length base.entries) (omega arith) c.requires.units.complete a.ensures.assumes)
+    subst P (sym c.len-base.ensures.len) (have_units_on base a.new.trail c.args.lits.now c.args.units.now (length base.entries) (omega arith) c.requires.ready.has_units.complete a.ensures.assumes)
 
 pub explain-explained-requires-clause-is_false : goal.explain-explained-requires-clause-is_false
 explain-explained-requires-clause-is_false g c =
@@ -37,7 +37,7 @@ explain-explained-requires-clause-base g c =
 pub explain-explained-requires-clause-decided : goal.explain-explained-requires-clause-decided
 explain-explained-requires-clause-decided g c =
     let a = c.assume_all-assumed in
-    decides_on c.args.trail.now a.new.trail c.args.lits.now c.requires.units.is_trail c.requires.units.level a.ensures.assumes
+    decides_on c.args.trail.now a.new.trail c.args.lits.now c.requires.ready.has_units.is_trail c.requires.ready.has_units.level a.ensures.assumes
 
 pub back_to-requires-clause-sound : goal.back_to-requires-clause-sound
 back_to-requires-clause-sound g c = subst (λ (s : StoreState). IsSound s.live c.assume_all-assumed.new.trail) (sym c.assume_all-assumed.ensures.state) c.assume_all-assumed.ensures.sound
@@ -57,4 +57,4 @@ returns-clause-none g c =
 pub returns-clause-trail : goal.returns-clause-trail
 returns-clause-trail g c =
     let a = c.assume_all-assumed in
-    c.back_to.ensures.cut ∙ cut_back c.args.trail.now a.new.trail c.args.lits.now c.requires.units.is_trail c.requires.units.level a.ensures.assumes
+    c.back_to.ensures.cut ∙ cut_back c.args.trail.now a.new.trail c.args.lits.now c.requires.ready.has_units.is_trail c.requires.ready.has_units.level a.ensures.assumes

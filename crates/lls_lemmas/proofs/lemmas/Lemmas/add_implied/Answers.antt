@@ -1,14 +1,24 @@
-use Rattle.std.proofs.Common.{sym, ap, ◌∙◌, subst}
+use Rattle.std.proofs.Common.{ℕ, List, Option, length, sym, ap, ◌∙◌, subst}
 use Rattle.lls_store.specs.Trail.{TrailState}
 use Rattle.lls_store.specs.Sound.{IsSound}
 use Rattle.lls_store.specs.Store.{StoreState}
 use Rattle.lls_lemmas.specs.Lemmas.{LemmasState}
+use Rattle.lls_lemmas.specs.Units.{HasUnits}
 use Rattle.lls_lemmas.proofs.Loaded.{engine_added}
 use Rattle.lls_lemmas.proofs.lemmas.Lemmas.add_implied.Goals as goal
 
-pub try_clause-requires-clause-closed : goal.try_clause-requires-clause-closed
-try_clause-requires-clause-closed g c =
-    (c.self.invariant.1.open_ (ap (λ (x : LemmasState). x.refuted) c.self.view_is ∙ c.requires.going) (ap (λ (x : LemmasState). x.settled) c.self.view_is ∙ c.requires.settled)).closed
+pub try_clause-requires-clause-ready : goal.try_clause-requires-clause-ready
+try_clause-requires-clause-ready g c =
+    let i = c.self.invariant.1 in
+    let going = ap (λ (x : LemmasState). x.refuted) c.self.view_is ∙ c.requires.going in
+    let settled = i.open_ going (ap (λ (x : LemmasState). x.settled) c.self.view_is ∙ c.requires.settled) in
+    let units = (i.rest going).has_units in
+    let P : List (Option ℕ) → Type 0 = λ ids. HasUnits (g.S.Store.state c.self.inside.store) c.self.inside.trail ids (length c.self.inside.trail.entries) in
+    record {
+      has_units = subst P (sym c.as_slice.ensures.value) (subst (λ (done : ℕ). HasUnits (g.S.Store.state c.self.inside.store) c.self.inside.trail c.self.inside.units.ids.items done) settled.all_done units);
+      closed = settled.closed;
+      marks_vars = i.marks_vars;
+    }
 
 pub add_step-requires-clause-sound : goal.add_step-requires-clause-sound
 add_step-requires-clause-sound g c =
