@@ -5,7 +5,7 @@ use crate::draws::Draws;
 use lls_cnf::{Assignment, Formula, MOST_DIMACS_BYTES, holds, read_dimacs};
 use lls_crew::{Crew, MOST_SEARCHERS, Turned, crew};
 use lls_lrat::check;
-use lls_prooflog::{Log, print_log};
+use lls_prooflog::{Log, StepRef, print_log};
 use lls_solver::Outcome;
 use std::alloc::Global;
 use std::process::Abort;
@@ -117,6 +117,124 @@ fn no_outcome_yet(rt: HostRuntime) -> Result<(), Fail> {
     let formula = square(&rt, rt.alloc())?;
     let crew = Crew::new(rt.alloc(), &formula, 1, 10, true)?;
     assert!(rt; crew.finish().is_none());
+    Ok(())
+}
+
+// The ids of the log's last step, which is a deletion.
+fn last_deleted(alloc: Global, crew: &Crew) -> Result<Vec<u64>, Fail> {
+    let log = crew.log();
+    if log.len() == 0 {
+        return Err(Fail::from("a step"));
+    }
+    let StepRef::Del(ids) = log.lend(log.len() - 1) else {
+        return Err(Fail::from("a deletion"));
+    };
+    let mut deleted = Vec::new(alloc);
+    for k in 0..ids.len() {
+        deleted.push(ids.get(k))?;
+    }
+    Ok(deleted)
+}
+
+// Which of the ids below that one a searcher holds, by id.
+fn held(alloc: Global, crew: &Crew, k: u32, end: u64) -> Result<Vec<bool>, Fail>
+    requires { k < length crew.now.held }
+{
+    let mut held = Vec::new(alloc);
+    for id in 0..end {
+        held.push(crew.holds(k, id))?;
+    }
+    Ok(held)
+}
+
+// A searcher holds what it held, without what was deleted.
+fn assert_left(rt: &impl Abort, crew: &Crew, k: u32, before: &[bool], deleted: &[u64])
+    requires { k < length crew.now.held }
+{
+    let mut id = 0;
+    for was_held in before {
+        let want = *was_held && !deleted.contains(&id);
+        assert_eq!(rt; (k, id, crew.holds(k, id)), (k, id, want));
+        id = id.wrapping_add(1);
+    }
+}
+
+// Behind the 64th clause that is learnt a half of those goes that are no searcher's reason. No searcher holds one of them then, and the
+// two that hadn't the turn hold the rest of what they held.
+#[test]
+fn deletion_by_hand(rt: HostRuntime) -> Result<(), Fail> {
+    let formula = Draws::new(7).formula(rt.alloc(), 150, 639)?;
+    let mut crew = Crew::new(rt.alloc(), &formula, 3, 10_000, false)?;
+    for turn in 0..63 {
+        assert_turn(&rt, rt.alloc(), &mut crew, turn % 3, Turned::Going)?;
+    }
+    let first = held(rt.alloc(), &crew, 1, 704)?;
+    let second = held(rt.alloc(), &crew, 2, 704)?;
+    assert_turn(&rt, rt.alloc(), &mut crew, 0, Turned::Going)?;
+    let deleted = last_deleted(rt.alloc(), &crew)?;
+    assert!(rt; deleted.len() > 20 && deleted.len() <= 32);
+    for id in &deleted {
+        assert_held(&rt, &crew, 0, &[(*id, false)]);
+    }
+    assert_left(&rt, &crew, 1, &first, &deleted);
+    assert_left(&rt, &crew, 2, &second, &deleted);
+    Ok(())
+}
+
+// What a searcher learns that has all turns.
+fn learnt_alone(rt: &impl Abort, alloc: Global, formula: &Formula, k: u32) -> Result<Vec<u8>, Fail>
+    requires { k < 4 }
+{
+    let mut crew = Crew::new(alloc, formula, 4, 1_000, true)?;
+    for _turn in 0..40 {
+        assert_turn(rt, alloc, &mut crew, k, Turned::Going)?;
+    }
+    Ok(print_log(alloc, crew.log())?)
+}
+
+// The searchers of a crew go different ways.
+#[test]
+fn searchers_differ(rt: HostRuntime) -> Result<(), Fail> {
+    let formula = Draws::new(7).formula(rt.alloc(), 150, 639)?;
+    for k in 0..4 {
+        let learnt = learnt_alone(&rt, rt.alloc(), &formula, k)?;
+        for other in 0..k {
+            let others = learnt_alone(&rt, rt.alloc(), &formula, other)?;
+            assert_ne!(rt; learnt.as_slice(), others.as_slice());
+        }
+    }
+    Ok(())
+}
+
+// Crews whose logs have deletions say what is right: a proof is accepted, and an assignment satisfies its formula.
+#[test]
+fn searches_with_deletions(rt: HostRuntime) -> Result<(), Fail> {
+    let mut has_deletions = false;
+    for seed in 0..4u32 {
+        let formula = Draws::new(seed).formula(rt.alloc(), 100, 430)?;
+        let mut log = Log::new(rt.alloc());
+        let outcome = crew(
+            rt.alloc(),
+            &formula,
+            2 + seed % 4,
+            1_000_000,
+            false,
+            u64::from(seed),
+            &mut log,
+        )?;
+        has_deletions |= log.additions() < log.len() as u64;
+        match outcome {
+            Outcome::Sat(assignment) => {
+                assert_eq!(rt; assignment.values().len(), formula.vars() as usize);
+                assert!(rt; holds(&formula, &assignment));
+            }
+            Outcome::Unsat => {
+                check(rt.alloc(), &formula, &log)?;
+            }
+            Outcome::Undecided => return Err(Fail::from("an outcome")),
+        }
+    }
+    assert!(rt; has_deletions);
     Ok(())
 }
 
