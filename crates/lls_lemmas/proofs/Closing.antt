@@ -23,7 +23,7 @@ use Rattle.lls_analyse.proofs.Walk.{IsSpelled, spelled, others_earlier, has_take
 use Rattle.lls_lemmas.specs.Behind.{GivesClause}
 use Rattle.lls_lemmas.specs.Closing.{Closes, IsMarkedBelow, IsFalseBut, MarksFalse}
 use Rattle.lls_lemmas.specs.Units.{IsUnit}
-use Rattle.lls_lemmas.proofs.Listing.{among-from_Contains, among_more, among_last}
+use Rattle.lls_lemmas.proofs.Listing.{among_more, among_last}
 
 -- nothing remains of literals that are all assumed
 none_remains : (assumed : List ℤ) (lits : Clause) → ((m : ℤ) → Contains lits m → is_among assumed m ≡ true) → remaining assumed lits ≡ []
@@ -136,16 +136,16 @@ closes_unit live entries lits v id more less hints ids numbers u parts closes = 
 
 -- where nothing is needed, the hints lead to the clause
 pub gives_clause : (live : List LiveClause) (lits : List ℤ) (needed : ℤ → Type 0) (hints : List ℤ) → ((l : ℤ) → needed l → ⊥) → Closes live lits needed hints → GivesClause live lits hints
-gives_clause live lits needed hints none closes = λ pairs spells. closes pairs lits spells (λ l inside. among-from_Contains lits l inside) (λ l need. absurd (none l need))
+gives_clause live lits needed hints none closes = λ pairs assumed spells has_lits. closes pairs assumed spells has_lits (λ l need. absurd (none l need))
 
 -- a unit clause of one of the clause's literals leads to it
 pub gives_by_unit : (live : List LiveClause) (entries : List Entry) (lits : List ℤ) (v id : ℕ) → AllPairs (λ (a b : LiveClause). a.id ≢ b.id) live → AllPairs (λ (a b : LiveClause). a.number < b.number) live → (u : IsUnit live entries v id) → Contains lits u.lit → GivesClause live lits (pos id ∷ [])
-gives_by_unit live entries lits v id ids numbers u inside = λ pairs spells.
+gives_by_unit live entries lits v id ids numbers u inside = λ pairs assumed spells has_lits.
     let found = clause_numbered-contained live u.clause numbers u.is_live in
-    ap (λ n. unit_walk pairs lits (pos n ∷ [])) (sym u.same_id)
-    ∙ closes_conflict pairs lits [] u.clause (spelled live pairs u.clause.number u.clause spells ids found) (λ m there.
+    ap (λ n. unit_walk pairs assumed (pos n ∷ [])) (sym u.same_id)
+    ∙ closes_conflict pairs assumed [] u.clause (spelled live pairs u.clause.number u.clause spells ids found) (λ m there.
     let same : m ≡ u.lit = only (Contains-from_IsIn (u.lit ∷ []) m (ap (λ (ls : Literals). set.contains ls m) (sym u.single) ∙ there)) in
-    ap (is_among lits) same ∙ among-from_Contains lits u.lit inside)
+    ap (is_among assumed) same ∙ has_lits u.lit inside)
   where
     only : {l m : ℤ} → Contains (l ∷ []) m → m ≡ l
     only (zero, lt, same) = sym same

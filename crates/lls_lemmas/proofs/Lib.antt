@@ -10,5 +10,10 @@ pub mod AtZero
 pub mod Tautologies
 pub mod Tried
 pub mod Loaded
+pub mod Kept
 pub mod Without
 pub mod Found
+pub mod Groups
+pub mod Opposed
+pub mod Resolvents
+pub mod Addable

@@ -1,5 +1,5 @@
--- The clauses of a formula in a store, and proofs that are accepted.
-use Rattle.std.proofs.Common.{◌≡◌, ℕ, zero, suc, ◌+◌, ◌≤◌, Bool, true, false, ◌||◌, cond, List, [], ◌∷◌, ◌++◌, length, take, replicate, Option, Some, None, is_none, refl, sym, ap, subst, ◌∙◌, inl, inr, arith}
+-- The clauses of a formula in a store, and an engine as it is made and grows.
+use Rattle.std.proofs.Common.{◌≡◌, ℕ, zero, suc, ◌+◌, ◌≤◌, Bool, true, false, List, [], ◌∷◌, ◌++◌, length, take, replicate, Option, Some, None, refl, sym, ap, subst, ◌∙◌, inl, inr, arith}
 use Rattle.std.specs.Prelude.{ℤ, Contains, slice_get, slice_index_or}
 use Rattle.std.specs.List.{enumerate_from}
 use Rattle.std.specs.FinSet as set
@@ -9,23 +9,18 @@ use Rattle.std.proofs.lemmas.Bool.Decides.{nat_tests}
 use Rattle.std.proofs.lemmas.List.{length-replicate}
 use Rattle.std.proofs.lemmas.List.Elements.{Contains-push_cases}
 use Rattle.std.proofs.lemmas.Option.{same_Some}
-use Rattle.lls_lit.specs.Formula.{Clause, Cnf, IsUnsatisfiable, is_literal_of, is_within}
-use Rattle.lls_prooflog.specs.UnitWalk.{numbered}
-use Rattle.lls_prooflog.specs.Steps.{after, are_accepted, is_empty_addition}
-use Rattle.lls_prooflog.specs.Spent.{LogState, EachStep, IsGood, log_after, log_start}
+use Rattle.lls_lit.specs.Formula.{Clause, Cnf, is_literal_of, is_within}
+use Rattle.lls_prooflog.specs.Spent.{EachStep, IsGood, log_start}
 use Rattle.lls_prooflog.specs.declared.step.Step.{Step}
-use Rattle.lls_prooflog.specs.declared.step.Step.TheVariants.{Add}
-use Rattle.lls_prooflog.specs.declared.step_fault.StepFault.{StepFault}
-use Rattle.lls_prooflog.proofs.Soundness.{fault_of_good, unsatisfiable_by_propagation}
 use Rattle.lls_store.specs.Trail.{TrailState, IsTrail}
 use Rattle.lls_store.specs.Clauses.{LiveClause}
 use Rattle.lls_store.specs.Sound.{IsSound}
 use Rattle.lls_store.specs.Changes.{empty_trail}
 use Rattle.lls_store.specs.Store.{StoreState, with_clause}
-use Rattle.lls_lemmas.specs.Lemmas.{EndsEmpty}
+use Rattle.lls_lemmas.specs.Lemmas.{HasNoFault}
 use Rattle.lls_lemmas.specs.Behind.{HoldsLive}
 use Rattle.lls_lemmas.specs.Engine.{IsEngine}
-use Rattle.lls_lemmas.specs.Units.{HasUnits}
+use Rattle.lls_lemmas.specs.Units.{HasSettled, HasUnits, IsAtRest}
 use Rattle.lls_lemmas.proofs.UnitTables.{units_more}
 
 -- the first clauses under their ids
@@ -60,24 +55,6 @@ ids_push store k lits ids clause inside = elim (Contains-push_cases store.live (
   | inr same ↦ omega (arith, ap (λ (c : LiveClause). c.id) same)
 ]
 
-accepted : (state : LogState) (before : List Step) (id : ℕ) (hints : List ℤ) → EachStep IsGood state (before ++ Add id [] hints ∷ []) → are_accepted state.live (before ++ Add id [] hints ∷ []) ≡ true
-accepted state [] id hints good = ap (λ (o : Option StepFault). cond (is_none o) true false) (fault_of_good state (Add id [] hints) good.0)
-accepted state (step ∷ before) id hints good =
-    let rest = accepted (log_after state step) before id hints good.1 in
-    ap (λ (o : Option StepFault). cond (is_none o) (is_empty_addition step || are_accepted (after state.live step) (before ++ Add id [] hints ∷ [])) false) (fault_of_good state step good.0)
-    ∙ either (is_empty_addition step) rest
-  where
-    either : (a : Bool) {b : Bool} → b ≡ true → (a || b) ≡ true
-    either true is = refl
-    either false is = is
-
--- good steps that end with the empty clause show that nothing satisfies the formula
-pub unsatisfiable_at_end : (formula : Cnf) (steps : List Step) → EachStep IsGood (log_start formula) steps → EndsEmpty steps → IsUnsatisfiable formula
-unsatisfiable_at_end formula steps good e =
-    let P : List Step → Type 0 = λ ss. EachStep IsGood (log_start formula) ss in
-    let Q : List Step → Type 0 = λ ss. are_accepted (numbered formula.clauses) ss ≡ true in
-    unsatisfiable_by_propagation formula steps good (subst Q (sym e.ends) (accepted (log_start formula) e.before e.id e.hints (subst P e.ends good)))
-
 none_in-replicate : (n i : ℕ) → slice_index_or (replicate {A = Option ℕ} n None) i None ≡ None
 none_in-replicate zero i = refl
 none_in-replicate (suc n) zero = refl
@@ -98,7 +75,7 @@ units_none store vars kept same = record {
 
 -- an engine that was just made
 pub engine_start : (formula : Cnf) (steps : List Step) (store : StoreState) (trail : TrailState) (vars : ℕ) (ids : List (Option ℕ)) (done last marks : ℕ) → steps ≡ [] → trail ≡ empty_trail vars → IsTrail trail → HoldsLive formula [] store (length formula.clauses) → store.vars ≡ trail.vars
-    → ids ≡ replicate vars None → done ≡ 0 → last ≡ length formula.clauses → marks ≡ vars → IsEngine formula steps store trail ids done last false false marks
+    → ids ≡ replicate vars None → done ≡ 0 → last ≡ length formula.clauses → marks ≡ vars → IsEngine formula steps store trail ids done last false false false marks
 engine_start formula steps store trail vars ids done last marks none empty kept holds store_vars no_ids zero_ end marked =
     let trail_vars : trail.vars ≡ vars = ap (λ (t : TrailState). t.vars) empty in
     let units = units_none store vars (subst IsTrail empty kept) (store_vars ∙ trail_vars) in
@@ -107,25 +84,36 @@ engine_start formula steps store trail vars ids done last marks none empty kept 
     let R : ℕ → Type 0 = λ n. HasUnits store trail ids n in
     let H : ℕ → Type 0 = λ n. HoldsLive formula [] store n in
     let I : List Step → Type 0 = λ ss. HoldsLive formula ss store last in
+    let W : List Step → Type 0 = λ ss. EachStep HasNoFault (log_start formula) ss in
     let G : List Step → Type 0 = λ ss. EachStep IsGood (log_start formula) ss in
     record {
-      good = subst G (sym none) tt;
+      well = subst W (sym none) tt;
+      good = λ _. subst G (sym none) tt;
       ends = λ is. absurd cc;
+      unsatisfiable = λ is. absurd cc;
       rest = λ _. record { holds = subst I (sym none) (subst H (sym end) holds); has_units = subst R (sym zero_) (subst Q (sym no_ids) (subst P (sym empty) units)) };
       open_ = λ _ is. absurd cc;
       marks_vars = marked ∙ sym trail_vars;
     }
 
+-- an engine that goes on
+pub engine_going : (formula : Cnf) (steps : List Step) (store : StoreState) (trail : TrailState) (ids : List (Option ℕ)) (done last : ℕ) (has_redundant settled refuted : Bool) (marks : ℕ) → refuted ≡ false → EachStep HasNoFault (log_start formula) steps → (has_redundant ≡ false → EachStep IsGood (log_start formula) steps)
+    → IsAtRest formula steps store trail ids done last → (settled ≡ true → HasSettled store trail done) → marks ≡ trail.vars → IsEngine formula steps store trail ids done last has_redundant settled refuted marks
+engine_going formula steps store trail ids done last has_redundant settled refuted marks going well good rest open_ marked = record {
+  well = well;
+  good = good;
+  ends = λ ended. (let clash : false ≡ true = sym going ∙ ended in absurd cc);
+  unsatisfiable = λ ended. (let clash : false ≡ true = sym going ∙ ended in absurd cc);
+  rest = λ _. rest;
+  open_ = λ _ is. open_ is;
+  marks_vars = marked;
+}
+
 -- an engine to which a clause was added
-pub engine_added : (formula : Cnf) (steps : List Step) (store middle new : StoreState) (trail trail' : TrailState) (ids : List (Option ℕ)) (done last id marks : ℕ) (lits : List ℤ) (refuted : Bool) → refuted ≡ false → HasUnits store trail ids done → trail' ≡ trail → middle ≡ store → new ≡ with_clause middle id lits
-    → HoldsLive formula steps new last → marks ≡ trail.vars → IsEngine formula steps new trail' ids done last false refuted marks
-engine_added formula steps store middle new trail trail' ids done last id marks lits refuted going units same stays is holds marked =
+pub engine_added : (formula : Cnf) (steps : List Step) (store middle new : StoreState) (trail trail' : TrailState) (ids : List (Option ℕ)) (done last id marks : ℕ) (lits : List ℤ) (has_redundant refuted : Bool) → refuted ≡ false → EachStep HasNoFault (log_start formula) steps → (has_redundant ≡ false → EachStep IsGood (log_start formula) steps) → HasUnits store trail ids done → trail' ≡ trail → middle ≡ store → new ≡ with_clause middle id lits
+    → HoldsLive formula steps new last → marks ≡ trail.vars → IsEngine formula steps new trail' ids done last has_redundant false refuted marks
+engine_added formula steps store middle new trail trail' ids done last id marks lits has_redundant refuted going well good units same stays is holds marked =
     let P : StoreState → Type 0 = λ s. HasUnits s trail ids done in
     let Q : TrailState → Type 0 = λ t. HasUnits new t ids done in
-    record {
-      good = holds.good;
-      ends = λ ended. (let clash : false ≡ true = sym going ∙ ended in absurd cc);
-      rest = λ _. record { holds = holds; has_units = subst Q (sym same) (subst P (sym is) (units_more middle trail ids done id lits (subst P (sym stays) units))) };
-      open_ = λ _ settled. absurd cc;
-      marks_vars = marked ∙ ap (λ (t : TrailState). t.vars) (sym same);
-    }
+    let rest : IsAtRest formula steps new trail' ids done last = record { holds = holds; has_units = subst Q (sym same) (subst P (sym is) (units_more middle trail ids done id lits (subst P (sym stays) units))) } in
+    engine_going formula steps new trail' ids done last has_redundant false refuted marks going well good rest (λ settled. absurd cc) (marked ∙ ap (λ (t : TrailState). t.vars) (sym same))

@@ -9,21 +9,26 @@ use Rattle.std.proofs.lemmas.Bool.Decides.{nat_tests}
 use Rattle.std.proofs.lemmas.List.{append-nil}
 use Rattle.std.proofs.lemmas.List.Elements.{Contains-push_cases}
 use Rattle.lls_lit.specs.Formula.{Clause, Cnf}
-use Rattle.lls_prooflog.specs.UnitWalk.{Live, find_clause, unit_walk}
+use Rattle.lls_prooflog.specs.UnitWalk.{Live, find_clause, unit_walk, walk_on}
+use Rattle.lls_prooflog.specs.Rat.{groups_of, rat_fault}
 use Rattle.lls_prooflog.specs.Range.{is_id, is_hint, IsInRange}
-use Rattle.lls_prooflog.specs.Steps.{after}
+use Rattle.lls_prooflog.specs.Steps.{KeepsSatisfiable, after, fault_of}
 use Rattle.lls_prooflog.specs.Spent.{LogState, EachStep, IsGood, is_positive, log_start, log_after, live_after}
 use Rattle.lls_prooflog.specs.declared.step.Step.{Step}
 use Rattle.lls_prooflog.specs.declared.step.Step.TheVariants.{Add}
 use Rattle.lls_prooflog.specs.declared.step_fault.StepFault.TheVariants.{IdLive}
+use Rattle.lls_prooflog.proofs.Soundness.{fault_of_good}
+use Rattle.lls_prooflog.proofs.Walks.{walk_closes}
 use Rattle.lls_store.specs.declared.store.TheConstants.{MOST_ID}
 use Rattle.lls_store.specs.Clauses.{LiveClause}
 use Rattle.lls_store.specs.Store.{StoreState, IsNewId, with_clause}
 use Rattle.lls_analyse.specs.Spelled.{Spells}
 use Rattle.lls_analyse.proofs.Gathering.{later}
-use Rattle.lls_lemmas.specs.Lemmas.{GoesOnWell}
+use Rattle.lls_lemmas.specs.Lemmas.{GoesOnBy, GoesOnWell, HasNoFault, KeepsLive}
 use Rattle.lls_lemmas.specs.Behind.{GivesClause, Grows, HoldsLive}
 use Rattle.lls_lemmas.specs.Closing.{is_id_hint}
+use Rattle.lls_lemmas.specs.Pivot.{AddsClause}
+use Rattle.lls_lemmas.proofs.Listing.{among-from_Contains}
 
 fold-append : {X S : Type 0} (f : S → X → S) (s : S) (xs ys : List X) → fold f s (xs ++ ys) ≡ fold f (fold f s xs) ys
 fold-append f s [] ys = refl
@@ -36,33 +41,41 @@ each-append : (P : LogState → Step → Type 0) (state : LogState) (xs ys : Lis
 each-append P state [] ys first second = second
 each-append P state (x ∷ xs) ys first second = (first.0, each-append P (log_after state x) xs ys first.1 second)
 
-pub well-none : (formula : Cnf) (steps : List Step) → GoesOnWell formula steps steps
-well-none formula steps = record { more = []; follows = sym (append-nil steps); good = tt }
+each-weaker : (P Q : LogState → Step → Type 0) (state : LogState) (steps : List Step) → ((s : LogState) (step : Step) → P s step → Q s step) → EachStep P state steps → EachStep Q state steps
+each-weaker P Q state [] weaker each = tt
+each-weaker P Q state (x ∷ xs) weaker each = (weaker state x each.0, each-weaker P Q (log_after state x) xs weaker each.1)
 
-pub well-one : (formula : Cnf) (steps : List Step) (step : Step) → IsGood (fold log_after (log_start formula) steps) step → GoesOnWell formula steps (steps ++ step ∷ [])
-well-one formula steps step good = record { more = step ∷ []; follows = refl; good = (good, tt) }
+pub well-none : (P : LogState → Step → Type 0) (formula : Cnf) (steps : List Step) → GoesOnBy P formula steps steps
+well-none P formula steps = record { more = []; follows = sym (append-nil steps); each = tt }
 
-pub well-then : (formula : Cnf) (a b c : List Step) → GoesOnWell formula a b → GoesOnWell formula b c → GoesOnWell formula a c
-well-then formula a b c first second =
+pub well-one : (P : LogState → Step → Type 0) (formula : Cnf) (steps : List Step) (step : Step) → P (fold log_after (log_start formula) steps) step → GoesOnBy P formula steps (steps ++ step ∷ [])
+well-one P formula steps step one = record { more = step ∷ []; follows = refl; each = (one, tt) }
+
+pub well-then : (P : LogState → Step → Type 0) (formula : Cnf) (a b c : List Step) → GoesOnBy P formula a b → GoesOnBy P formula b c → GoesOnBy P formula a c
+well-then P formula a b c first second =
     let behind : fold log_after (log_start formula) b ≡ fold log_after (fold log_after (log_start formula) a) first.more = ap (fold log_after (log_start formula)) first.follows ∙ fold-append log_after (log_start formula) a first.more in
-    let P : LogState → Type 0 = λ s. EachStep IsGood s second.more in
+    let Q : LogState → Type 0 = λ s. EachStep P s second.more in
     record {
       more = first.more ++ second.more;
       follows = second.follows ∙ ap (λ (xs : List Step). xs ++ second.more) first.follows ∙ append_assoc a first.more second.more;
-      good = each-append IsGood (fold log_after (log_start formula) a) first.more second.more first.good (subst P behind second.good);
+      each = each-append P (fold log_after (log_start formula) a) first.more second.more first.each (subst Q behind second.each);
     }
 
--- all steps are good where those before are
-pub good-then : (formula : Cnf) (old new : List Step) → EachStep IsGood (log_start formula) old → GoesOnWell formula old new → EachStep IsGood (log_start formula) new
-good-then formula old new good well =
-    let P : List Step → Type 0 = λ steps. EachStep IsGood (log_start formula) steps in
-    subst P (sym well.follows) (each-append IsGood (log_start formula) old well.more good well.good)
+-- nothing is wrong with steps that are good by unit propagation alone
+pub well-by_propagation : (formula : Cnf) (old new : List Step) → GoesOnBy IsGood formula old new → GoesOnWell formula old new
+well-by_propagation formula old new g = record { more = g.more; follows = g.follows; each = each-weaker IsGood HasNoFault (fold log_after (log_start formula) old) g.more fault_of_good g.each }
+
+-- all steps are such where those before are
+pub each-then : (P : LogState → Step → Type 0) (formula : Cnf) (old new : List Step) → EachStep P (log_start formula) old → GoesOnBy P formula old new → EachStep P (log_start formula) new
+each-then P formula old new each well =
+    let Q : List Step → Type 0 = λ steps. EachStep P (log_start formula) steps in
+    subst Q (sym well.follows) (each-append P (log_start formula) old well.more each well.each)
 
 pub grows-none : (formula : Cnf) (steps : List Step) → Grows formula steps steps
-grows-none formula steps = record { well = well-none formula steps; stays = λ id clause found. found }
+grows-none formula steps = record { well = well-none IsGood formula steps; stays = λ id clause found. found }
 
 pub grows-then : (formula : Cnf) (a b c : List Step) → Grows formula a b → Grows formula b c → Grows formula a c
-grows-then formula a b c first second = record { well = well-then formula a b c first.well second.well; stays = λ id clause found. second.stays id clause (first.stays id clause found) }
+grows-then formula a b c first second = record { well = well-then IsGood formula a b c first.well second.well; stays = λ id clause found. second.stays id clause (first.stays id clause found) }
 
 -- a clause that is found stays found where one comes behind
 find-kept : (live : Live) (id q : ℕ) (lits clause : Clause) → find_clause live q ≡ Some clause → find_clause (live ++ (id, lits) ∷ []) q ≡ Some clause
@@ -108,36 +121,50 @@ id_hints (h ∷ hs) all =
 pub id_within : (n : ℕ) → 1 ≤ n → n ≤ 9223372036854775807 → is_id n ≡ true
 id_within n low high = grind (arith, nat_tests)
 
-pub adds_in_range : (id : ℕ) (lits hints : List ℤ) → 1 ≤ id → id ≤ MOST_ID → list_all is_id_hint hints ≡ true → IsInRange (Add id lits hints)
-adds_in_range id lits hints low high all = both_true (id_within id low high) (id_hints hints all).0
+pub adds_in_range : (id : ℕ) (lits hints : List ℤ) → 1 ≤ id → id ≤ MOST_ID → list_all is_hint hints ≡ true → IsInRange (Add id lits hints)
+adds_in_range id lits hints low high all = both_true (id_within id low high) all
 
 pub new_next : (formula : Cnf) (steps : List Step) (store : StoreState) (last : ℕ) → HoldsLive formula steps store last → last < MOST_ID → IsNewId store.live (last + 1)
 new_next formula steps store last holds lt = record { least = omega arith; most = omega (arith, lt); new = λ clause inside same. omega (arith, holds.ids clause inside, same) }
 
--- one clause more, to which hints lead
-module _ (formula : Cnf) (steps : List Step) (store : StoreState) (last : ℕ) (lits hints : List ℤ) (holds : HoldsLive formula steps store last) (gives : GivesClause store.live lits hints) (all : list_all is_id_hint hints ≡ true) where
+-- hints that lead to a clause by unit propagation add it
+pub adds_by_propagation : (live : List LiveClause) (lits hints : List ℤ) → GivesClause live lits hints → AddsClause live lits hints
+adds_by_propagation live lits hints gives = λ pairs spells. walk_closes pairs (rat_fault pairs lits (groups_of hints)) lits hints (gives pairs lits spells (λ l inside. among-from_Contains lits l inside))
+
+-- one clause more, which hints add
+module _ (formula : Cnf) (steps : List Step) (store : StoreState) (last : ℕ) (lits hints : List ℤ) (holds : HoldsLive formula steps store last) (adds : AddsClause store.live lits hints) where
   next_new : find_clause (live_after formula steps) (last + 1) ≡ None
   next_new = new_id store.live (live_after formula steps) (last + 1) holds.spelled (λ clause inside same. omega (arith, holds.ids clause inside, same))
 
-  pub adds_good : IsGood (fold log_after (log_start formula) steps) (Add (last + 1) lits hints)
-  adds_good =
+  pub adds_no_fault : fault_of (live_after formula steps) (Add (last + 1) lits hints) ≡ None
+  adds_no_fault =
       let live = live_after formula steps in
-      record {
-        positive = (id_hints hints all).1;
-        good = ap (λ (o : Option Clause). cond (is_some o) (Some (IdLive (last + 1))) (unit_walk live lits hints)) next_new ∙ gives live holds.spelled;
-      }
+      ap (λ (o : Option Clause). cond (is_some o) (Some (IdLive (last + 1))) (walk_on live (rat_fault live lits (groups_of hints)) lits hints)) next_new ∙ adds live holds.spelled
 
-  pub adds_grows : Grows formula steps (steps ++ Add (last + 1) lits hints ∷ [])
-  adds_grows = record {
-    well = well-one formula steps (Add (last + 1) lits hints) adds_good;
-    stays = λ id clause found. ap (λ (live : Live). find_clause live id) (live_after-push formula steps (Add (last + 1) lits hints)) ∙ find-kept (live_after formula steps) (last + 1) id lits clause found;
-  }
+  pub adds_well : GoesOnWell formula steps (steps ++ Add (last + 1) lits hints ∷ [])
+  adds_well = well-one HasNoFault formula steps (Add (last + 1) lits hints) adds_no_fault
+
+  pub adds_keeps : KeepsLive formula steps (steps ++ Add (last + 1) lits hints ∷ [])
+  adds_keeps = λ id clause found. ap (λ (live : Live). find_clause live id) (live_after-push formula steps (Add (last + 1) lits hints)) ∙ find-kept (live_after formula steps) (last + 1) id lits clause found
+
+  -- by unit propagation alone, where the hints lead to it so
+  pub adds_grows : GivesClause store.live lits hints → list_all is_id_hint hints ≡ true → Grows formula steps (steps ++ Add (last + 1) lits hints ∷ [])
+  adds_grows gives all =
+      let live = live_after formula steps in
+      let walk = gives live lits holds.spelled (λ l inside. among-from_Contains lits l inside) in
+      record {
+        well = well-one IsGood formula steps (Add (last + 1) lits hints) (record {
+          positive = (id_hints hints all).1;
+          good = ap (λ (o : Option Clause). cond (is_some o) (Some (IdLive (last + 1))) (unit_walk live lits hints)) next_new ∙ walk;
+        });
+        stays = adds_keeps;
+      }
 
   pub adds_found : find_clause (live_after formula (steps ++ Add (last + 1) lits hints ∷ [])) (last + 1) ≡ Some lits
   adds_found = ap (λ (live : Live). find_clause live (last + 1)) (live_after-push formula steps (Add (last + 1) lits hints)) ∙ find-last (live_after formula steps) (last + 1) lits next_new
 
-  pub adds_holds : HoldsLive formula (steps ++ Add (last + 1) lits hints ∷ []) (with_clause store (last + 1) lits) (last + 1)
-  adds_holds =
+  pub adds_holds : KeepsSatisfiable formula (live_after formula (steps ++ Add (last + 1) lits hints ∷ [])) → HoldsLive formula (steps ++ Add (last + 1) lits hints ∷ []) (with_clause store (last + 1) lits) (last + 1)
+  adds_holds kept =
       let P : Live → Type 0 = λ pairs. Spells (with_clause store (last + 1) lits).live pairs in
       record {
         no_tail = holds.no_tail;
@@ -146,5 +173,5 @@ module _ (formula : Cnf) (steps : List Step) (store : StoreState) (last : ℕ) (
           | inl old ↦ omega (arith, holds.ids clause old)
           | inr same ↦ omega (arith, ap (λ (c : LiveClause). c.id) same)
         ];
-        good = good-then formula steps (steps ++ Add (last + 1) lits hints ∷ []) holds.good adds_grows.well;
+        kept = kept;
       }

@@ -12,7 +12,7 @@ use Rattle.std.proofs.lemmas.Option.{same_Some}
 use Rattle.lls_lit.specs.Literal.{negation}
 use Rattle.lls_lit.specs.Formula.{Clause}
 use Rattle.lls_lit.proofs.Flipped.{negation_twice}
-use Rattle.lls_prooflog.specs.UnitWalk.{Live, find_clause, is_among, remaining, at_clause, at_hint, unit_walk}
+use Rattle.lls_prooflog.specs.UnitWalk.{Live, find_clause, is_among, remaining, at_clause, at_hint, unit_walk, walk_on}
 use Rattle.lls_prooflog.specs.declared.step_fault.StepFault.{StepFault}
 use Rattle.lls_prooflog.specs.declared.step_fault.StepFault.TheVariants.{NotUnit, NoConflict}
 use Rattle.lls_store.specs.Trail.{Entry, TrailState, has, Has, HasNegated, IsConsistent, IsTrail}
@@ -69,6 +69,12 @@ all_same x xs l all inside = elim (first_or_later x xs l inside) [
         | inr on ↦ rest ys parts.1 on
       ]
 
+-- where a walk ends well: what it took as false is false
+pub record EndsFalse (es : List Entry) (at_end : List ℤ → Option StepFault) : Type 0 where
+  pub assumed : List ℤ
+  pub all_false : (m : ℤ) → is_among assumed m ≡ true → HasNegated es m
+  pub ends : at_end assumed ≡ None
+
 module _ (live : List LiveClause) (es : List Entry) (pairs : Live) (spells : Spells live pairs) (consistent : IsConsistent es) (settled : AreSettled live es) where
   AllFalse : List ℤ → Type 0
   AllFalse assumed = (m : ℤ) → is_among assumed m ≡ true → HasNegated es m
@@ -107,25 +113,33 @@ module _ (live : List LiveClause) (es : List Entry) (pairs : Live) (spells : Spe
         | inr same ↦ ap (has es) (ap negation (sym same) ∙ negation_twice x) ∙ true_
       ]
 
-  never_closes : (hints assumed : List ℤ) → AllFalse assumed → unit_walk pairs assumed hints ≡ None → ⊥
-  never_closes [] assumed all_false closes = let clash : Some NoConflict ≡ None = closes in cc
-  never_closes (pos id ∷ hints) assumed all_false closes =
-      let next : ℤ → Option StepFault = λ l. unit_walk pairs (assumed ++ negation l ∷ []) hints in
-      elim (find_clause pairs id) as (λ o. find_clause pairs id ≡ o → at_hint (pos id) assumed o next ≡ None → ⊥) [
-        | None ↦ λ _ h. cc
+  walk_ends : (at_end : List ℤ → Option StepFault) (hints assumed : List ℤ) → AllFalse assumed → walk_on pairs at_end assumed hints ≡ None → EndsFalse es at_end
+  unfolding AllFalse
+  walk_ends at_end [] assumed all_false closes = record { assumed = assumed; all_false = all_false; ends = closes }
+  walk_ends at_end (pos id ∷ hints) assumed all_false closes =
+      let next : ℤ → Option StepFault = λ l. walk_on pairs at_end (assumed ++ negation l ∷ []) hints in
+      elim (find_clause pairs id) as (λ o. find_clause pairs id ≡ o → at_hint (pos id) assumed o next ≡ None → EndsFalse es at_end) [
+        | None ↦ λ _ h. absurd cc
         | Some lits ↦ λ found h.
             let of = found_of live pairs id lits spells found in
             let P : Literals → Type 0 = λ ls. IsSettled es ls in
             let on = left_true assumed lits all_false (subst P (sym of.same) (settled of.clause of.is_live)) (pos id) next (remaining assumed lits) refl h in
-            never_closes hints (assumed ++ negation on.0 ∷ []) (more_false assumed on.0 all_false on.1.0) on.1.1
+            walk_ends at_end hints (assumed ++ negation on.0 ∷ []) (more_false assumed on.0 all_false on.1.0) on.1.1
       ] refl closes
-  never_closes (negsuc n ∷ hints) assumed all_false closes = let clash : Some NoConflict ≡ None = closes in cc
+  walk_ends at_end (negsuc n ∷ hints) assumed all_false closes = record { assumed = assumed; all_false = all_false; ends = closes }
 
--- no hints lead to a clause that is false there
-pub no_hints : (live : List LiveClause) (t : TrailState) (lits : List ℤ) → IsTrail t → IsClosed live t → ((l : ℤ) → Contains lits l → HasNegated t.entries l) → (pairs : Live) → Spells live pairs → (hints : List ℤ) → unit_walk pairs lits hints ≡ None → ⊥
+-- a walk from a clause that is false there takes nothing as false but what is
+pub ends_false : (live : List LiveClause) (t : TrailState) (lits : List ℤ) → IsTrail t → IsClosed live t → ((l : ℤ) → Contains lits l → HasNegated t.entries l) → (pairs : Live) → Spells live pairs → (at_end : List ℤ → Option StepFault) (hints : List ℤ) → walk_on pairs at_end lits hints ≡ None → EndsFalse t.entries at_end
 unfolding AllFalse
+ends_false live t lits kept closed all_false pairs spells at_end hints ends =
+    walk_ends live t.entries pairs spells (consistent_trail t kept) closed at_end hints lits (λ m among. all_false m (Contains-from_among lits m among)) ends
+
+-- so no hints lead to it
+pub no_hints : (live : List LiveClause) (t : TrailState) (lits : List ℤ) → IsTrail t → IsClosed live t → ((l : ℤ) → Contains lits l → HasNegated t.entries l) → (pairs : Live) → Spells live pairs → (hints : List ℤ) → unit_walk pairs lits hints ≡ None → ⊥
 no_hints live t lits kept closed all_false pairs spells hints closes =
-    never_closes live t.entries pairs spells (consistent_trail t kept) closed hints lits (λ m among. all_false m (Contains-from_among lits m among)) closes
+    let end = ends_false live t lits kept closed all_false pairs spells (λ _. Some NoConflict) hints closes in
+    let clash : Some NoConflict ≡ None = end.ends in
+    cc
 
 -- a settled clause isn't false
 not_false : (es : List Entry) (lits : Literals) → IsConsistent es → IsSettled es lits → ((l : ℤ) → IsIn lits l → HasNegated es l) → ⊥

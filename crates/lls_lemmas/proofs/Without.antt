@@ -29,7 +29,8 @@ use Rattle.lls_analyse.proofs.Walk.{spelled}
 use Rattle.lls_lemmas.specs.Finding.{IsFree}
 use Rattle.lls_lemmas.specs.Lemmas.{DeletesOne}
 use Rattle.lls_lemmas.specs.Units.{AreUnits, HasSettled, IsAtRest, unit_of}
-use Rattle.lls_lemmas.proofs.Logs.{good-then, live_after-push, well-one}
+use Rattle.lls_lemmas.proofs.Kept.{kept_push}
+use Rattle.lls_lemmas.proofs.Logs.{live_after-push}
 use Rattle.lls_lemmas.proofs.Reading.{forced_at}
 
 -- sets of the same literals are the same
@@ -45,7 +46,7 @@ sets_same a b there back = set.same_set int_cmp_total set.int_cmp-IsAntisymmetri
     both false false f g = refl
 
 -- the clause of a number, and no other, has its id
-same_number : (live : List LiveClause) (number : ℕ) (clause c : LiveClause) → AllPairs (λ (a b : LiveClause). a.number < b.number) live → clause_numbered live number ≡ Some clause → Contains live c → c.number ≡ number → c ≡ clause
+pub same_number : (live : List LiveClause) (number : ℕ) (clause c : LiveClause) → AllPairs (λ (a b : LiveClause). a.number < b.number) live → clause_numbered live number ≡ Some clause → Contains live c → c.number ≡ number → c ≡ clause
 same_number live number clause c rising found inside same =
     same_Some c clause (sym (clause_numbered-contained live c rising inside) ∙ ap (clause_numbered live) same ∙ found)
 
@@ -121,7 +122,7 @@ module _ (formula : Cnf) (steps : List Step) (store : StoreState) (trail : Trail
           no_tail = rest.holds.no_tail;
           spelled = without_spells;
           ids = λ c inside. rest.holds.ids c (of_all_but store.live number c inside);
-          good = good-then formula steps (steps ++ Del (clause.id ∷ []) ∷ []) rest.holds.good (well-one formula steps (Del (clause.id ∷ [])) tt);
+          kept = kept_push formula steps store last (Del (clause.id ∷ [])) rest.holds live refl refl;
         };
         has_units = record {
           level = u.level;

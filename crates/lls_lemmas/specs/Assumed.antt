@@ -2,7 +2,7 @@
 use Rattle.std.specs.Prelude.{◌≡◌, ◌≤◌, ℤ, List, ◌++◌, None}
 use Rattle.std.specs.List.{Contains}
 use Rattle.lls_lit.specs.Literal.{negation}
-use Rattle.lls_store.specs.Trail.{Entry, TrailState, HasNegated}
+use Rattle.lls_store.specs.Trail.{Entry, TrailState, HasNegated, IsTrail}
 use Rattle.lls_store.specs.Clauses.{LiveClause}
 use Rattle.lls_store.specs.Closed.{IsClosed}
 
@@ -18,3 +18,9 @@ pub record Assumes (base : TrailState) (lits : List ℤ) (trail : TrailState) : 
 pub record IsOpen (live : List LiveClause) (lits : List ℤ) (trail : TrailState) : Type 0 where
   pub closed : IsClosed live trail
   pub all_false : (l : ℤ) → Contains lits l → HasNegated trail.entries l
+
+-- so they are on some trail: no hints lead to a clause of these literals
+pub record CanBeFalse (live : List LiveClause) (lits : List ℤ) : Type 0 where
+  pub trail : TrailState
+  pub is_trail : IsTrail trail
+  pub is_open : IsOpen live lits trail

@@ -1,21 +1,23 @@
 -- What an engine of lemmas is seen as, and what a lemma or a deletion makes of it.
-use Rattle.std.specs.Prelude.{◌≡◌, ℕ, ℤ, Bool, List, [], ◌∷◌, ◌++◌, Some, None, fold}
+use Rattle.std.specs.Prelude.{◌≡◌, ℕ, ℤ, Bool, true, List, [], ◌∷◌, ◌++◌, Some, None, fold, slice_get}
 use Rattle.std.specs.List.{list_any}
 use Rattle.std.specs.FinSet as set
 use Rattle.std.specs.Ordering.{int_cmp}
 use Rattle.lls_lit.specs.Literal.{negation}
 use Rattle.lls_lit.specs.Formula.{Clause, Cnf}
 use Rattle.lls_prooflog.specs.UnitWalk.{find_clause, is_among, unit_walk}
-use Rattle.lls_prooflog.specs.Spent.{EachStep, IsGood, log_start, log_after, live_after}
+use Rattle.lls_prooflog.specs.Steps.{fault_of}
+use Rattle.lls_prooflog.specs.Spent.{LogState, EachStep, log_start, log_after, live_after}
 use Rattle.lls_prooflog.specs.declared.step.Step.{Step}
 use Rattle.lls_prooflog.specs.declared.step.Step.TheVariants.{Add, Del}
 
--- the formula, the greatest variable that a lemma may have, the steps of the log, whether each literal that the live clauses imply by unit
--- propagation alone has a unit clause, and whether the empty clause was added
+-- the formula, the greatest variable that a lemma may have, the steps of the log, whether a lemma was added that unit propagation didn't give,
+-- whether each literal that the live clauses imply by unit propagation alone has a unit clause, and whether the empty clause was added
 pub record LemmasState : Type 0 where
   pub formula : Cnf
   pub vars : ℕ
   pub steps : List Step
+  pub has_redundant : Bool
   pub settled : Bool
   pub refuted : Bool
 
@@ -23,11 +25,19 @@ pub record LemmasState : Type 0 where
 abbrev pub is_tautology : Clause → Bool
 is_tautology lits = list_any (λ l. is_among lits (negation l)) lits
 
--- a log goes on by steps that are good, each in its turn
-pub record GoesOnWell (formula : Cnf) (old new : List Step) : Type 0 where
+-- nothing is wrong with a step in its turn: it is a deletion, or an addition that hints give by unit propagation or by its first literal
+abbrev pub HasNoFault : LogState → Step → Type 0
+HasNoFault state step = fault_of state.live step ≡ None
+
+-- a log goes on by steps that are such, each in its turn
+pub record GoesOnBy (IsSuch : LogState → Step → Type 0) (formula : Cnf) (old new : List Step) : Type 0 where
   pub more : List Step
   pub follows : new ≡ old ++ more
-  pub good : EachStep IsGood (fold log_after (log_start formula) old) more
+  pub each : EachStep IsSuch (fold log_after (log_start formula) old) more
+
+-- a log goes on by steps with which nothing is wrong
+abbrev pub GoesOnWell : Cnf → List Step → List Step → Type 0
+GoesOnWell formula old new = GoesOnBy HasNoFault formula old new
 
 -- a clause of just these literals, in this order, is live behind the steps
 pub record IsLive (formula : Cnf) (steps : List Step) (lits : Clause) : Type 0 where
@@ -48,6 +58,20 @@ pub record EndsEmpty (steps : List Step) : Type 0 where
 -- no hints lead from the clauses that are live behind the steps to the clause
 abbrev pub IsNotImplied : Cnf → List Step → Clause → Type 0
 IsNotImplied formula steps lits = (hints : List ℤ) → unit_walk (live_after formula steps) lits hints ≡ None → ⊥
+
+-- no addition of the clause is without fault behind the steps
+abbrev pub IsNotAddable : Cnf → List Step → Clause → Type 0
+IsNotAddable formula steps lits = (id : ℕ) (hints : List ℤ) → fault_of (live_after formula steps) (Add id lits hints) ≡ None → ⊥
+
+-- a live clause holds the negation of the clause's first literal, and has a literal beside its own negation
+pub record MeetsTautology (formula : Cnf) (steps : List Step) (lits : Clause) : Type 0 where
+  pub pivot : ℤ
+  pub first : slice_get lits 0 ≡ Some pivot
+  pub id : ℕ
+  pub clause : Clause
+  pub found : find_clause (live_after formula steps) id ≡ Some clause
+  pub opposes : is_among clause (negation pivot) ≡ true
+  pub tautology : is_tautology clause ≡ true
 
 -- a clause of just these literals is live behind the steps, in any order and with repetitions
 pub record HasClause (formula : Cnf) (steps : List Step) (lits : Clause) : Type 0 where

@@ -3,5 +3,6 @@ pub mod Behind
 pub mod Closing
 pub mod Units
 pub mod Assumed
+pub mod Pivot
 pub mod Engine
 pub mod Finding

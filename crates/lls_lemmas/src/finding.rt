@@ -30,8 +30,8 @@ pub(crate) fn hash_of(marks: &mut Marks, lits: &[Lit]) -> u64
     hash
 }
 
-// Marks literals, where none was marked.
-fn mark_all(marks: &mut Marks, lits: &[Lit])
+/// Marks literals, where none was marked.
+pub(crate) fn mark_all(marks: &mut Marks, lits: &[Lit])
     requires { is_within marks.old.vars lits.now ≡ true }
     ensures of { (l : ℤ) → IsIn marks.new.lits l → Contains lits.now l }
     ensures all { (l : ℤ) → Contains lits.now l → IsIn marks.new.lits l }

@@ -4,14 +4,15 @@ ghost use Rattle.lls_lit.specs.Formula.{is_within, IsUnsatisfiable};
 ghost use Rattle.lls_prooflog.specs.Spent.{EachStep, IsGood, log_start};
 ghost use Rattle.lls_store.specs.Changes.{empty_trail};
 ghost use Rattle.lls_store.specs.Store.{empty_store};
-ghost use Rattle.lls_lemmas.specs.Lemmas.{is_tautology, DeletesOne, EndsEmpty, GoesOnWell, HasClause, IsLive, IsNotImplied, KeepsLive};
+ghost use Rattle.lls_lemmas.specs.Lemmas.{is_tautology, DeletesOne, EndsEmpty, GoesOnWell, HasClause, HasNoFault, IsLive, IsNotAddable, IsNotImplied, KeepsLive, MeetsTautology};
 
 use crate::deleting::{delete_clause, is_needed};
 use crate::finding::{find, hash_of};
 use crate::gathering::Gathering;
 use crate::index::Index;
 use crate::loading::{index_clauses, load};
-use crate::logging::add_step;
+use crate::logging::{add_step, push_step};
+use crate::resolving::{Resolving, try_pivot};
 use crate::settling::{Settled, settle};
 use crate::tautology::is_tautology;
 use crate::trying::try_clause;
@@ -29,11 +30,14 @@ use std::marker::Model;
 pub enum Added {
     /// Unit propagation gives it: it was added, with its hints.
     Implied,
+    /// Unit propagation doesn't give it, but each resolvent on its first literal (RAT): it was added, with the hints of those. It is
+    /// no consequence, but what could be satisfied still can.
+    Redundant,
     /// The empty clause was added, by this lemma or before.
     Refuted,
     /// It has a literal beside its negation, and was passed over.
     Tautology,
-    /// Unit propagation doesn't give it, by no hints whatever.
+    /// Neither gives unit propagation it nor each resolvent on its first literal, by no hints whatever.
     NotImplied,
 }
 
@@ -62,7 +66,9 @@ pub struct Lemmas<'f, S: Store> {
     last: u64,
     units: Units,
     gathering: Gathering,
+    resolving: Resolving,
     index: Index,
+    has_redundant: bool,
     settled: bool,
     refuted: bool,
 }
@@ -73,10 +79,10 @@ impl<'f, S: Store> Model for Lemmas<'f, S> {
 
     ghost Value = { LemmasState };
 
-    ghost view = { λ e. record { formula = e.formula.now; vars = e.trail.vars; steps = e.log.steps; settled = e.settled; refuted = e.refuted } };
+    ghost view = { λ e. record { formula = e.formula.now; vars = e.trail.vars; steps = e.log.steps; has_redundant = e.has_redundant; settled = e.settled; refuted = e.refuted } };
 
     ghost invariant = { λ e. S.tracks e.store e.trail
-        × IsEngine e.formula.now e.log.steps (S.state e.store) e.trail e.units.ids.items e.units.done e.last e.settled e.refuted e.gathering.marks.vars };
+        × IsEngine e.formula.now e.log.steps (S.state e.store) e.trail e.units.ids.items e.units.done e.last e.has_redundant e.settled e.refuted e.gathering.marks.vars };
 }
 
 impl<'f, S: Store + Drop> Lemmas<'f, S> {
@@ -94,6 +100,7 @@ impl<'f, S: Store + Drop> Lemmas<'f, S> {
         ensures formula { IfOk result (λ lemmas. lemmas.formula ≡ formula.now) }
         ensures vars { IfOk result (λ lemmas. lemmas.vars ≡ vars) }
         ensures well { IfOk result (λ lemmas. GoesOnWell formula.now [] lemmas.steps) }
+        ensures none_redundant { IfOk result (λ lemmas. lemmas.has_redundant ≡ false) }
         ensures settled { IfOk result (λ lemmas. (lemmas.refuted ≡ true) ⊎ (lemmas.settled ≡ true)) }
     {
         let trail = Trail::new(alloc, vars)?;
@@ -117,7 +124,13 @@ impl<'f, S: Store + Drop> Lemmas<'f, S> {
                 met: Vec::new(alloc),
                 hints: Vec::new(alloc),
             },
+            resolving: Resolving {
+                others: Vec::new(alloc),
+                resolvent: Vec::new(alloc),
+                groups: Vec::new(alloc),
+            },
             index,
+            has_redundant: false,
             settled: false,
             refuted: false,
         };
@@ -128,7 +141,8 @@ impl<'f, S: Store + Drop> Lemmas<'f, S> {
     /// The log alone.
     pub fn into_log(self) -> Log
         ensures steps { result.steps ≡ self.entry.steps }
-        ensures good { EachStep IsGood (log_start self.entry.formula) result.steps }
+        ensures well { EachStep HasNoFault (log_start self.entry.formula) result.steps }
+        ensures good { self.entry.has_redundant ≡ false → EachStep IsGood (log_start self.entry.formula) result.steps }
     {
         let Lemmas { log, .. } = self;
         log
@@ -136,21 +150,28 @@ impl<'f, S: Store + Drop> Lemmas<'f, S> {
 }
 
 impl<'f, S: Store> Lemmas<'f, S> {
-    /// Takes a lemma, which is added where unit propagation gives it. Where the call before ended with `Memory`, unit clauses
-    /// may be added too before the lemma is tried. After the empty clause nothing changes.
+    /// Takes a lemma, which is added where unit propagation gives it, or each resolvent on its first literal. Where the call before
+    /// ended with `Memory`, unit clauses may be added too before the lemma is tried. After the empty clause nothing changes.
     pub fn add(&mut self, lits: &[Lit]) -> Result<Added, Memory>
         requires within { is_within self.old.vars lits.now ≡ true }
         ensures well { GoesOnWell self.old.formula self.old.steps self.new.steps }
         ensures implied { result ≡ Ok Added.Implied → IsLive self.old.formula self.new.steps lits.now }
+        ensures redundant { result ≡ Ok Added.Redundant → IsLive self.old.formula self.new.steps lits.now }
+        ensures not_given { result ≡ Ok Added.Redundant → self.old.settled ≡ true → IsNotImplied self.old.formula self.old.steps lits.now }
+        ensures told { result ≡ Ok Added.Redundant → self.new.has_redundant ≡ true }
+        ensures none_redundant { result ≡ Ok Added.Implied → self.new.has_redundant ≡ self.old.has_redundant }
         ensures refuted { result ≡ Ok Added.Refuted → EndsEmpty self.new.steps }
         ensures unsatisfiable { result ≡ Ok Added.Refuted → IsUnsatisfiable self.old.formula }
         ensures tautology { result ≡ Ok Added.Tautology → (is_tautology lits.now ≡ true) × (self.new ≡ self.old) }
         ensures not_implied { result ≡ Ok Added.NotImplied → IsNotImplied self.old.formula self.new.steps lits.now }
+        ensures not_addable { result ≡ Ok Added.NotImplied → IsNotAddable self.old.formula self.new.steps lits.now ⊎ MeetsTautology self.old.formula self.new.steps lits.now }
         ensures stays { result ≡ Ok Added.NotImplied → self.old.settled ≡ true → self.new ≡ self.old }
         ensures ended { result ≡ Ok Added.Refuted → self.new.refuted ≡ true }
         ensures going { result ≡ Ok Added.Implied → self.new.refuted ≡ false }
+        ensures going_redundant { result ≡ Ok Added.Redundant → self.new.refuted ≡ false }
         ensures going_on { result ≡ Ok Added.NotImplied → self.new.refuted ≡ false }
         ensures settled { result ≡ Ok Added.Implied → self.new.settled ≡ true }
+        ensures settled_redundant { result ≡ Ok Added.Redundant → self.new.settled ≡ true }
         ensures settled_still { result ≡ Ok Added.NotImplied → self.new.settled ≡ true }
         ensures done { self.old.refuted ≡ true → self.new ≡ self.old }
         ensures formula { self.new.formula ≡ self.old.formula }
@@ -166,14 +187,15 @@ impl<'f, S: Store> Lemmas<'f, S> {
         if self.is_refuted() {
             return Ok(Added::Refuted);
         }
-        if !self.add_implied(lits)? {
+        let added = self.add_either(lits)?;
+        if added == Added::NotImplied {
             return Ok(Added::NotImplied);
         }
         self.settle()?;
         if self.is_refuted() {
             return Ok(Added::Refuted);
         }
-        Ok(Added::Implied)
+        Ok(added)
     }
 
     /// Takes a live clause of just these literals out, in any order and with repetitions: of several the newest. One that forced a
@@ -221,9 +243,17 @@ impl<'f, S: Store> Lemmas<'f, S> {
     /// The log.
     pub fn log(&self) -> &Log
         ensures steps { result.now.steps ≡ self.now.steps }
-        ensures good { EachStep IsGood (log_start self.now.formula) self.now.steps }
+        ensures well { EachStep HasNoFault (log_start self.now.formula) self.now.steps }
+        ensures good { self.now.has_redundant ≡ false → EachStep IsGood (log_start self.now.formula) self.now.steps }
     {
         &self.log
+    }
+
+    /// Whether a lemma was added that unit propagation didn't give.
+    pub fn has_redundant(&self) -> bool
+        ensures { result ≡ self.now.has_redundant }
+    {
+        self.has_redundant
     }
 
     /// Whether the empty clause was added.
@@ -249,6 +279,7 @@ impl<'f, S: Store> Lemmas<'f, S> {
     fn settle(&mut self) -> Result<(), Memory>
         ensures well { GoesOnWell self.old.formula self.old.steps self.new.steps }
         ensures keeps { KeepsLive self.old.formula self.old.steps self.new.steps }
+        ensures none_redundant { self.new.has_redundant ≡ self.old.has_redundant }
         ensures ok { OnOk result ((self.new.refuted ≡ true) ⊎ (self.new.settled ≡ true)) }
         ensures settled { self.old.settled ≡ true → self.new ≡ self.old }
         ensures refuted { self.old.refuted ≡ true → self.new ≡ self.old }
@@ -277,6 +308,35 @@ impl<'f, S: Store> Lemmas<'f, S> {
         Ok(())
     }
 
+    // Adds a lemma where unit propagation gives it, or each resolvent on its first literal.
+    fn add_either(&mut self, lits: &[Lit]) -> Result<Added, Memory>
+        requires within { is_within self.old.vars lits.now ≡ true }
+        requires no_tautology { is_tautology lits.now ≡ false }
+        requires settled { self.old.settled ≡ true }
+        requires going { self.old.refuted ≡ false }
+        ensures well { GoesOnWell self.old.formula self.old.steps self.new.steps }
+        ensures implied { result ≡ Ok Added.Implied → IsLive self.old.formula self.new.steps lits.now }
+        ensures redundant { result ≡ Ok Added.Redundant → IsLive self.old.formula self.new.steps lits.now }
+        ensures not_given { result ≡ Ok Added.Redundant → IsNotImplied self.old.formula self.old.steps lits.now }
+        ensures told { result ≡ Ok Added.Redundant → self.new.has_redundant ≡ true }
+        ensures none_redundant { result ≡ Ok Added.Implied → self.new.has_redundant ≡ self.old.has_redundant }
+        ensures not_implied { result ≡ Ok Added.NotImplied → IsNotImplied self.old.formula self.old.steps lits.now }
+        ensures not_addable { result ≡ Ok Added.NotImplied → IsNotAddable self.old.formula self.old.steps lits.now ⊎ MeetsTautology self.old.formula self.old.steps lits.now }
+        ensures stays { result ≡ Ok Added.NotImplied → self.new ≡ self.old }
+        ensures others { (result ≢ Ok Added.Refuted) × (result ≢ Ok Added.Tautology) }
+        ensures going { self.new.refuted ≡ false }
+        ensures formula { self.new.formula ≡ self.old.formula }
+        ensures vars { self.new.vars ≡ self.old.vars }
+    {
+        if self.add_implied(lits)? {
+            return Ok(Added::Implied);
+        }
+        if self.add_redundant(lits)? {
+            return Ok(Added::Redundant);
+        }
+        Ok(Added::NotImplied)
+    }
+
     // Adds a lemma where unit propagation gives it. Answers whether it does.
     fn add_implied(&mut self, lits: &[Lit]) -> Result<bool, Memory>
         requires within { is_within self.old.vars lits.now ≡ true }
@@ -287,6 +347,7 @@ impl<'f, S: Store> Lemmas<'f, S> {
         ensures implied { result ≡ Ok true → IsLive self.old.formula self.new.steps lits.now }
         ensures not_implied { result ≡ Ok false → IsNotImplied self.old.formula self.old.steps lits.now }
         ensures stays { result ≡ Ok false → self.new ≡ self.old }
+        ensures none_redundant { self.new.has_redundant ≡ self.old.has_redundant }
         ensures going { self.new.refuted ≡ false }
         ensures formula { self.new.formula ≡ self.old.formula }
         ensures vars { self.new.vars ≡ self.old.vars }
@@ -312,6 +373,54 @@ impl<'f, S: Store> Lemmas<'f, S> {
             lits,
             self.gathering.hints.as_slice(),
         )?;
+        self.settled = false;
+        Ok(true)
+    }
+
+    // Adds a lemma where unit propagation gives each resolvent on its first literal. Answers whether it does.
+    fn add_redundant(&mut self, lits: &[Lit]) -> Result<bool, Memory>
+        requires within { is_within self.old.vars lits.now ≡ true }
+        requires no_tautology { is_tautology lits.now ≡ false }
+        requires settled { self.old.settled ≡ true }
+        requires going { self.old.refuted ≡ false }
+        ensures well { GoesOnWell self.old.formula self.old.steps self.new.steps }
+        ensures redundant { result ≡ Ok true → IsLive self.old.formula self.new.steps lits.now }
+        ensures told { result ≡ Ok true → self.new.has_redundant ≡ true }
+        ensures not_addable { result ≡ Ok false → IsNotAddable self.old.formula self.old.steps lits.now ⊎ MeetsTautology self.old.formula self.old.steps lits.now }
+        ensures stays { result ≡ Ok false → self.new ≡ self.old }
+        ensures going { self.new.refuted ≡ false }
+        ensures formula { self.new.formula ≡ self.old.formula }
+        ensures vars { self.new.vars ≡ self.old.vars }
+    {
+        // What holds of all live clauses is known from here on.
+        let _count = self.store.count();
+        let Some(pivot) = lits.first() else {
+            return Ok(false);
+        };
+        let by_pivot = try_pivot(
+            &mut self.store,
+            &mut self.trail,
+            self.units.ids.as_slice(),
+            &mut self.gathering,
+            &mut self.resolving,
+            lits,
+            *pivot,
+        )?;
+        if !by_pivot {
+            return Ok(false);
+        }
+        let hash = hash_of(&mut self.gathering.marks, lits);
+        self.index.put(hash, self.store.count())?;
+        push_step(
+            self.formula,
+            &mut self.store,
+            &self.trail,
+            &mut self.log,
+            &mut self.last,
+            lits,
+            self.resolving.groups.as_slice(),
+        )?;
+        self.has_redundant = true;
         self.settled = false;
         Ok(true)
     }

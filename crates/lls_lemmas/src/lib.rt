@@ -1,6 +1,7 @@
-//! Which lemmas the live clauses imply by unit propagation: each that they do is written to a log, with the hints that lead to it.
+//! Which lemmas may be added to clauses: those that unit propagation gives, and those that it gives for each resolvent on their first
+//! literal. Each is written to a log, with the hints that lead to it.
 //!
-//! What it means that a lemma is implied, and what a log gets, stands in specs/Lemmas.antt.
+//! What it means that a lemma is implied, or redundant, and what a log gets, stands in specs/Lemmas.antt.
 #![tactic(auto)]
 
 mod assuming;
@@ -12,6 +13,7 @@ mod lemmas;
 mod loading;
 mod logging;
 mod marking;
+mod resolving;
 mod settling;
 mod tautology;
 mod trying;

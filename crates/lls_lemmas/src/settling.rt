@@ -1,5 +1,6 @@
 // Level 0: unit propagation, with a unit clause for each literal, and the empty clause at a conflict.
 ghost use Rattle.std.specs.Prelude.{◌≡◌, ◌≢◌, length, Ok, OnErr, OnOk};
+ghost use Rattle.lls_lit.specs.Formula.{IsUnsatisfiable};
 ghost use Rattle.lls_store.specs.Store.{IsConflict};
 ghost use Rattle.lls_lemmas.specs.Behind.{Grows};
 ghost use Rattle.lls_lemmas.specs.Lemmas.{EndsEmpty};
@@ -36,6 +37,7 @@ fn refute<S: Store>(
     requires vars { gathering.old.marks.vars ≡ trail.now.vars }
     requires conflict { IsConflict (S.state store.now).live trail.now conflict }
     ensures ends { OnOk result (EndsEmpty log.new.steps) }
+    ensures unsatisfiable { OnOk result (IsUnsatisfiable formula.now) }
     ensures grows { Grows formula.now log.old.steps log.new.steps }
     ensures err { OnErr result (log.new.steps ≡ log.old.steps) }
     ensures vars { gathering.new.marks.vars ≡ gathering.old.marks.vars }
@@ -70,6 +72,7 @@ pub(crate) fn settle<S: Store>(
     ensures is_open { result ≡ Ok Settled.Open → HasSettled (S.state store.new) trail.new units.new.done }
     ensures rest { result ≢ Ok Settled.Refuted → IsAtRest formula.now log.new.steps (S.state store.new) trail.new units.new.ids.items units.new.done last.new }
     ensures ends { result ≡ Ok Settled.Refuted → EndsEmpty log.new.steps }
+    ensures unsatisfiable { result ≡ Ok Settled.Refuted → IsUnsatisfiable formula.now }
     ensures grows { Grows formula.now log.old.steps log.new.steps }
     ensures tracked { S.tracks store.new trail.new }
     ensures vars { gathering.new.marks.vars ≡ trail.new.vars }

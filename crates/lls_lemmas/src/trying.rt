@@ -6,7 +6,8 @@ ghost use Rattle.lls_store.specs.Trail.{Has, IsTrail};
 ghost use Rattle.lls_store.specs.Closed.{IsClosed};
 ghost use Rattle.lls_store.specs.Sound.{IsSound};
 ghost use Rattle.lls_store.specs.Store.{AreLive, IsConflict};
-ghost use Rattle.lls_lemmas.specs.Behind.{GivesClause, HasNoHints};
+ghost use Rattle.lls_lemmas.specs.Assumed.{CanBeFalse};
+ghost use Rattle.lls_lemmas.specs.Behind.{GivesClause};
 ghost use Rattle.lls_lemmas.specs.Closing.{DecidesFor, is_id_hint};
 ghost use Rattle.lls_lemmas.specs.Lemmas.{is_tautology};
 ghost use Rattle.lls_lemmas.specs.Units.{AreUnits, HaveUnits, IsReady};
@@ -123,7 +124,7 @@ fn try_settled<S: Store>(
     requires no_tautology { is_tautology lits.now ≡ false }
     ensures gives { result ≡ Ok true → GivesClause (S.state store.old).live lits.now gathering.new.hints.items }
     ensures in_range { result ≡ Ok true → list_all is_id_hint gathering.new.hints.items ≡ true }
-    ensures none { result ≡ Ok false → HasNoHints (S.state store.old).live lits.now }
+    ensures none { result ≡ Ok false → CanBeFalse (S.state store.old).live lits.now }
     ensures trail { trail.new ≡ trail.old }
     ensures state { S.state store.new ≡ S.state store.old }
     ensures tracked { S.tracks store.new trail.new }
@@ -150,7 +151,7 @@ pub(crate) fn try_clause<S: Store>(
     requires no_tautology { is_tautology lits.now ≡ false }
     ensures gives { result ≡ Ok true → GivesClause (S.state store.old).live lits.now gathering.new.hints.items }
     ensures in_range { result ≡ Ok true → list_all is_id_hint gathering.new.hints.items ≡ true }
-    ensures none { result ≡ Ok false → HasNoHints (S.state store.old).live lits.now }
+    ensures none { result ≡ Ok false → CanBeFalse (S.state store.old).live lits.now }
     ensures trail { trail.new ≡ trail.old }
     ensures state { S.state store.new ≡ S.state store.old }
     ensures tracked { S.tracks store.new trail.new }

@@ -4,6 +4,7 @@ use Rattle.std.proofs.lemmas.List.{take_all}
 use Rattle.std.proofs.lemmas.List.FromFn.{length-enumerate_from}
 use Rattle.lls_lit.specs.Formula.{is_within}
 use Rattle.lls_prooflog.specs.UnitWalk.{Live, numbered}
+use Rattle.lls_prooflog.proofs.Soundness.{KeepsSatisfiable-numbered}
 use Rattle.lls_store.specs.Trail.{TrailState}
 use Rattle.lls_store.specs.Clauses.{LiveClause}
 use Rattle.lls_store.specs.Sound.{IsSound}
@@ -64,5 +65,5 @@ returns-clause-holds g c =
       no_tail = i.tail;
       spelled = subst (λ (ps : Live). Spells (g.S.Store.state c.loop-k.store).live ps) all i.spelled;
       ids = λ clause inside. omega (arith, i.ids clause inside, last);
-      good = tt;
+      kept = KeepsSatisfiable-numbered c.args.formula.now;
     }

@@ -1,19 +1,21 @@
-use Rattle.std.proofs.Common.{◌≡◌, ◌+◌, ◌++◌, ◌∷◌, [], true, List, sym, ap, ◌∙◌, subst, arith}
+use Rattle.std.proofs.Common.{◌≡◌, ◌+◌, ◌++◌, ◌∷◌, [], true, List, refl, sym, ap, ◌∙◌, subst, arith}
 use Rattle.std.specs.Prelude.{ℤ}
 use Rattle.std.specs.List.{list_all}
 use Rattle.lls_prooflog.specs.Log.{Logged}
 use Rattle.lls_prooflog.specs.declared.step.Step.{Step}
 use Rattle.lls_prooflog.specs.declared.step.Step.TheVariants.{Add}
+use Rattle.lls_prooflog.specs.Spent.{live_after}
+use Rattle.lls_prooflog.proofs.Soundness.{unsatisfiable_at_empty}
 use Rattle.lls_lemmas.specs.Behind.{GivesClause, Grows}
 use Rattle.lls_lemmas.specs.Closing.{is_id_hint}
 use Rattle.lls_lemmas.proofs.AtZero.{gives_empty}
-use Rattle.lls_lemmas.proofs.Logs.{adds_grows, adds_in_range}
+use Rattle.lls_lemmas.proofs.Logs.{adds_by_propagation, adds_grows, adds_in_range, adds_no_fault, id_hints}
 use Rattle.lls_lemmas.proofs.settling.refute.Goals as goal
 
 pub push_add-requires-clause-in_range : goal.push_add-requires-clause-in_range
 push_add-requires-clause-in_range g c =
     let P : List ℤ → Type 0 = λ hs. list_all is_id_hint hs ≡ true in
-    adds_in_range (c.args.last + 1) [] c.as_slice-hints.result.now (omega arith) (omega (arith, c.if-last-ge-MOST_ID.false)) (subst P (sym c.as_slice-hints.ensures.value) c.gather.ensures.in_range)
+    adds_in_range (c.args.last + 1) [] c.as_slice-hints.result.now (omega arith) (omega (arith, c.if-last-ge-MOST_ID.false)) (id_hints c.as_slice-hints.result.now (subst P (sym c.as_slice-hints.ensures.value) c.gather.ensures.in_range)).0
 
 pub returns-clause-grows : goal.returns-clause-grows
 returns-clause-grows g c =
@@ -28,6 +30,18 @@ returns-clause-grows g c =
     let P : List Step → Type 0 = λ steps. Grows formula c.args.log.now.steps steps in
     let Q : List ℤ → Type 0 = λ hs. list_all is_id_hint hs ≡ true in
     let R : List ℤ → Type 0 = λ hs. GivesClause s.live [] hs in
-    subst P (sym is) (adds_grows formula c.args.log.now.steps s last [] hints c.requires.rest.holds
-    (subst R (sym c.as_slice-hints.ensures.value) (gives_empty s.live t c.len-end.result c.args.conflict c.gather.new.gathering.hints.items u.is_trail u.level (omega (arith, c.len-end.ensures.len)) c.requires.conflict c.in_ok-gather.ensures.gives))
+    let gives = subst R (sym c.as_slice-hints.ensures.value) (gives_empty s.live t c.len-end.result c.args.conflict c.gather.new.gathering.hints.items u.is_trail u.level (omega (arith, c.len-end.ensures.len)) c.requires.conflict c.in_ok-gather.ensures.gives) in
+    subst P (sym is) (adds_grows formula c.args.log.now.steps s last [] hints c.requires.rest.holds (adds_by_propagation s.live [] hints gives) gives
     (subst Q (sym c.as_slice-hints.ensures.value) c.gather.ensures.in_range))
+
+pub returns-clause-unsatisfiable : goal.returns-clause-unsatisfiable
+returns-clause-unsatisfiable g c =
+    let formula = c.args.formula.now in
+    let s = g.S.Store.state c.args.store.now in
+    let t = c.args.trail.now in
+    let u = c.requires.rest.has_units in
+    let hints = c.gather.new.gathering.hints.items in
+    let steps = c.args.log.now.steps in
+    let gives = gives_empty s.live t c.len-end.result c.args.conflict hints u.is_trail u.level (omega (arith, c.len-end.ensures.len)) c.requires.conflict c.in_ok-gather.ensures.gives in
+    unsatisfiable_at_empty formula (live_after formula steps) (Add (c.args.last + 1) [] hints) c.requires.rest.holds.kept
+    (adds_no_fault formula steps s c.args.last [] hints c.requires.rest.holds (adds_by_propagation s.live [] hints gives)) refl

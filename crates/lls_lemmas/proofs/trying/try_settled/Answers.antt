@@ -4,7 +4,6 @@ use Rattle.lls_store.specs.Store.{IsConflict, StoreState}
 use Rattle.lls_lemmas.specs.Behind.{GivesClause}
 use Rattle.lls_lemmas.specs.Units.{AreUnits, HaveUnits}
 use Rattle.lls_lemmas.proofs.Beyond.{cut_back}
-use Rattle.lls_lemmas.proofs.Open.{no_hints}
 use Rattle.lls_lemmas.proofs.Tried.{are_units_on, decides_on, have_units_on, longer}
 use Rattle.lls_lemmas.proofs.trying.try_settled.Goals as goal
 
@@ -51,8 +50,7 @@ pub returns-clause-none : goal.returns-clause-none
 returns-clause-none g c =
     let a = c.assume_all-assumed in
     λ is.
-    let o = a.ensures.is_open (c.explain-explained.ensures.closed is) in
-    no_hints (g.S.Store.state c.args.store.now).live a.new.trail c.args.lits.now a.ensures.is_trail o.closed o.all_false
+    record { trail = a.new.trail; is_trail = a.ensures.is_trail; is_open = a.ensures.is_open (c.explain-explained.ensures.closed is) }
 
 pub returns-clause-trail : goal.returns-clause-trail
 returns-clause-trail g c =

@@ -1,7 +1,39 @@
-use Rattle.std.proofs.Common.{sym, subst}
-use Rattle.lls_lemmas.specs.Lemmas.{HasClause, LemmasState}
+use Rattle.std.proofs.Common.{ℕ, List, [], ◌∷◌, Option, refl, sym, ◌∙◌, subst}
+use Rattle.std.specs.Prelude.{ℤ, fold}
+use Rattle.lls_lit.specs.Formula.{Cnf}
+use Rattle.lls_prooflog.specs.Spent.{EachStep, IsGood, LogState, log_after, log_start}
+use Rattle.lls_prooflog.specs.declared.step.Step.{Step}
+use Rattle.lls_prooflog.specs.declared.step.Step.TheVariants.{Del}
+use Rattle.lls_lemmas.specs.Lemmas.{DeletesOne, GoesOnBy, HasClause, HasNoFault, LemmasState}
+use Rattle.lls_lemmas.specs.Units.{IsAtRest}
 use Rattle.lls_lemmas.proofs.Found.{in_log, in_store}
+use Rattle.lls_lemmas.proofs.Loaded.{engine_going}
+use Rattle.lls_lemmas.proofs.Logs.{each-then, well-one}
 use Rattle.lls_lemmas.proofs.lemmas.Lemmas.delete.Goals as goal
+
+-- the log goes on by the deletion
+deleted : (P : LogState → Step → Type 0) (formula : Cnf) (old new : List Step) (lits : List ℤ) → ((state : LogState) (ids : List ℕ) → P state (Del ids)) → EachStep P (log_start formula) old → DeletesOne formula old new lits → EachStep P (log_start formula) new
+deleted P formula old new lits any each d =
+    each-then P formula old new each (subst (GoesOnBy P formula old) (sym d.deleted) (well-one P formula old (Del (d.id ∷ [])) (any (fold log_after (log_start formula) old) (d.id ∷ []))))
+
+pub invariant_of-self-2 : goal.invariant_of-self-2
+invariant_of-self-2 g c =
+    let inside = c.self.inside in
+    let i = c.self.invariant.1 in
+    let e = c.in_ok-delete_clause.ensures in
+    let formula = inside.formula.now in
+    let old = inside.log.steps in
+    let new = c.delete_clause.new.log.steps in
+    let store = g.S.Store.state c.delete_clause.new.store in (
+      e.tracked,
+      engine_going formula new store inside.trail inside.units.ids.items inside.units.done inside.last inside.has_redundant inside.settled inside.refuted c.find.new.marks.vars
+          c.if-self.false
+          (deleted HasNoFault formula old new c.args.lits.now (λ state ids. refl) i.well e.deletes)
+          (λ none. deleted IsGood formula old new c.args.lits.now (λ state ids. tt) (i.good none) e.deletes)
+          (subst (λ (ids : List (Option ℕ)). IsAtRest formula new store inside.trail ids inside.units.done inside.last) c.as_slice-units.ensures.value e.rest)
+          (λ is. e.settled (i.open_ c.if-self.false is))
+          (c.find.ensures.vars ∙ c.hash_of-hash.ensures.vars ∙ i.marks_vars),
+    )
 
 pub is_needed-requires-clause-sound : goal.is_needed-requires-clause-sound
 is_needed-requires-clause-sound g c = (c.self.invariant.1.rest c.if-self.false).has_units.sound

@@ -3,14 +3,13 @@ use Rattle.lls_lit.specs.Formula.{IsUnsatisfiable}
 use Rattle.lls_prooflog.specs.Spent.{live_after}
 use Rattle.lls_analyse.proofs.Gathering.{nothing_there}
 use Rattle.lls_lemmas.specs.Lemmas.{IsNotImplied, LemmasState}
-use Rattle.lls_lemmas.proofs.Loaded.{unsatisfiable_at_end}
 use Rattle.lls_lemmas.proofs.Open.{no_hints}
 use Rattle.lls_lemmas.proofs.lemmas.Lemmas.is_refuted.Goals as goal
 
 pub returns-clause-unsatisfiable : goal.returns-clause-unsatisfiable
 returns-clause-unsatisfiable g c =
     let i = c.self.invariant.1 in
-    λ is. subst IsUnsatisfiable (ap (λ (x : LemmasState). x.formula) c.self.view_is) (unsatisfiable_at_end c.self.inside.formula.now c.self.inside.log.steps i.good (i.ends is))
+    λ is. subst IsUnsatisfiable (ap (λ (x : LemmasState). x.formula) c.self.view_is) (i.unsatisfiable is)
 
 pub returns-clause-unrefuted : goal.returns-clause-unrefuted
 returns-clause-unrefuted g c =
