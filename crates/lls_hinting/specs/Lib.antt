@@ -1,7 +1,14 @@
 pub mod Status
 pub mod Fault
 pub mod Words
-pub mod Formula
 pub mod Hinted
+pub mod Moment
+pub mod Asked
+pub mod Behind
+pub mod Refusal
 pub mod Outcome
+pub mod Steps
+pub mod Place
+pub mod Judging
 pub mod Ends
+pub mod Saying

@@ -1,19 +1,21 @@
 -- What a proof comes to.
-use Rattle.std.specs.Prelude.{ℕ, List}
+use Rattle.std.specs.Prelude.{◌≡◌, Option, None, Some, Result, Ok, Err}
 use Rattle.lls_base.specs.Shelf.{Files}
-use Rattle.lls_lit.specs.Formula.{Cnf}
+use Rattle.lls_hinting.specs.declared.fault.Fault.{Fault}
 use Rattle.lls_hinting.specs.declared.outcome.Outcome.{Outcome}
 use Rattle.lls_hinting.specs.declared.outcome.Outcome.TheVariants.{Hinted, Refused}
-use Rattle.lls_hinting.specs.Formula.{WritesFormula}
+use Rattle.lls_hinting.specs.declared.request.Request.{Request}
+use Rattle.lls_hinting.specs.Asked.{Asked, asked_in}
 use Rattle.lls_hinting.specs.Hinted.{IsHinted}
+use Rattle.lls_hinting.specs.Refusal.{IsRefusal}
 
--- the proof of a formula
-abbrev pub ComesTo : Cnf → Outcome → Type 0
-ComesTo formula (Hinted hints) = IsHinted formula hints.bytes.items
-ComesTo formula (Refused text) = Unit {0}
+-- what the lemmas of a formula's proof come to
+abbrev pub ComesTo : Asked → Outcome → Type 0
+ComesTo asked (Hinted hints) = IsHinted asked.formula hints.bytes.items
+ComesTo asked (Refused text) = IsRefusal asked text.items
 
--- the proof of the formula of that file
-pub record ComesOf (files : Files) (name : List ℕ) (outcome : Outcome) : Type 0 where
-  pub formula : Cnf
-  pub written : WritesFormula files name formula
-  pub comes : ComesTo formula outcome
+-- what a request comes to over these files, where the shelf tells them
+abbrev pub RequestComesTo : Request → Option Files → Result Outcome Fault → Type 0
+RequestComesTo request None result = Unit {0}
+RequestComesTo request (Some files) (Ok outcome) = (asked : Asked) × (asked_in request files ≡ Ok asked) × ComesTo asked outcome
+RequestComesTo request (Some files) (Err fault) = asked_in request files ≡ Err fault

@@ -2,9 +2,13 @@
 ghost use Rattle.std.specs.Prelude.{◌≡◌, ◌⊎◌};
 ghost use Rattle.std.specs.FinMap as map;
 ghost use Rattle.std.specs.Option.{option_map};
+ghost use Rattle.lls_base.specs.Faults.{Rose};
 ghost use Rattle.lls_base.specs.Shelf.{known_files};
-ghost use Rattle.lls_hinting.specs.Fault.{status_of, words_status};
-ghost use Rattle.lls_hinting.specs.Ends.{KeepsBut};
+ghost use Rattle.lls_hinting.specs.declared.fault.Fault.TheVariants.{Outside as OfOutside};
+ghost use Rattle.lls_hinting.specs.Fault.{fault_line, words_status};
+ghost use Rattle.lls_hinting.specs.Ends.{GrewBy, KeepsBut};
+ghost use Rattle.lls_hinting.specs.Moment.{sink_at};
+ghost use Rattle.lls_hinting.specs.Saying.{GivesText, SaysFault};
 
 use crate::fault::{Fault, OutsideFault};
 use crate::outcome::Hints;
@@ -14,13 +18,16 @@ use lls_base::{FileFault, Name, Shelf, Sink, write_all, write_file};
 use std::alloc::Global;
 
 // Writes a line to the standard error. A fault of it changes nothing.
-fn write_line<E: Sink>(err: &mut E, line: &[u8]) {
+fn write_line<E: Sink>(err: &mut E, line: &[u8])
+    ensures { GrewBy line.now (sink_at E.Sink err.old) (sink_at E.Sink err.new) }
+{
     let _ = write_all(err, line);
 }
 
 /// Says a failure of the outside on the standard error. It takes no memory.
 pub fn say<E: Sink>(fault: OutsideFault, err: &mut E) -> Status
     ensures status { result ≡ Status.Outside }
+    ensures line { GrewBy (fault_line (OfOutside fault)) (sink_at E.Sink err.old) (sink_at E.Sink err.new) }
 {
     write_line(err, fault.line());
     Status::Outside
@@ -36,7 +43,7 @@ pub fn lack<E: Sink>(err: &mut E) -> Status
 
 /// Says a fault of the inputs on the standard error. Where there is no memory for its line, it says want of memory.
 pub fn refuse<E: Sink>(alloc: Global, fault: Fault, err: &mut E) -> Status
-    ensures status { (result ≡ status_of fault) ⊎ (result ≡ Status.Memory) }
+    ensures { SaysFault fault result (sink_at E.Sink err.old) (sink_at E.Sink err.new) }
 {
     match fault.line(alloc) {
         Ok(line) => {
@@ -80,6 +87,7 @@ pub fn give_hints<S: Shelf, O: Sink, E: Sink>(
     ensures done { result ≡ Status.Done →
         known_files (S.told shelf.new) ≡ option_map (λ files. map.insert files output.now hints.now.bytes.items) (known_files (S.told shelf.old)) }
     ensures others { KeepsBut output.now (known_files (S.told shelf.old)) (known_files (S.told shelf.new)) }
+    ensures failed { result ≡ Status.Outside → Rose (S.faults shelf.old) (S.faults shelf.new) ⊎ Rose (O.faults out.old) (O.faults out.new) }
 {
     match write_file(shelf, output, &hints.bytes) {
         Ok(()) => give_text(&hints.text, Status::Done, out, err),
@@ -90,6 +98,7 @@ pub fn give_hints<S: Shelf, O: Sink, E: Sink>(
 /// Says a text on the standard output, which ends the run with that status.
 pub fn give_text<O: Sink, E: Sink>(text: &[u8], status: Status, out: &mut O, err: &mut E) -> Status
     ensures status { (result ≡ status) ⊎ (result ≡ Status.Outside) }
+    ensures text { GivesText text.now status result (sink_at O.Sink out.old) (sink_at O.Sink out.new) }
 {
     match write_all(out, text) {
         Ok(()) => status,

@@ -1,7 +1,10 @@
 // The inputs: the formula, which is read whole, and the pieces of the proof.
-ghost use Rattle.std.specs.Prelude.{◌≡◌, ◌≤◌, ◌+◌, length, IfOk, IfSome, IsTrue, OnOk};
-ghost use Rattle.lls_base.specs.Shelf.{known_files};
-ghost use Rattle.lls_hinting.specs.Formula.{WritesFormula};
+ghost use Rattle.std.specs.Prelude.{◌≡◌, ◌≤◌, ◌+◌, length, IfOk, IsTrue, OnOk};
+ghost use Rattle.lls_base.specs.Results.{Gives};
+ghost use Rattle.lls_hinting.specs.Asked.{formula_in};
+ghost use Rattle.lls_hinting.specs.Moment.{files_at, rest_at, shelf_at};
+ghost use Rattle.lls_hinting.specs.Place.{PieceSays};
+ghost use Rattle.lls_hinting.specs.Steps.{IsFormula, IsOpened, Reads, input_fault};
 
 use crate::fault::{Fault, OutsideFault};
 use lls_base::{Failed, Name, OpenFault, ReadError, Shelf, read_all};
@@ -12,7 +15,9 @@ use std::alloc::Global;
 pub const PROOF_LIMIT: u64 = 1_073_741_824;
 
 // The fault of an input that wasn't read.
-fn input_fault(error: ReadError) -> Fault {
+fn input_fault(error: ReadError) -> Fault
+    ensures { result ≡ input_fault error }
+{
     match error {
         ReadError::OpenFailed => Fault::Outside(OutsideFault::OpenFailed),
         ReadError::ReadFailed => Fault::Outside(OutsideFault::ReadFailed),
@@ -24,14 +29,21 @@ fn input_fault(error: ReadError) -> Fault {
 
 /// The formula of a file in DIMACS CNF.
 pub fn read_formula<S: Shelf>(alloc: Global, shelf: &mut S, name: &Name) -> Result<Formula, Fault>
-    ensures formula { IfOk result (λ formula. IfSome (known_files (S.told shelf.old)) (λ files. WritesFormula files name.now formula)) }
-    ensures files { known_files (S.told shelf.new) ≡ known_files (S.told shelf.old) }
+    ensures read { Reads (IsFormula (files_at (shelf_at S.Shelf shelf.old)) name.now) result (shelf_at S.Shelf shelf.old) (shelf_at S.Shelf shelf.new) }
 {
     let mut bytes = Vec::new(alloc);
     if let Err(error) = read_all(shelf, name, MOST_DIMACS_BYTES as u64, &mut bytes) {
         return Err(input_fault(error));
     }
-    match read_dimacs(alloc, &bytes) {
+    formula_of(alloc, &bytes)
+}
+
+// The formula that the bytes of its file write.
+fn formula_of(alloc: Global, bytes: &[u8]) -> Result<Formula, Fault>
+    requires { length bytes.now ≤ MOST_DIMACS_BYTES }
+    ensures { Gives Fault.Memory (λ formula. formula) result (formula_in bytes.now) }
+{
+    match read_dimacs(alloc, bytes) {
         Ok(formula) => Ok(formula),
         Err(DimacsError::Fault(fault)) => Err(Fault::Dimacs(fault)),
         Err(DimacsError::Memory) => Err(Fault::Memory),
@@ -40,8 +52,9 @@ pub fn read_formula<S: Shelf>(alloc: Global, shelf: &mut S, name: &Name) -> Resu
 
 /// Opens an input.
 pub fn open<S: Shelf>(shelf: &mut S, name: &Name) -> Result<(), Fault>
+    ensures read { Reads (IsOpened (files_at (shelf_at S.Shelf shelf.old)) name.now (rest_at (shelf_at S.Shelf shelf.new))) result
+        (shelf_at S.Shelf shelf.old) (shelf_at S.Shelf shelf.new) }
     ensures input { OnOk result (IsTrue (S.has_input shelf.new)) }
-    ensures files { known_files (S.told shelf.new) ≡ known_files (S.told shelf.old) }
 {
     match shelf.open_input(name.text()) {
         Ok(()) => Ok(()),
@@ -54,9 +67,10 @@ pub fn open<S: Shelf>(shelf: &mut S, name: &Name) -> Result<(), Fault>
 pub fn read_piece<S: Shelf>(shelf: &mut S, piece: &mut [u8], taken: u64) -> Result<usize, Fault>
     requires input { IsTrue (S.has_input shelf.old) }
     requires within { taken ≤ PROOF_LIMIT }
+    ensures read { Reads (PieceSays taken piece.new (rest_at (shelf_at S.Shelf shelf.old)) (rest_at (shelf_at S.Shelf shelf.new))) result
+        (shelf_at S.Shelf shelf.old) (shelf_at S.Shelf shelf.new) }
     ensures within { IfOk result (λ n. n ≤ length piece.old) }
     ensures limit { IfOk result (λ n. taken + n ≤ PROOF_LIMIT) }
-    ensures files { known_files (S.told shelf.new) ≡ known_files (S.told shelf.old) }
     ensures input { S.has_input shelf.new ≡ S.has_input shelf.old }
 {
     let count = match shelf.read(piece) {

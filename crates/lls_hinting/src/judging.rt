@@ -1,14 +1,18 @@
 // The second reading of a proof: its lemmas, one after another, up to the first that isn't implied, or to the empty clause.
-ghost use Rattle.std.specs.Prelude.{◌≡◌, IsTrue};
-ghost use Rattle.lls_base.specs.Shelf.{known_files};
+ghost use Rattle.std.specs.Prelude.{◌≡◌, ◌≤◌, IsTrue, Ok};
 ghost use Rattle.lls_lit.specs.Formula.{is_within};
+ghost use Rattle.lls_lemmas.specs.Lemmas.{EndsEmpty};
+ghost use Rattle.lls_hinting.specs.Judging.{IsJudged, JudgeSays, LemmaSays};
+ghost use Rattle.lls_hinting.specs.Moment.{files_at, rest_at, shelf_at};
+ghost use Rattle.lls_hinting.specs.Place.{place_at};
+ghost use Rattle.lls_hinting.specs.Steps.{Reads};
 
 use crate::fault::{Fault, OutsideFault};
-use crate::input::{open, read_piece};
-use crate::survey::PIECE_BYTES;
+use crate::input::{PROOF_LIMIT, open};
+use crate::proof_file::{Next, ProofFile};
 use crate::tally::Tally;
 use lls_base::{Name, Shelf};
-use lls_drat::{Form, Kind, Reader};
+use lls_drat::{Form, Kind};
 use lls_lemmas::{Added, Deleted, Lemmas};
 use lls_lit::Lit;
 use lls_watch::WatchStore;
@@ -37,59 +41,35 @@ pub fn judge_file<S: Shelf>(
 ) -> Result<Stand, Fault>
     requires vars { lemmas.old.vars ≡ vars }
     ensures formula { lemmas.new.formula ≡ lemmas.old.formula }
-    ensures files { known_files (S.told shelf.new) ≡ known_files (S.told shelf.old) }
+    ensures ended { result ≡ Ok Stand.Refuted → EndsEmpty lemmas.new.steps }
+    ensures read { Reads (IsJudged lemmas.old.formula vars (files_at (shelf_at S.Shelf shelf.old)) name.now form lemmas.old.steps lemmas.new.steps) result
+        (shelf_at S.Shelf shelf.old) (shelf_at S.Shelf shelf.new) }
 {
     open(shelf, name)?;
-    let mut reader = Reader::new(alloc, form);
-    match judge_pieces(shelf, vars, &mut reader, lemmas, tally)? {
-        Stand::Going => judge_end(vars, &mut reader, lemmas, tally),
-        stand => Ok(stand),
-    }
+    let mut proof = ProofFile::new(alloc, form);
+    judge_left(shelf, vars, &mut proof, lemmas, tally)
 }
 
-// Takes the lemmas that have their end.
-fn judge_pieces<S: Shelf>(
+// Takes the lemmas that are left.
+fn judge_left<S: Shelf>(
     shelf: &mut S,
     vars: u32,
-    reader: &mut Reader,
+    proof: &mut ProofFile,
     lemmas: &mut Lemmas<WatchStore>,
     tally: &mut Tally,
 ) -> Result<Stand, Fault>
     requires input { IsTrue (S.has_input shelf.old) }
+    requires within { proof.old.taken ≤ PROOF_LIMIT }
+    requires fresh { proof.old.reader.count ≡ 0 }
     requires vars { lemmas.old.vars ≡ vars }
     ensures formula { lemmas.new.formula ≡ lemmas.old.formula }
-    ensures vars { lemmas.new.vars ≡ lemmas.old.vars }
-    ensures files { known_files (S.told shelf.new) ≡ known_files (S.told shelf.old) }
+    ensures ended { result ≡ Ok Stand.Refuted → EndsEmpty lemmas.new.steps }
+    ensures read { Reads (JudgeSays lemmas.old.formula vars lemmas.old.steps lemmas.new.steps
+        (place_at proof.old (rest_at (shelf_at S.Shelf shelf.old))) (place_at proof.new (rest_at (shelf_at S.Shelf shelf.new)))) result
+        (shelf_at S.Shelf shelf.old) (shelf_at S.Shelf shelf.new) }
 {
-    let mut piece = [0; PIECE_BYTES];
-    let mut taken = 0;
-    loop {
-        let count = read_piece(shelf, &mut piece, taken)?;
-        if count == 0 {
-            return Ok(Stand::Going);
-        }
-        taken += count as u64;
-        reader.put(&piece[..count])?;
-        match judge_whole(vars, reader, lemmas, tally)? {
-            Stand::Going => {}
-            stand => return Ok(stand),
-        }
-    }
-}
-
-// Takes the lemmas that have come whole.
-fn judge_whole(
-    vars: u32,
-    reader: &mut Reader,
-    lemmas: &mut Lemmas<WatchStore>,
-    tally: &mut Tally,
-) -> Result<Stand, Fault>
-    requires vars { lemmas.old.vars ≡ vars }
-    ensures formula { lemmas.new.formula ≡ lemmas.old.formula }
-    ensures vars { lemmas.new.vars ≡ lemmas.old.vars }
-{
-    while let Some(kind) = reader.next()? {
-        match judge_lemma(vars, kind, reader, lemmas, tally)? {
+    while let Some(next) = proof.next(shelf)? {
+        match judge_lemma(vars, next, proof.lits(), lemmas, tally)? {
             Stand::Going => {}
             stand => return Ok(stand),
         }
@@ -97,47 +77,28 @@ fn judge_whole(
     Ok(Stand::Going)
 }
 
-// Takes the lemmas that are left at the proof's end.
-fn judge_end(
-    vars: u32,
-    reader: &mut Reader,
-    lemmas: &mut Lemmas<WatchStore>,
-    tally: &mut Tally,
-) -> Result<Stand, Fault>
-    requires vars { lemmas.old.vars ≡ vars }
-    ensures formula { lemmas.new.formula ≡ lemmas.old.formula }
-    ensures vars { lemmas.new.vars ≡ lemmas.old.vars }
-{
-    while let Some(kind) = reader.last()? {
-        match judge_lemma(vars, kind, reader, lemmas, tally)? {
-            Stand::Going => {}
-            stand => return Ok(stand),
-        }
-    }
-    Ok(Stand::Going)
-}
-
-// Takes the lemma that was read last.
+// Takes a lemma.
 fn judge_lemma(
     vars: u32,
-    kind: Kind,
-    reader: &Reader,
+    next: Next,
+    lits: &[Lit],
     lemmas: &mut Lemmas<WatchStore>,
     tally: &mut Tally,
 ) -> Result<Stand, Fault>
     requires vars { lemmas.old.vars ≡ vars }
     ensures formula { lemmas.new.formula ≡ lemmas.old.formula }
     ensures vars { lemmas.new.vars ≡ lemmas.old.vars }
+    ensures ended { result ≡ Ok Stand.Refuted → EndsEmpty lemmas.new.steps }
+    ensures stand { LemmaSays lemmas.old.formula vars next.number next.kind lits.now lemmas.old.steps lemmas.new.steps result }
 {
-    let lits = reader.lits();
     if !are_of(lits, vars) {
         return Err(Fault::Outside(OutsideFault::Changed));
     }
-    match kind {
+    match next.kind {
         Kind::Addition => match lemmas.add(lits)? {
             Added::Implied | Added::Tautology => Ok(Stand::Going),
             Added::Refuted => Ok(Stand::Refuted),
-            Added::NotImplied => Ok(Stand::NotImplied(reader.lines())),
+            Added::NotImplied => Ok(Stand::NotImplied(next.number)),
         },
         Kind::Deletion => {
             match lemmas.delete(lits)? {

@@ -6,6 +6,7 @@ mod fault;
 mod input;
 mod judging;
 mod outcome;
+mod proof_file;
 mod request;
 pub mod run;
 pub mod status;

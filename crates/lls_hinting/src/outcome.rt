@@ -1,11 +1,13 @@
 // What the proof of a formula comes to: a proof with hints, or why there is none.
-ghost use Rattle.std.specs.Prelude.{◌≡◌, ◌≤◌, IfOk, IfSome};
-ghost use Rattle.lls_base.specs.Shelf.{known_files};
-ghost use Rattle.lls_lit.specs.Formula.{Cnf};
+ghost use Rattle.std.specs.Prelude.{◌≡◌, ◌≤◌, [], IfOk};
 ghost use Rattle.lls_prooflog.specs.Spent.{EachStep, IsGood, log_start};
-ghost use Rattle.lls_lemmas.specs.Lemmas.{EndsEmpty};
+ghost use Rattle.lls_lemmas.specs.Lemmas.{EndsEmpty, GoesOnWell};
 ghost use Rattle.lls_hinting.specs.Hinted.{IsHinted};
-ghost use Rattle.lls_hinting.specs.Outcome.{ComesOf, ComesTo};
+ghost use Rattle.lls_hinting.specs.Judging.{IsHintedOutcome, IsProved};
+ghost use Rattle.lls_hinting.specs.Moment.{files_at, shelf_at};
+ghost use Rattle.lls_hinting.specs.Outcome.{RequestComesTo};
+ghost use Rattle.lls_hinting.specs.Refusal.{no_empty_text, not_implied_text};
+ghost use Rattle.lls_hinting.specs.Steps.{Reads};
 
 use crate::fault::Fault;
 use crate::input::read_formula;
@@ -44,8 +46,7 @@ pub fn outcome_of<S: Shelf>(
     shelf: &mut S,
     request: &Request,
 ) -> Result<Outcome, Fault>
-    ensures comes { IfOk result (λ outcome. IfSome (known_files (S.told shelf.old)) (λ files. ComesOf files request.now.formula outcome)) }
-    ensures files { known_files (S.told shelf.new) ≡ known_files (S.told shelf.old) }
+    ensures { Reads (RequestComesTo request.now (files_at (shelf_at S.Shelf shelf.old))) result (shelf_at S.Shelf shelf.old) (shelf_at S.Shelf shelf.new) }
 {
     let formula = read_formula(alloc, shelf, &request.formula)?;
     let form = form_of(alloc, shelf, &request.proof, request.form)?;
@@ -63,8 +64,7 @@ fn prove<S: Shelf>(
     formula: &Formula,
 ) -> Result<Outcome, Fault>
     requires { greatest ≤ Var.MOST }
-    ensures comes { IfOk result (ComesTo formula.now) }
-    ensures files { known_files (S.told shelf.new) ≡ known_files (S.told shelf.old) }
+    ensures { Reads (IsProved formula.now greatest (files_at (shelf_at S.Shelf shelf.old)) name.now form) result (shelf_at S.Shelf shelf.old) (shelf_at S.Shelf shelf.new) }
 {
     let vars = greater(formula.vars(), greatest);
     let store = WatchStore::new(alloc, vars)?;
@@ -84,19 +84,35 @@ fn judged<S: Shelf>(
 ) -> Result<Outcome, Fault>
     requires vars { lemmas.old.vars ≡ vars }
     requires formula { lemmas.old.formula ≡ formula.now }
-    ensures comes { IfOk result (ComesTo formula.now) }
-    ensures files { known_files (S.told shelf.new) ≡ known_files (S.told shelf.old) }
+    requires well { GoesOnWell formula.now [] lemmas.old.steps }
+    ensures { Reads (IsProved formula.now vars (files_at (shelf_at S.Shelf shelf.old)) name.now form) result (shelf_at S.Shelf shelf.old) (shelf_at S.Shelf shelf.new) }
 {
     let mut tally = Tally::new();
-    let stand = judge_file(alloc, shelf, name, form, vars, lemmas, &mut tally)?;
-    if let Stand::NotImplied(number) = stand {
-        return Ok(not_implied(alloc, number)?);
+    match judge_file(alloc, shelf, name, form, vars, lemmas, &mut tally)? {
+        Stand::NotImplied(number) => Ok(Outcome::Refused(not_implied_text(alloc, number)?)),
+        Stand::Refuted => hinted(alloc, formula, lemmas, tally),
+        Stand::Going => {
+            if lemmas.is_refuted() {
+                hinted(alloc, formula, lemmas, tally)
+            } else {
+                Ok(Outcome::Refused(no_empty_text(alloc)?))
+            }
+        }
     }
-    if !lemmas.is_refuted() {
-        return Ok(no_empty(alloc)?);
-    }
-    let hints = hints_of(alloc, formula, lemmas.log(), tally)?;
-    Ok(Outcome::Hinted(hints))
+}
+
+// The proof with hints, once the empty clause was added.
+fn hinted(
+    alloc: Global,
+    formula: &Formula,
+    lemmas: &Lemmas<WatchStore>,
+    tally: Tally,
+) -> Result<Outcome, Fault>
+    requires formula { lemmas.now.formula ≡ formula.now }
+    requires ends { EndsEmpty lemmas.now.steps }
+    ensures { IsHintedOutcome formula.now result }
+{
+    Ok(Outcome::Hinted(hints_of(alloc, formula, lemmas.log(), tally)?))
 }
 
 // The greater of two numbers of variables.
@@ -105,24 +121,25 @@ fn greater(one: u32, other: u32) -> u32
     requires other { other ≤ Var.MOST }
     ensures most { result ≤ Var.MOST }
     ensures one { one ≤ result }
+    ensures other { other ≤ result }
 {
     if one < other { other } else { one }
 }
 
-// The refusal of a lemma.
-fn not_implied(alloc: Global, number: u64) -> Result<Outcome, Memory>
-    ensures { IfOk result (λ outcome. (formula : Cnf) → ComesTo formula outcome) }
+// What is said of a lemma that isn't implied.
+fn not_implied_text(alloc: Global, number: u64) -> Result<Vec<u8>, Memory>
+    ensures { IfOk result (λ text. text.items ≡ not_implied_text number) }
 {
     let text = format!(in alloc; "refused: NotImplied {number}\n")?;
-    Ok(Outcome::Refused(text.into_bytes()))
+    Ok(text.into_bytes())
 }
 
-// The refusal of a proof that ends before the empty clause.
-fn no_empty(alloc: Global) -> Result<Outcome, Memory>
-    ensures { IfOk result (λ outcome. (formula : Cnf) → ComesTo formula outcome) }
+// What is said of a proof that ends before the empty clause.
+fn no_empty_text(alloc: Global) -> Result<Vec<u8>, Memory>
+    ensures { IfOk result (λ text. text.items ≡ no_empty_text) }
 {
     let text = format!(in alloc; "refused: NoEmpty\n")?;
-    Ok(Outcome::Refused(text.into_bytes()))
+    Ok(text.into_bytes())
 }
 
 // What the empty clause of a log rests on, and what is said of it.

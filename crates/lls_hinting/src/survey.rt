@@ -1,16 +1,18 @@
 // The first reading of a proof: its form, its faults and its greatest variable.
-ghost use Rattle.std.specs.Prelude.{◌≡◌, ◌≤◌, IfOk, IsTrue};
-ghost use Rattle.lls_base.specs.Shelf.{known_files};
+ghost use Rattle.std.specs.Prelude.{◌≡◌, ◌≤◌, [], IfOk, IsTrue, true};
+ghost use Rattle.lls_lit.specs.Formula.{is_within};
+ghost use Rattle.lls_hinting.specs.Judging.{IsSurveyed, SurveySays};
+ghost use Rattle.lls_hinting.specs.Moment.{files_at, rest_at, shelf_at};
+ghost use Rattle.lls_hinting.specs.Place.{StartSays, place_at};
+ghost use Rattle.lls_hinting.specs.Steps.{IsForm, Reads};
 
 use crate::fault::Fault;
-use crate::input::{open, read_piece};
+use crate::input::{PROOF_LIMIT, open, read_piece};
+use crate::proof_file::ProofFile;
 use lls_base::{Name, Shelf};
-use lls_drat::{Form, Reader, recognise};
+use lls_drat::{Form, recognise};
 use lls_lit::{Lit, Var};
 use std::alloc::Global;
-
-/// How many bytes of a proof are read at once, at most.
-pub const PIECE_BYTES: usize = 65_536;
 
 // How many bytes tell the form.
 const FORM_BYTES: usize = 10;
@@ -22,7 +24,7 @@ pub fn form_of<S: Shelf>(
     name: &Name,
     given: Option<Form>,
 ) -> Result<Form, Fault>
-    ensures files { known_files (S.told shelf.new) ≡ known_files (S.told shelf.old) }
+    ensures read { Reads (IsForm (files_at (shelf_at S.Shelf shelf.old)) name.now given) result (shelf_at S.Shelf shelf.old) (shelf_at S.Shelf shelf.new) }
 {
     if let Some(form) = given {
         return Ok(form);
@@ -35,8 +37,9 @@ pub fn form_of<S: Shelf>(
 
 // Reads the first bytes, as many as tell the form, or all if there are fewer.
 fn read_start<S: Shelf>(shelf: &mut S, start: &mut Vec<u8>) -> Result<(), Fault>
-    requires { IsTrue (S.has_input shelf.old) }
-    ensures files { known_files (S.told shelf.new) ≡ known_files (S.told shelf.old) }
+    requires input { IsTrue (S.has_input shelf.old) }
+    requires fresh { start.old.items ≡ [] }
+    ensures read { Reads (StartSays FORM_BYTES (rest_at (shelf_at S.Shelf shelf.old)) start.new.items) result (shelf_at S.Shelf shelf.old) (shelf_at S.Shelf shelf.new) }
 {
     let mut piece = [0; FORM_BYTES];
     while start.len() < FORM_BYTES {
@@ -57,54 +60,33 @@ pub fn greatest_of<S: Shelf>(
     form: Form,
 ) -> Result<u32, Fault>
     ensures most { IfOk result (λ vars. vars ≤ Var.MOST) }
-    ensures files { known_files (S.told shelf.new) ≡ known_files (S.told shelf.old) }
+    ensures read { Reads (IsSurveyed (files_at (shelf_at S.Shelf shelf.old)) name.now form) result (shelf_at S.Shelf shelf.old) (shelf_at S.Shelf shelf.new) }
 {
     open(shelf, name)?;
-    let mut reader = Reader::new(alloc, form);
-    let vars = survey_pieces(shelf, &mut reader)?;
-    survey_end(&mut reader, vars)
-}
-
-// The greatest variable of the lemmas that have their end.
-fn survey_pieces<S: Shelf>(shelf: &mut S, reader: &mut Reader) -> Result<u32, Fault>
-    requires { IsTrue (S.has_input shelf.old) }
-    ensures most { IfOk result (λ vars. vars ≤ Var.MOST) }
-    ensures files { known_files (S.told shelf.new) ≡ known_files (S.told shelf.old) }
-{
-    let mut piece = [0; PIECE_BYTES];
-    let mut taken = 0;
-    let mut vars = 0;
-    loop {
-        let count = read_piece(shelf, &mut piece, taken)?;
-        if count == 0 {
-            return Ok(vars);
+    let mut proof = ProofFile::new(alloc, form);
+    match greatest_left(shelf, &mut proof) {
+        Err(Fault::Proof(fault)) => {
+            proof.pass_rest(shelf)?;
+            Err(Fault::Proof(fault))
         }
-        taken += count as u64;
-        reader.put(&piece[..count])?;
-        vars = survey_whole(reader, vars)?;
+        greatest => greatest,
     }
 }
 
-// That of the lemmas that have come whole and of those before them.
-fn survey_whole(reader: &mut Reader, before: u32) -> Result<u32, Fault>
-    requires { before ≤ Var.MOST }
+// That of the lemmas that are left.
+fn greatest_left<S: Shelf>(shelf: &mut S, proof: &mut ProofFile) -> Result<u32, Fault>
+    requires input { IsTrue (S.has_input shelf.old) }
+    requires within { proof.old.taken ≤ PROOF_LIMIT }
+    requires fresh { proof.old.reader.count ≡ 0 }
     ensures most { IfOk result (λ vars. vars ≤ Var.MOST) }
+    ensures read { Reads (SurveySays (place_at proof.old (rest_at (shelf_at S.Shelf shelf.old))) (place_at proof.new (rest_at (shelf_at S.Shelf shelf.new))))
+        result (shelf_at S.Shelf shelf.old) (shelf_at S.Shelf shelf.new) }
+    ensures within { proof.new.taken ≤ PROOF_LIMIT }
+    ensures input { S.has_input shelf.new ≡ S.has_input shelf.old }
 {
-    let mut vars = before;
-    while reader.next()?.is_some() {
-        vars = greater(vars, reader.lits());
-    }
-    Ok(vars)
-}
-
-// That of what is left at the proof's end and of the lemmas before.
-fn survey_end(reader: &mut Reader, before: u32) -> Result<u32, Fault>
-    requires { before ≤ Var.MOST }
-    ensures most { IfOk result (λ vars. vars ≤ Var.MOST) }
-{
-    let mut vars = before;
-    while reader.last()?.is_some() {
-        vars = greater(vars, reader.lits());
+    let mut vars = 0;
+    while let Some(_) = proof.next(shelf)? {
+        vars = greater(vars, proof.lits());
     }
     Ok(vars)
 }
@@ -113,6 +95,8 @@ fn survey_end(reader: &mut Reader, before: u32) -> Result<u32, Fault>
 fn greater(before: u32, lits: &[Lit]) -> u32
     requires { before ≤ Var.MOST }
     ensures most { result ≤ Var.MOST }
+    ensures before { before ≤ result }
+    ensures within { is_within result lits.now ≡ true }
 {
     let mut vars = before;
     for lit in lits {

@@ -1,0 +1,26 @@
+-- The steps of a log behind lemmas of a proof.
+use Rattle.std.specs.Prelude.{◌≡◌, ◌⊎◌, true, List, [], ◌∷◌}
+use Rattle.lls_lit.specs.Formula.{Clause, Cnf}
+use Rattle.lls_prooflog.specs.declared.step.Step.{Step}
+use Rattle.lls_drat.specs.declared.kind.Kind.{Kind}
+use Rattle.lls_drat.specs.declared.kind.Kind.TheVariants.{Addition, Deletion}
+use Rattle.lls_drat.specs.Lemma.{NumberedLemma}
+use Rattle.lls_lemmas.specs.Lemmas.{is_tautology, DeletesOne, GoesOnWell, IsLive}
+
+-- a lemma was taken: one that is added is live then, if it has no literal beside its negation; one that is deleted took a live clause of
+-- its literals out, or was passed over
+abbrev pub Takes : Cnf → Kind → Clause → List Step → List Step → Type 0
+Takes formula Addition lits old new = GoesOnWell formula old new × (IsLive formula new lits ⊎ (is_tautology lits ≡ true))
+Takes formula Deletion lits old new = (new ≡ old) ⊎ DeletesOne formula old new lits
+
+-- lemmas were taken, one after another
+abbrev pub TakesAll : Cnf → List NumberedLemma → List Step → List Step → Type 0
+TakesAll formula [] old new = new ≡ old
+TakesAll formula (first ∷ lemmas) old new =
+    (between : List Step) × Takes formula first.lemma.kind first.lemma.lits old between × TakesAll formula lemmas between new
+
+-- the log's steps behind a formula and lemmas of its proof
+pub record IsBehind (formula : Cnf) (lemmas : List NumberedLemma) (steps : List Step) : Type 0 where
+  pub start : List Step
+  pub well : GoesOnWell formula [] start
+  pub taken : TakesAll formula lemmas start steps
