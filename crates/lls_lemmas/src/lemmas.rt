@@ -6,6 +6,7 @@ ghost use Rattle.lls_store.specs.Changes.{empty_trail};
 ghost use Rattle.lls_store.specs.Store.{empty_store};
 ghost use Rattle.lls_lemmas.specs.Lemmas.{is_tautology, DeletesOne, EndsEmpty, GoesOnWell, HasClause, HasNoFault, IsLive, IsNotAddable, IsNotImplied, KeepsLive, MeetsTautology};
 
+use crate::answers::{Added, Deleted};
 use crate::deleting::{delete_clause, is_needed};
 use crate::finding::{find, hash_of};
 use crate::gathering::Gathering;
@@ -24,35 +25,6 @@ use lls_prooflog::Log;
 use lls_store::{Store, Trail};
 use std::alloc::Global;
 use std::marker::Model;
-
-/// What became of a lemma.
-#[derive(Clone, Copy, Debug, PartialEq, Eq)]
-pub enum Added {
-    /// Unit propagation gives it: it was added, with its hints.
-    Implied,
-    /// Unit propagation doesn't give it, but each resolvent on its first literal (RAT): it was added, with the hints of those. It is
-    /// no consequence, but what could be satisfied still can.
-    Redundant,
-    /// The empty clause was added, by this lemma or before.
-    Refuted,
-    /// It has a literal beside its negation, and was passed over.
-    Tautology,
-    /// Neither gives unit propagation it nor each resolvent on its first literal, by no hints whatever.
-    NotImplied,
-}
-
-/// What became of a deletion.
-#[derive(Clone, Copy, Debug, PartialEq, Eq)]
-pub enum Deleted {
-    /// A live clause of just these literals was taken out.
-    Gone,
-    /// The clause forced a literal at level 0 or stands for its value, and stays.
-    Reason,
-    /// No such clause is known.
-    Unknown,
-    /// The empty clause was added before, and nothing changes.
-    Refuted,
-}
 
 /// The clauses that are live behind a log, and the log, which gets each lemma that they imply with the hints that lead to it.
 ///
@@ -160,6 +132,7 @@ impl<'f, S: Store> Lemmas<'f, S> {
         ensures not_given { result ≡ Ok Added.Redundant → self.old.settled ≡ true → IsNotImplied self.old.formula self.old.steps lits.now }
         ensures told { result ≡ Ok Added.Redundant → self.new.has_redundant ≡ true }
         ensures none_redundant { result ≡ Ok Added.Implied → self.new.has_redundant ≡ self.old.has_redundant }
+        ensures none_still { result ≡ Ok Added.NotImplied → self.new.has_redundant ≡ self.old.has_redundant }
         ensures refuted { result ≡ Ok Added.Refuted → EndsEmpty self.new.steps }
         ensures unsatisfiable { result ≡ Ok Added.Refuted → IsUnsatisfiable self.old.formula }
         ensures tautology { result ≡ Ok Added.Tautology → (is_tautology lits.now ≡ true) × (self.new ≡ self.old) }
@@ -207,6 +180,7 @@ impl<'f, S: Store> Lemmas<'f, S> {
         ensures reason { result ≡ Ok Deleted.Reason → HasClause self.old.formula self.old.steps lits.now }
         ensures unknown { result ≡ Ok Deleted.Unknown → HasClause self.old.formula self.old.steps lits.now → ⊥ }
         ensures ended { result ≡ Ok Deleted.Refuted → self.old.refuted ≡ true }
+        ensures redundant { self.new.has_redundant ≡ self.old.has_redundant }
         ensures settled { self.new.settled ≡ self.old.settled }
         ensures refuted { self.new.refuted ≡ self.old.refuted }
         ensures formula { self.new.formula ≡ self.old.formula }

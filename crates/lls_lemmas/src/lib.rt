@@ -4,6 +4,7 @@
 //! What it means that a lemma is implied, or redundant, and what a log gets, stands in specs/Lemmas.antt.
 #![tactic(auto)]
 
+mod answers;
 mod assuming;
 mod deleting;
 mod finding;
@@ -19,4 +20,5 @@ mod tautology;
 mod trying;
 mod units;
 
-pub use lemmas::{Added, Deleted, Lemmas};
+pub use answers::{Added, Deleted};
+pub use lemmas::Lemmas;

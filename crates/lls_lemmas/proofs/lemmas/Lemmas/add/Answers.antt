@@ -2,7 +2,7 @@ use Rattle.std.proofs.Common.{◌≡◌, rules, sym, ap, ◌∙◌, subst}
 use Rattle.std.specs.Prelude.{◌⊎◌, Ok}
 use Rattle.lls_lit.specs.Formula.{Cnf, IsUnsatisfiable}
 use Rattle.lls_lemmas.specs.Lemmas.{GoesOnWell, HasNoFault, IsNotAddable, LemmasState, MeetsTautology}
-use Rattle.lls_lemmas.specs.declared.lemmas.Added.TheVariants.{NotImplied}
+use Rattle.lls_lemmas.specs.declared.answers.Added.TheVariants.{NotImplied}
 use Rattle.lls_lemmas.proofs.Logs.{well-then}
 use Rattle.lls_lemmas.proofs.lemmas.Lemmas.add.Goals as goal
 
