@@ -24,7 +24,7 @@ use lls_base::{Memory, Name};
 use lls_cnf::Formula;
 use lls_lrat::{CheckError, Checked, check};
 use lls_prooflog::{Log, print_log};
-use lls_trim::{TrimError, trim};
+use lls_trim::{Recorded, TrimError};
 use std::alloc::Global;
 
 /// The file of a log.
@@ -36,15 +36,22 @@ pub fn log_file(alloc: Global, log: &Log, name: Name) -> Result<AnswerFile, Memo
     Ok(AnswerFile { name, bytes })
 }
 
-// What the empty clause of a search's log rests on, or the whole log where there is no memory to find that.
-fn trimmed(alloc: Global, formula: &Formula, log: Log) -> Log
+// What the empty clause of a search's log rests on, or the whole log where there is no memory to find that. The log is let go
+// before what is left of it is written down, so want of memory behind that is a fault.
+fn trimmed(alloc: Global, formula: &Formula, log: Log) -> Result<Log, Memory>
     requires accepted { are_accepted (numbered formula.now.clauses) log.steps ≡ true }
     requires good { EachStep IsGood (log_start formula.now) log.steps }
-    ensures { (effort : Effort) → IsEvidence formula.now effort log.steps → IsEvidence formula.now effort result.steps }
+    ensures { IfOk result (λ left. (effort : Effort) → IsEvidence formula.now effort log.steps → IsEvidence formula.now effort left.steps) }
 {
-    match trim(alloc, formula, &log) {
-        Ok(trimming) => trimming.log,
-        Err(TrimError::Memory) => log,
+    let recorded = match Recorded::of_log(alloc, formula, &log) {
+        Ok(recorded) => recorded,
+        Err(CheckError::Memory) => return Ok(log),
+        Err(_) => unreachable!(),
+    };
+    drop(log);
+    match recorded.trim(alloc) {
+        Ok(trimming) => Ok(trimming.log),
+        Err(TrimError::Memory) => Err(Memory),
         Err(_) => unreachable!(),
     }
 }
@@ -75,7 +82,7 @@ pub fn proof_file<'f>(
     ensures unsatisfiable { OnOk result (IsUnsatisfiable formula.now) }
     ensures proof { IfOk result (λ made. HasProof formula.now effort made.1) }
 {
-    let log = trimmed(alloc, formula, log);
+    let log = trimmed(alloc, formula, log)?;
     let checked = check_proof(alloc, formula, &log)?;
     let file = log_file(alloc, &log, effort.proof)?;
     Ok((checked, file))
