@@ -1,19 +1,19 @@
 -- Bytes of a proof that come piece by piece.
-use Rattle.std.proofs.Common.{◌≡◌, ◌≤◌, ◌<◌, ◌+◌, ℕ, List, [], ◌∷◌, ◌++◌, length, Option, None, Some, IfSome, refl, sym, ap, ◌∙◌, append_assoc, arith}
+use Rattle.std.proofs.Common.{◌≡◌, ◌≤◌, ◌+◌, ℕ, List, [], ◌∷◌, ◌++◌, length, Option, None, Some, IfSome, refl, sym, ap, ◌∙◌, append_assoc, arith}
 use Rattle.std.specs.Prelude.{Result, Ok, Err}
 use Rattle.std.proofs.lemmas.List.{length-append}
 use Rattle.lls_base.specs.Faults.{Counts}
 use Rattle.lls_drat.specs.declared.drat_fault.DratFault.{DratFault}
 use Rattle.lls_drat.specs.Lemma.{NumberedLemma}
 use Rattle.lls_drat.specs.Proof.{at_fault, before_proof, no_more}
-use Rattle.lls_drat.specs.Reading.{Keeps, MeetsFault, taken, to_come}
+use Rattle.lls_drat.specs.Reading.{Keeps, taken, to_come}
 use Rattle.lls_hinting.specs.declared.fault.Fault.{Fault}
 use Rattle.lls_hinting.specs.declared.fault.Fault.TheVariants as faults
 use Rattle.lls_hinting.specs.declared.proof_file.Next.{Next}
 use Rattle.lls_hinting.specs.Asked.{proof_limit}
 use Rattle.lls_hinting.specs.Moment.{ShelfMoment, files_at}
-use Rattle.lls_hinting.specs.Place.{Came, Ended, EndsBehind, FaultBehind, Faulty, IsAtEnd, IsTooLong, LastSays, NextSays, Passed, Passes, Place, StopsBehind, WholeSays}
-use Rattle.lls_hinting.specs.Steps.{Reads, Stops}
+use Rattle.lls_hinting.specs.Place.{Came, Ended, EndsBehind, FaultBehind, Faulty, IsAtEnd, LastSays, NextSays, Passed, Passes, Place}
+use Rattle.lls_hinting.specs.Steps.{Reads}
 use Rattle.lls_hinting.proofs.Passing.{at, known}
 
 -- no byte came, and the same is still to come
@@ -104,47 +104,6 @@ last_fault a b c fault end meets taken rest = known (Faulty [] fault a c) a.rest
       left_then = record { bytes = []; rest = rest ∙ p.rest; same_length = omega (arith, taken, p.same_length) };
       lemmas = p.none ∙ meets;
     })
-
--- a fault comes next
-pub next_fault : (a b c : Place) (fault : DratFault) → Came a b → MeetsFault fault b.reading → c.taken ≡ b.taken → c.rest ≡ b.rest → FaultBehind [] fault a c
-next_fault a b c fault came meets taken rest = known (Faulty [] fault a c) a.rest (λ left is.
-    let p = at (λ left. (behind : List ℕ) × (b.rest ≡ Some behind) × (left ≡ came.bytes ++ behind)) a.rest left is came.rest in
-    record {
-      left_then = record { bytes = p.0; rest = rest ∙ p.1; same_length = ap (λ (n : ℕ). n + length p.0) taken ∙ same_length a b came left p.0 p.2 };
-      lemmas = came_left a b came left p.0 p.2 ∙ meets p.0;
-    })
-
-fault_behind : (a b c : Place) (fault : DratFault) → Came a b → FaultBehind [] fault b c → FaultBehind [] fault a c
-fault_behind a b c fault came stops = known (Faulty [] fault a c) a.rest (λ left is.
-    let p = at (λ left. (behind : List ℕ) × (b.rest ≡ Some behind) × (left ≡ came.bytes ++ behind)) a.rest left is came.rest in
-    let q = at (Faulty [] fault b c) b.rest p.0 p.1 stops in
-    record {
-      left_then = record { bytes = q.left_then.bytes; rest = q.left_then.rest; same_length = q.left_then.same_length ∙ same_length a b came left p.0 p.2 };
-      lemmas = came_left a b came left p.0 p.2 ∙ q.lemmas;
-    })
-
-pub long_behind : (a b : Place) → Came a b → IsTooLong b → IsTooLong a
-long_behind a b came long = known (λ left. proof_limit < a.taken + length left) a.rest (λ left is.
-    let p = at (λ left. (behind : List ℕ) × (b.rest ≡ Some behind) × (left ≡ came.bytes ++ behind)) a.rest left is came.rest in
-    let q = at (λ left. proof_limit < b.taken + length left) b.rest p.0 p.1 long in
-    omega (arith, q, same_length a b came left p.0 p.2))
-
--- no further piece came
-pub stops_behind : (a b c : Place) (fault : Fault) → Came a b → StopsBehind [] b c fault → StopsBehind [] a c fault
-stops_behind a b c (faults.Proof fault) came stops = fault_behind a b c fault came stops
-stops_behind a b c (faults.TooLong limit) came stops = (stops.0, long_behind a b came stops.1)
-stops_behind a b c (faults.Dimacs fault) came stops = absurd stops
-stops_behind a b c (faults.Outside fault) came stops = absurd stops
-stops_behind a b c faults.Memory came stops = absurd stops
-
--- a lemma that was looked for, and didn't come
-pub whole_stops : (a b c : Place) (fault : Fault) (faults_then faults_now : ℕ) → Came a b → c.taken ≡ b.taken → c.rest ≡ b.rest → faults_now ≡ faults_then → WholeSays b.reading c.reading (Err fault)
-    → Stops fault (λ f. StopsBehind [] a c f) faults_then faults_now
-whole_stops a b c (faults.Proof fault) faults_then faults_now came taken rest same says = (next_fault a b c fault came says taken rest, same)
-whole_stops a b c faults.Memory faults_then faults_now came taken rest same says = tt
-whole_stops a b c (faults.Dimacs f) faults_then faults_now came taken rest same says = absurd says
-whole_stops a b c (faults.Outside f) faults_then faults_now came taken rest same says = absurd says
-whole_stops a b c (faults.TooLong limit) faults_then faults_now came taken rest same says = absurd says
 
 -- what the end says
 pub last_said : (a b c : Place) (result : Result (Option Next) Fault) (before after : ShelfMoment) → IfSome a.rest (HasAll a b) → c.taken ≡ b.taken → c.rest ≡ b.rest → b.taken ≤ proof_limit

@@ -1,14 +1,13 @@
 -- The form of a proof by its first bytes.
-use Rattle.std.proofs.Common.{◌≡◌, ◌≤◌, ◌<◌, ◌+◌, ◌⊎◌, ℕ, List, [], ◌∷◌, ◌++◌, length, take, Option, None, Some, IfSome, refl, sym, ap, ◌∙◌, append_assoc, arith, inl, inr}
+use Rattle.std.proofs.Common.{◌≡◌, ◌≤◌, ◌⊎◌, ℕ, List, [], ◌∷◌, ◌++◌, length, take, Option, None, Some, refl, sym, ap, ◌∙◌, inl, inr}
 use Rattle.std.specs.Prelude.{Ok}
-use Rattle.std.proofs.lemmas.List.{length-append, take-append-le}
+use Rattle.std.proofs.lemmas.List.{take-append-le}
 use Rattle.lls_base.specs.Shelf.{Files}
 use Rattle.lls_drat.specs.declared.form.Form.{Form}
 use Rattle.lls_drat.specs.Form.{recognised}
-use Rattle.lls_hinting.specs.Asked.{proof_limit}
-use Rattle.lls_hinting.specs.Place.{HasStart, PieceRead, StartSays}
+use Rattle.lls_hinting.specs.Place.{HasStart, StartSays}
 use Rattle.lls_hinting.specs.Steps.{IsForm, IsOpened}
-use Rattle.lls_hinting.proofs.Passing.{at, known}
+use Rattle.lls_hinting.proofs.Passing.{at}
 
 -- the first bytes of what was left, and what is left behind them
 pub record Begun (start : List ℕ) (now : Option (List ℕ)) (left : List ℕ) : Type 0 where
@@ -19,41 +18,6 @@ pub record Begun (start : List ℕ) (now : Option (List ℕ)) (left : List ℕ) 
 none_behind : (start : List ℕ) → start ++ [] ≡ start
 none_behind [] = refl
 none_behind (b ∷ bs) = ap (λ (more : List ℕ). b ∷ more) (none_behind bs)
-
-pub begun_none : (rest : Option (List ℕ)) (start : List ℕ) → start ≡ [] → IfSome rest (Begun start rest)
-begun_none rest start none = known (Begun start rest) rest (λ left is. record { behind = left; rest = is; front = sym (ap (λ (first : List ℕ). first ++ left) none) })
-
--- one piece more
-pub begun_more : (rest between after : Option (List ℕ)) (start start' buffer : List ℕ) (n : ℕ) → start' ≡ start ++ take n buffer → IfSome rest (Begun start between)
-    → IfSome between (PieceRead n buffer after) → IfSome rest (Begun start' after)
-begun_more rest between after start start' buffer n more first next = known (Begun start' after) rest (λ left is.
-    let p = at (Begun start between) rest left is first in
-    let q = at (PieceRead n buffer after) between p.behind p.rest next in
-    record {
-      behind = q.bytes;
-      rest = q.rest_is;
-      front = p.front ∙ ap (λ (bs : List ℕ). start ++ bs) q.front ∙ sym (append_assoc start (take n buffer) q.bytes) ∙ ap (λ (bs : List ℕ). bs ++ q.bytes) (sym more);
-    })
-
--- no further piece
-pub start_whole : (most : ℕ) (rest between after : Option (List ℕ)) (start buffer : List ℕ) (n : ℕ) → n ≡ 0 → 0 < length buffer → IfSome rest (Begun start between)
-    → IfSome between (PieceRead n buffer after) → IfSome rest (HasStart most start)
-start_whole most rest between after start buffer n zero room first next = known (HasStart most start) rest (λ left is.
-    let p = at (Begun start between) rest left is first in
-    let q = at (PieceRead n buffer after) between p.behind p.rest next in
-    record { behind = p.behind; front = p.front; enough = inr (q.end zero room) })
-
-pub start_enough : (most : ℕ) (rest between : Option (List ℕ)) (start : List ℕ) → most ≤ length start → IfSome rest (Begun start between) → IfSome rest (HasStart most start)
-start_enough most rest between start enough first = known (HasStart most start) rest (λ left is.
-    let p = at (Begun start between) rest left is first in
-    record { behind = p.behind; front = p.front; enough = inl enough })
-
-pub start_long : (rest between : Option (List ℕ)) (start : List ℕ) → IfSome rest (Begun start between) → IfSome between (λ left. proof_limit < length start + length left)
-    → IfSome rest (λ left. proof_limit < length left)
-start_long rest between start first long = known (λ left. proof_limit < length left) rest (λ left is.
-    let p = at (Begun start between) rest left is first in
-    let q = at (λ left. proof_limit < length start + length left) between p.behind p.rest long in
-    omega (arith, q, ap length p.front, length-append start p.behind))
 
 same_start : (start behind bytes : List ℕ) → bytes ≡ start ++ behind → (10 ≤ length start) ⊎ (behind ≡ []) → take 10 start ≡ take 10 bytes
 same_start start behind bytes is (inl enough) = sym (ap (take 10) is ∙ take-append-le 10 start behind enough)

@@ -12,7 +12,7 @@ use Rattle.lls_drat.specs.declared.form.Form.{Form}
 use Rattle.lls_drat.specs.Lemma.{NumberedLemma}
 use Rattle.lls_drat.specs.Proof.{Proof, no_more}
 use Rattle.lls_drat.specs.Reading.{begun, to_come}
-use Rattle.lls_lemmas.specs.Lemmas.{GoesOnWell}
+use Rattle.lls_lemmas.specs.Lemmas.{GoesOnWell, IsNotImplied, LemmasState}
 use Rattle.lls_hinting.specs.declared.fault.Fault.{Fault}
 use Rattle.lls_hinting.specs.declared.fault.Fault.TheVariants as faults
 use Rattle.lls_hinting.specs.declared.fault.OutsideFault.TheVariants as outside
@@ -22,7 +22,7 @@ use Rattle.lls_hinting.specs.declared.judging.Stand.{Stand}
 use Rattle.lls_hinting.specs.declared.judging.Stand.TheVariants.{Going, Refuted, NotImplied}
 use Rattle.lls_hinting.specs.Asked.{proof_limit}
 use Rattle.lls_hinting.specs.Behind.{TakesAll}
-use Rattle.lls_hinting.specs.Judging.{HasGreater, IsJudged, IsProved, JudgeSays, StandSays, Surveyed, are_within}
+use Rattle.lls_hinting.specs.Judging.{HasGreater, IsJudged, IsProved, IsResting, JudgeSays, StandSays, Surveyed, are_within}
 use Rattle.lls_hinting.specs.Place.{Ended, EndsBehind, FaultBehind, Faulty, IsTooLong, Passed, Passes, Place, with_front}
 use Rattle.lls_hinting.specs.Refusal.{IsRefusal, addition, no_empty_text, not_implied_text}
 use Rattle.lls_hinting.specs.Steps.{IsOpened}
@@ -97,7 +97,7 @@ stands formula vars form bytes old new before after Going fresh surveyed says =
 stands formula vars form bytes old new before after Refuted fresh surveyed says = tt
 stands formula vars form bytes old new before after (NotImplied number) fresh surveyed says =
     let so = passed_so form bytes before after vars (says.front ++ addition number says.lits ∷ []) fresh surveyed says.passes in
-    (says.front, says.lits, so.0, so.1 ∙ append_one says.front so.0 (addition number says.lits), says.between, says.taken, says.well, says.not_implied)
+    (says.front, says.lits, so.0, so.1 ∙ append_one says.front so.0 (addition number says.lits), says.taken, says.not_implied, says.not_addable)
 
 -- nothing stops them
 pub no_stop : (formula : Cnf) (vars : ℕ) (form : Form) (bytes : List ℕ) (old new : List Step) (before after : Place) (fault : Fault) → Fresh form bytes before → Surveyed vars form bytes
@@ -123,12 +123,6 @@ file_judged formula vars (Some files) name form old new place after (Ok stand) o
 file_judged formula vars (Some files) name form old new place after (Err fault) opened reading taken says = λ bytes found surveyed.
     no_stop formula vars form bytes old new place after fault (fresh form bytes place reading taken (opened.2 ∙ sym opened.1 ∙ found)) surveyed says
 
--- an input that wasn't opened
-pub file_unopened : (formula : Cnf) (vars : ℕ) (files : Option Files) (name : List ℕ) (form : Form) (old new : List Step) (rest : Option (List ℕ)) (fault : Fault) → IsOpened files name rest (Err fault)
-    → IsJudged formula vars files name form old new (Err fault)
-file_unopened formula vars None name form old new rest fault opened = tt
-file_unopened formula vars (Some files) name form old new rest fault opened = λ bytes found surveyed. let clash : Some bytes ≡ None = sym found ∙ opened.1 in absurd cc
-
 -- a refusal of a surveyed proof
 pub stand_refused : (formula : Cnf) (lemmas : List NumberedLemma) (old new : List Step) (number : ℕ) (text : List ℕ) → GoesOnWell formula [] old → StandSays formula lemmas old new (NotImplied number)
     → text ≡ not_implied_text number → IsRefusal (record { formula = formula; lemmas = lemmas }) text
@@ -139,18 +133,18 @@ stand_refused formula lemmas old new number text well says is = inl (
     lits = says.1;
     behind = says.2;
     lemmas_are = says.3;
-    taken = says.4;
-    is_behind = record { start = old; well = well; taken = says.5 };
     steps = new;
-    well = says.6;
-    not_implied = says.7;
+    is_behind = record { start = old; well = well; taken = says.4 };
+    not_implied = says.5;
+    not_addable = says.6;
   },
   is,
 )
 
 pub stand_open : (formula : Cnf) (lemmas : List NumberedLemma) (old new : List Step) (text : List ℕ) → GoesOnWell formula [] old → StandSays formula lemmas old new Going
-    → text ≡ no_empty_text → IsRefusal (record { formula = formula; lemmas = lemmas }) text
-stand_open formula lemmas old new text well says is = inr (record { steps = new; is_behind = record { start = old; well = well; taken = says } }, is)
+    → IsNotImplied formula new [] → text ≡ no_empty_text → IsRefusal (record { formula = formula; lemmas = lemmas }) text
+stand_open formula lemmas old new text well says open_ is =
+    inr (record { steps = new; is_behind = record { start = old; well = well; taken = says }; not_implied = open_ }, is)
 
 -- what was judged is proved, or refused
 pub proved_refused : (formula : Cnf) (vars : ℕ) (files : Option Files) (name : List ℕ) (form : Form) (old new : List Step) (number : ℕ) (text : Vec ℕ Global) → GoesOnWell formula [] old
@@ -160,10 +154,10 @@ proved_refused formula vars (Some files) name form old new number text well is j
     stand_refused formula surveyed.lemmas old new number text.items well (judged bytes found surveyed) is
 
 pub proved_open : (formula : Cnf) (vars : ℕ) (files : Option Files) (name : List ℕ) (form : Form) (old new : List Step) (text : Vec ℕ Global) → GoesOnWell formula [] old
-    → text.items ≡ no_empty_text → IsJudged formula vars files name form old new (Ok Going) → IsProved formula vars files name form (Ok (Refusal text))
-proved_open formula vars None name form old new text well is judged = tt
-proved_open formula vars (Some files) name form old new text well is judged = λ bytes found surveyed.
-    stand_open formula surveyed.lemmas old new text.items well (judged bytes found surveyed) is
+    → IsNotImplied formula new [] → text.items ≡ no_empty_text → IsJudged formula vars files name form old new (Ok Going) → IsProved formula vars files name form (Ok (Refusal text))
+proved_open formula vars None name form old new text well open_ is judged = tt
+proved_open formula vars (Some files) name form old new text well open_ is judged = λ bytes found surveyed.
+    stand_open formula surveyed.lemmas old new text.items well (judged bytes found surveyed) open_ is
 
 within_vars : (few vars : ℕ) (lemmas : List NumberedLemma) → few ≤ vars → are_within few lemmas ≡ true → are_within vars lemmas ≡ true
 within_vars few vars [] le all = refl
@@ -180,3 +174,13 @@ pub proved_fewer : (formula : Cnf) (few vars : ℕ) (files : Option Files) (name
 proved_fewer formula few vars None name form result le proved = tt
 proved_fewer formula few vars (Some files) name form (Ok outcome) le proved = λ bytes found s. proved bytes found (surveyed_more few vars form bytes le s)
 proved_fewer formula few vars (Some files) name form (Err fault) le proved = λ bytes found s. proved bytes found (surveyed_more few vars form bytes le s)
+
+-- a stand that is neither of the others
+pub going_left : (stand : Stand) → ((number : ℕ) → stand ≡ NotImplied number → ⊥) → (stand ≡ Refuted → ⊥) → stand ≡ Going
+going_left Going refused ended = refl
+going_left Refuted refused ended = absurd (ended refl)
+going_left (NotImplied number) refused ended = absurd (refused number refl)
+
+pub settled_of : (state : LemmasState) → IsResting state → state.refuted ≡ false → state.settled ≡ true
+settled_of state (inl refuted) going = let clash : true ≡ false = sym refuted ∙ going in absurd cc
+settled_of state (inr settled) going = settled

@@ -13,5 +13,4 @@ pub mod Stopping
 pub mod Surveying
 pub mod Taking
 pub mod Telling
-pub mod Unchanged
 pub mod WordsTaken

@@ -1,12 +1,8 @@
 -- A proof that is read lemma by lemma.
-use Rattle.std.proofs.Common.{◌≡◌, ◌<◌, ◌+◌, List, [], ◌∷◌, ◌++◌, length, Option, None, Some, IfSome, refl, sym, ap, subst, ◌∙◌, append_assoc, arith}
-use Rattle.lls_drat.specs.declared.drat_fault.DratFault.{DratFault}
+use Rattle.std.proofs.Common.{◌≡◌, List, [], ◌∷◌, ◌++◌, Option, None, Some, IfSome, refl, sym, ap, subst, ◌∙◌, append_assoc}
 use Rattle.lls_drat.specs.Lemma.{NumberedLemma}
 use Rattle.lls_drat.specs.Proof.{Proof}
-use Rattle.lls_hinting.specs.declared.fault.Fault.{Fault}
-use Rattle.lls_hinting.specs.declared.fault.Fault.TheVariants as faults
-use Rattle.lls_hinting.specs.Asked.{proof_limit}
-use Rattle.lls_hinting.specs.Place.{Ended, EndsBehind, FaultBehind, Faulty, IsTooLong, Passed, Passes, Place, StopsBehind, to_come_at, with_front}
+use Rattle.lls_hinting.specs.Place.{Passed, Passes, Place, to_come_at, with_front}
 
 -- a fact of what may be known
 pub known : {A : Type 0} (P : A → Type 0) (o : Option A) → ((x : A) → o ≡ Some x → P x) → IfSome o P
@@ -36,36 +32,3 @@ passes_more a b c front l first next = known (Passed (front ++ l ∷ []) a c) a.
       left_then = record { bytes = q.left_then.bytes; rest = q.left_then.rest; same_length = q.left_then.same_length ∙ p.left_then.same_length };
       lemmas = p.lemmas ∙ ap (with_front front) q.lemmas ∙ front_front front (l ∷ []) (to_come_at c q.left_then.bytes);
     })
-
--- none behind them
-pub ends_more : (a b : Place) (front : List NumberedLemma) → Passes front a b → EndsBehind [] b → EndsBehind front a
-ends_more a b front first end = known (Ended front a) a.rest (λ left is.
-    let p = at (Passed front a b) a.rest left is first in
-    let q = at (Ended [] b) b.rest p.left_then.bytes p.left_then.rest end in
-    record {
-      lemmas = p.lemmas ∙ ap (with_front front) q.lemmas;
-      fits = omega (arith, p.left_then.same_length, q.fits);
-    })
-
-fault_more : (a b c : Place) (front : List NumberedLemma) (fault : DratFault) → Passes front a b → FaultBehind [] fault b c → FaultBehind front fault a c
-fault_more a b c front fault first next = known (Faulty front fault a c) a.rest (λ left is.
-    let p = at (Passed front a b) a.rest left is first in
-    let q = at (Faulty [] fault b c) b.rest p.left_then.bytes p.left_then.rest next in
-    record {
-      left_then = record { bytes = q.left_then.bytes; rest = q.left_then.rest; same_length = q.left_then.same_length ∙ p.left_then.same_length };
-      lemmas = p.lemmas ∙ ap (with_front front) q.lemmas;
-    })
-
-long_more : (a b : Place) (front : List NumberedLemma) → Passes front a b → IsTooLong b → IsTooLong a
-long_more a b front first long = known (λ left. proof_limit < a.taken + length left) a.rest (λ left is.
-    let p = at (Passed front a b) a.rest left is first in
-    let q = at (λ left. proof_limit < b.taken + length left) b.rest p.left_then.bytes p.left_then.rest long in
-    omega (arith, p.left_then.same_length, q))
-
--- why no further one was read
-pub stops_more : (a b c : Place) (front : List NumberedLemma) (fault : Fault) → Passes front a b → StopsBehind [] b c fault → StopsBehind front a c fault
-stops_more a b c front (faults.Proof fault) first stops = fault_more a b c front fault first stops
-stops_more a b c front (faults.TooLong limit) first stops = (stops.0, long_more a b front first stops.1)
-stops_more a b c front (faults.Dimacs fault) first stops = absurd stops
-stops_more a b c front (faults.Outside fault) first stops = absurd stops
-stops_more a b c front faults.Memory first stops = absurd stops

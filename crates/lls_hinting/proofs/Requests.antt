@@ -19,12 +19,6 @@ use Rattle.lls_hinting.specs.Steps.{IsForm, IsFormula, Reads}
 use Rattle.lls_hinting.proofs.Inputs.{input_some}
 use Rattle.lls_hinting.proofs.Stopping.{reads_stopped, reads_then}
 
--- the formula is refused
-pub formula_refused : (request : Request) (files : Option Files) (fault : Fault) → IsFormula files request.formula (Err fault) → RequestComesTo request files (Err fault)
-formula_refused request None fault is = tt
-formula_refused request (Some files) fault is =
-    ap (λ (r : Result Cnf Fault). and_then r (λ formula. and_then (and_then (input_of files request.proof proof_limit) (λ bytes. lemmas_in (form_in request.form bytes) bytes)) (λ lemmas. Ok (record { formula = formula; lemmas = lemmas })))) (sym is)
-
 -- what is asked where there is a formula
 asked_behind : (request : Request) (files : Files) (formula : Cnf) → Ok formula ≡ and_then (input_of files request.formula formula_limit) formula_in
     → asked_in request files ≡ and_then (and_then (input_of files request.proof proof_limit) (λ bytes. lemmas_in (form_in request.form bytes) bytes)) (λ lemmas. Ok (record { formula = formula; lemmas = lemmas }))
@@ -42,14 +36,6 @@ lemmas_given : (given : Option Form) (form : Form) (o : Option (List ℕ)) → (
 lemmas_given given form None is = refl
 lemmas_given given form (Some bytes) is =
     one_input proof_limit bytes (nat_lt proof_limit (length bytes)) (λ bs. lemmas_in (form_in given bs) bs) (lemmas_in form) (ap (λ (f : Form). lemmas_in f bytes) (sym (is bytes refl)))
-
--- the form can't be read
-pub form_refused : (request : Request) (files : Option Files) (formula : Cnf) (fault : Fault) → IsFormula files request.formula (Ok formula) → IsForm files request.proof request.form (Err fault)
-    → RequestComesTo request files (Err fault)
-form_refused request None formula fault is form = tt
-form_refused request (Some files) formula fault is form =
-    asked_behind request files formula is
-    ∙ ap (λ (r : Result (List ℕ) Fault). and_then (and_then r (λ bytes. lemmas_in (form_in request.form bytes) bytes)) (λ lemmas. Ok (record { formula = formula; lemmas = lemmas }))) form
 
 -- the proof is refused
 pub proof_refused : (request : Request) (files : Option Files) (formula : Cnf) (form : Form) (fault : Fault) → IsFormula files request.formula (Ok formula) → IsForm files request.proof request.form (Ok form)

@@ -63,11 +63,6 @@ reads_then One Two Both value (Err fault) before between after first both next =
       (stops_along fault (λ f. Two (Err f)) (λ f. Both (Err f)) between.faults after.faults (both first.ok.0) next.err);
 }
 
--- and no further one, for want of memory or since there is a value
-pub reads_lack : {X Y : Type 0} (One : Result X Fault → Type 0) (Two : Result Y Fault → Type 0) (value : X) (before after : ShelfMoment)
-    → Reads One (Ok value) before after → Reads Two (Err faults.Memory) before after
-reads_lack One Two value before after read = record { files = read.files; counts = read.counts; ok = tt; err = tt }
-
 pub reads_value : {X Y : Type 0} (One : Result X Fault → Type 0) (Two : Result Y Fault → Type 0) (value : X) (other : Y) (before after : ShelfMoment)
     → (One (Ok value) → Two (Ok other)) → Reads One (Ok value) before after → Reads Two (Ok other) before after
 reads_value One Two value other before after along read = record { files = read.files; counts = read.counts; ok = (along read.ok.0, read.ok.1); err = tt }

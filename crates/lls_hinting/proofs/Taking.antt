@@ -11,7 +11,7 @@ use Rattle.lls_hinting.specs.declared.judging.Stand.{Stand}
 use Rattle.lls_hinting.specs.declared.judging.Stand.TheVariants.{Going, Refuted, NotImplied}
 use Rattle.lls_hinting.specs.Behind.{Takes, TakesAll}
 use Rattle.lls_hinting.specs.Judging.{JudgeSays, LemmaSays}
-use Rattle.lls_hinting.specs.Place.{Passes, Place, StopsBehind}
+use Rattle.lls_hinting.specs.Place.{Passes, Place}
 use Rattle.lls_hinting.specs.Steps.{Stops}
 
 -- one more
@@ -27,16 +27,16 @@ pub stand_says : (formula : Cnf) (vars number : ℕ) (kind : Kind) (lits : Claus
 stand_says formula vars number kind lits old between new before now front Going passes taken says other = absurd (other refl)
 stand_says formula vars number kind lits old between new before now front Refuted passes taken says other = tt
 stand_says formula vars number kind lits old between new before now front (NotImplied n) passes taken says other =
+    let steps_are = says.2 in
     let number_is : number ≡ n = sym says.0 in
     let of_number = subst (λ (m : ℕ). Passes (front ++ record { number = m; lemma = record { kind = kind; lits = lits } } ∷ []) before now) number_is passes in
     record {
       front = front;
       lits = lits;
       passes = subst (λ (k : Kind). Passes (front ++ record { number = n; lemma = record { kind = k; lits = lits } } ∷ []) before now) says.1 of_number;
-      between = between;
-      taken = taken;
-      well = says.2;
+      taken = subst (λ (steps : List Step). TakesAll formula front old steps) (sym steps_are) taken;
       not_implied = says.3;
+      not_addable = says.4;
     }
 
 -- a lemma that can't be taken
@@ -55,14 +55,6 @@ lemma_stops formula vars number kind lits old between new before now front (faul
 lemma_stops formula vars number kind lits old between new before now front (faults.Dimacs f) faults_then faults_now passes same says = absurd says
 lemma_stops formula vars number kind lits old between new before now front (faults.Proof f) faults_then faults_now passes same says = absurd says
 lemma_stops formula vars number kind lits old between new before now front (faults.TooLong limit) faults_then faults_now passes same says = absurd says
-
--- why no further lemma was read
-pub next_stops : (formula : Cnf) (vars : ℕ) (old new : List Step) (before now : Place) (front : List NumberedLemma) (fault : Fault) → StopsBehind front before now fault → JudgeSays formula vars old new before now (Err fault)
-next_stops formula vars old new before now front (faults.Proof f) stops = (front, stops)
-next_stops formula vars old new before now front (faults.TooLong limit) stops = (front, stops)
-next_stops formula vars old new before now front (faults.Dimacs f) stops = absurd stops
-next_stops formula vars old new before now front (faults.Outside f) stops = absurd stops
-next_stops formula vars old new before now front faults.Memory stops = absurd stops
 
 -- what a lemma came to, by other names of its parts
 pub says_of : (formula formula' : Cnf) (vars number number' : ℕ) (kind : Kind) (lits lits' : Clause) (old new : List Step) (result : Result Stand Fault) → formula ≡ formula' → number ≡ number' → lits ≡ lits'

@@ -1,20 +1,30 @@
 -- A proof with hints.
-use Rattle.std.specs.Prelude.{◌≡◌, ℕ, true, List}
+use Rattle.std.specs.Prelude.{◌≡◌, ◌⊎◌, ℕ, true, List}
 use Rattle.std.specs.List.{list_all}
 use Rattle.lls_lit.specs.Formula.{Cnf, IsUnsatisfiable}
 use Rattle.lls_prooflog.specs.declared.step.Step.{Step}
 use Rattle.lls_prooflog.specs.Log.{log_text}
 use Rattle.lls_prooflog.specs.Spent.{is_addition}
 use Rattle.lls_lrat.specs.Verdict.{Accepted, verdict}
+use Rattle.lls_trim.specs.Inferences.{inferences_of}
+use Rattle.lls_trim.specs.Needed.{IsFirstRat}
 use Rattle.lls_trim.specs.Placed.{steps_of_log}
 use Rattle.lls_trim.specs.Trimmed.{IsTrimmed}
 
--- the bytes are the text of steps that the checker accepts. None is a deletion, and nothing can be trimmed from them.
--- So no assignment satisfies the formula
+-- none of the steps is a deletion, and nothing can be trimmed from them
+pub record AreTrimmed (formula : Cnf) (steps : List Step) : Type 0 where
+  pub additions : list_all is_addition steps ≡ true
+  pub again : IsTrimmed formula (steps_of_log steps) steps
+
+-- the empty clause rests on a step by its first literal
+abbrev pub RestOnRat : Cnf → List Step → Type 0
+RestOnRat formula steps = (line : ℕ) × IsFirstRat (inferences_of formula (steps_of_log steps)) line
+
+-- the bytes are the text of steps that the checker accepts. They are trimmed, but where the empty clause rests on a step by its first literal. So no
+-- assignment satisfies the formula
 pub record IsHinted (formula : Cnf) (bytes : List ℕ) : Type 0 where
   pub steps : List Step
   pub text : bytes ≡ log_text steps
   pub accepted : verdict formula bytes ≡ Accepted
-  pub additions : list_all is_addition steps ≡ true
-  pub again : IsTrimmed formula (steps_of_log steps) steps
+  pub trimmed : AreTrimmed formula steps ⊎ RestOnRat formula steps
   pub unsatisfiable : IsUnsatisfiable formula

@@ -1,5 +1,5 @@
 -- For private contracts alone: what the lemmas of a file come to.
-use Rattle.std.specs.Prelude.{◌≡◌, ◌≤◌, ℕ, Bool, true, false, List, [], ◌∷◌, ◌++◌, length, Option, None, Some, Result, Ok, Err}
+use Rattle.std.specs.Prelude.{◌≡◌, ◌⊎◌, ◌≤◌, ℕ, Bool, true, false, List, [], ◌∷◌, ◌++◌, length, Option, None, Some, Result, Ok, Err}
 use Rattle.std.specs.List.{list_all}
 use Rattle.std.specs.FinMap as map
 use Rattle.lls_base.specs.Results.{and_then}
@@ -11,16 +11,14 @@ use Rattle.lls_drat.specs.declared.kind.Kind.{Kind}
 use Rattle.lls_drat.specs.declared.kind.Kind.TheVariants.{Addition}
 use Rattle.lls_drat.specs.Lemma.{NumberedLemma}
 use Rattle.lls_drat.specs.Proof.{no_more, proof_of}
-use Rattle.lls_lemmas.specs.Lemmas.{GoesOnWell, IsNotImplied}
+use Rattle.lls_lemmas.specs.Lemmas.{IsNotAddable, IsNotImplied, LemmasState, MeetsTautology}
 use Rattle.lls_hinting.specs.declared.fault.Fault.{Fault}
 use Rattle.lls_hinting.specs.declared.fault.Fault.TheVariants as faults
 use Rattle.lls_hinting.specs.declared.fault.OutsideFault.TheVariants as outside
 use Rattle.lls_hinting.specs.declared.judging.Stand.{Stand}
 use Rattle.lls_hinting.specs.declared.judging.Stand.TheVariants.{Going, Refuted, NotImplied}
 use Rattle.lls_hinting.specs.declared.outcome.Outcome.{Outcome}
-use Rattle.lls_hinting.specs.declared.outcome.Outcome.TheVariants.{Hinted, Refused}
 use Rattle.lls_hinting.specs.Outcome.{ComesTo}
-use Rattle.lls_hinting.specs.Hinted.{IsHinted}
 use Rattle.lls_hinting.specs.Asked.{input_of, lemmas_in, proof_limit}
 use Rattle.lls_hinting.specs.Behind.{Takes, TakesAll}
 use Rattle.lls_hinting.specs.Place.{EndsBehind, Passes, Place, StopsBehind, with_front}
@@ -48,12 +46,16 @@ IsSurveyed None name form result = Unit {0}
 IsSurveyed (Some files) name form (Ok vars) = (bytes : List ℕ) × (map.get files name ≡ Some bytes) × Surveyed vars form bytes
 IsSurveyed (Some files) name form (Err fault) = and_then (input_of files name proof_limit) (lemmas_in form) ≡ Err fault
 
+-- unit propagation over the live clauses has come to its end
+abbrev pub IsResting : LemmasState → Type 0
+IsResting state = (state.refuted ≡ true) ⊎ (state.settled ≡ true)
+
 -- what a lemma came to
 abbrev pub LemmaSays : Cnf → ℕ → ℕ → Kind → Clause → List Step → List Step → Result Stand Fault → Type 0
 LemmaSays formula vars number kind lits old new (Ok Going) = Takes formula kind lits old new
 LemmaSays formula vars number kind lits old new (Ok Refuted) = Unit {0}
 LemmaSays formula vars number kind lits old new (Ok (NotImplied n)) =
-    (n ≡ number) × (kind ≡ Addition) × GoesOnWell formula old new × IsNotImplied formula new lits
+    (n ≡ number) × (kind ≡ Addition) × (new ≡ old) × IsNotImplied formula new lits × (IsNotAddable formula new lits ⊎ MeetsTautology formula new lits)
 LemmaSays formula vars number kind lits old new (Err faults.Memory) = Unit {0}
 LemmaSays formula vars number kind lits old new (Err (faults.Outside outside.Changed)) = is_within vars lits ≡ false
 LemmaSays formula vars number kind lits old new (Err fault) = ⊥
@@ -63,10 +65,9 @@ pub record StopsAfter (formula : Cnf) (number : ℕ) (old new : List Step) (befo
   pub front : List NumberedLemma
   pub lits : Clause
   pub passes : Passes (front ++ addition number lits ∷ []) before after
-  pub between : List Step
-  pub taken : TakesAll formula front old between
-  pub well : GoesOnWell formula between new
+  pub taken : TakesAll formula front old new
   pub not_implied : IsNotImplied formula new lits
+  pub not_addable : IsNotAddable formula new lits ⊎ MeetsTautology formula new lits
 
 -- a lemma has a greater variable
 pub record HasGreater (vars : ℕ) (before after : Place) : Type 0 where
@@ -89,7 +90,7 @@ StandSays formula lemmas old new Going = TakesAll formula lemmas old new
 StandSays formula lemmas old new Refuted = Unit {0}
 StandSays formula lemmas old new (NotImplied number) =
     (front : List NumberedLemma) × (lits : Clause) × (behind : List NumberedLemma) × (lemmas ≡ front ++ addition number lits ∷ behind)
-    × (between : List Step) × TakesAll formula front old between × GoesOnWell formula between new × IsNotImplied formula new lits
+    × TakesAll formula front old new × IsNotImplied formula new lits × (IsNotAddable formula new lits ⊎ MeetsTautology formula new lits)
 
 -- where the file is as it was when it was surveyed, that is all it comes to
 abbrev pub IsJudged : Cnf → ℕ → Option Files → List ℕ → Form → List Step → List Step → Result Stand Fault → Type 0
@@ -106,10 +107,3 @@ IsProved formula vars (Some files) name form (Ok outcome) =
     (bytes : List ℕ) → map.get files name ≡ Some bytes → (surveyed : Surveyed vars form bytes) → ComesTo (record { formula = formula; lemmas = surveyed.lemmas }) outcome
 IsProved formula vars (Some files) name form (Err fault) =
     (bytes : List ℕ) → map.get files name ≡ Some bytes → Surveyed vars form bytes → ⊥
-
--- an accepted proof, or want of memory
-abbrev pub IsHintedOutcome : Cnf → Result Outcome Fault → Type 0
-IsHintedOutcome formula (Ok (Hinted hints)) = IsHinted formula hints.bytes.items
-IsHintedOutcome formula (Ok (Refused text)) = ⊥
-IsHintedOutcome formula (Err faults.Memory) = Unit {0}
-IsHintedOutcome formula (Err fault) = ⊥

@@ -1,10 +1,10 @@
 -- A proof that doesn't go through, and what is said of it.
-use Rattle.std.specs.Prelude.{◌≡◌, ◌⊎◌, ℕ, List, ◌∷◌, ◌++◌, codes, decimal}
+use Rattle.std.specs.Prelude.{◌≡◌, ◌⊎◌, ℕ, List, [], ◌∷◌, ◌++◌, codes, decimal}
 use Rattle.lls_lit.specs.Formula.{Clause}
 use Rattle.lls_prooflog.specs.declared.step.Step.{Step}
 use Rattle.lls_drat.specs.declared.kind.Kind.TheVariants.{Addition}
 use Rattle.lls_drat.specs.Lemma.{NumberedLemma}
-use Rattle.lls_lemmas.specs.Lemmas.{GoesOnWell, IsNotImplied}
+use Rattle.lls_lemmas.specs.Lemmas.{IsNotAddable, IsNotImplied, MeetsTautology}
 use Rattle.lls_hinting.specs.Asked.{Asked}
 use Rattle.lls_hinting.specs.Behind.{IsBehind}
 
@@ -12,22 +12,23 @@ use Rattle.lls_hinting.specs.Behind.{IsBehind}
 abbrev pub addition : ℕ → Clause → NumberedLemma
 addition number lits = record { number = number; lemma = record { kind = Addition; lits = lits } }
 
--- the lemma of that number is one that no hints lead to, from the clauses that are live behind the lemmas before it
+-- the lemma of that number is one that no hints lead to, from the clauses that are live behind the lemmas before it, and that no hints add by its
+-- first literal, unless one of these clauses holds that literal's negation and has a literal beside its own negation
 pub record StopsAt (asked : Asked) (number : ℕ) : Type 0 where
   pub before : List NumberedLemma
   pub lits : Clause
   pub behind : List NumberedLemma
   pub lemmas_are : asked.lemmas ≡ before ++ addition number lits ∷ behind
-  pub taken : List Step
-  pub is_behind : IsBehind asked.formula before taken
   pub steps : List Step
-  pub well : GoesOnWell asked.formula taken steps
+  pub is_behind : IsBehind asked.formula before steps
   pub not_implied : IsNotImplied asked.formula steps lits
+  pub not_addable : IsNotAddable asked.formula steps lits ⊎ MeetsTautology asked.formula steps lits
 
--- all lemmas were taken
+-- all lemmas were taken, and no hints lead from what is live then to the empty clause
 pub record EndsOpen (asked : Asked) : Type 0 where
   pub steps : List Step
   pub is_behind : IsBehind asked.formula asked.lemmas steps
+  pub not_implied : IsNotImplied asked.formula steps []
 
 abbrev pub not_implied_text : ℕ → List ℕ
 not_implied_text number = codes "refused: NotImplied " ++ decimal number ++ codes "\n"

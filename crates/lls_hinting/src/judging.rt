@@ -1,8 +1,7 @@
 // The second reading of a proof: its lemmas, one after another, up to the first that isn't implied, or to the empty clause.
-ghost use Rattle.std.specs.Prelude.{◌≡◌, ◌≤◌, IsTrue, Ok};
+ghost use Rattle.std.specs.Prelude.{◌≡◌, ◌≤◌, IsTrue, Ok, true};
 ghost use Rattle.lls_lit.specs.Formula.{is_within};
-ghost use Rattle.lls_lemmas.specs.Lemmas.{EndsEmpty};
-ghost use Rattle.lls_hinting.specs.Judging.{IsJudged, JudgeSays, LemmaSays};
+ghost use Rattle.lls_hinting.specs.Judging.{IsJudged, IsResting, JudgeSays, LemmaSays};
 ghost use Rattle.lls_hinting.specs.Moment.{files_at, rest_at, shelf_at};
 ghost use Rattle.lls_hinting.specs.Place.{place_at};
 ghost use Rattle.lls_hinting.specs.Steps.{Reads};
@@ -25,7 +24,7 @@ pub enum Stand {
     Going,
     /// The empty clause was added.
     Refuted,
-    /// That of this line isn't implied, or in bytes that of this number.
+    /// Neither gives unit propagation that of this line, or in bytes that of this number, nor each resolvent on its first literal.
     NotImplied(u64),
 }
 
@@ -40,8 +39,10 @@ pub fn judge_file<S: Shelf>(
     tally: &mut Tally,
 ) -> Result<Stand, Fault>
     requires vars { lemmas.old.vars ≡ vars }
+    requires rest { IsResting lemmas.old }
     ensures formula { lemmas.new.formula ≡ lemmas.old.formula }
-    ensures ended { result ≡ Ok Stand.Refuted → EndsEmpty lemmas.new.steps }
+    ensures rest { result ≡ Ok Stand.Going → IsResting lemmas.new }
+    ensures ended { result ≡ Ok Stand.Refuted → lemmas.new.refuted ≡ true }
     ensures read { Reads (IsJudged lemmas.old.formula vars (files_at (shelf_at S.Shelf shelf.old)) name.now form lemmas.old.steps lemmas.new.steps) result
         (shelf_at S.Shelf shelf.old) (shelf_at S.Shelf shelf.new) }
 {
@@ -62,8 +63,10 @@ fn judge_left<S: Shelf>(
     requires within { proof.old.taken ≤ PROOF_LIMIT }
     requires fresh { proof.old.reader.count ≡ 0 }
     requires vars { lemmas.old.vars ≡ vars }
+    requires rest { IsResting lemmas.old }
     ensures formula { lemmas.new.formula ≡ lemmas.old.formula }
-    ensures ended { result ≡ Ok Stand.Refuted → EndsEmpty lemmas.new.steps }
+    ensures rest { result ≡ Ok Stand.Going → IsResting lemmas.new }
+    ensures ended { result ≡ Ok Stand.Refuted → lemmas.new.refuted ≡ true }
     ensures read { Reads (JudgeSays lemmas.old.formula vars lemmas.old.steps lemmas.new.steps
         (place_at proof.old (rest_at (shelf_at S.Shelf shelf.old))) (place_at proof.new (rest_at (shelf_at S.Shelf shelf.new)))) result
         (shelf_at S.Shelf shelf.old) (shelf_at S.Shelf shelf.new) }
@@ -86,9 +89,11 @@ fn judge_lemma(
     tally: &mut Tally,
 ) -> Result<Stand, Fault>
     requires vars { lemmas.old.vars ≡ vars }
+    requires rest { IsResting lemmas.old }
     ensures formula { lemmas.new.formula ≡ lemmas.old.formula }
     ensures vars { lemmas.new.vars ≡ lemmas.old.vars }
-    ensures ended { result ≡ Ok Stand.Refuted → EndsEmpty lemmas.new.steps }
+    ensures rest { result ≡ Ok Stand.Going → IsResting lemmas.new }
+    ensures ended { result ≡ Ok Stand.Refuted → lemmas.new.refuted ≡ true }
     ensures stand { LemmaSays lemmas.old.formula vars next.number next.kind lits.now lemmas.old.steps lemmas.new.steps result }
 {
     if !are_of(lits, vars) {
@@ -96,7 +101,7 @@ fn judge_lemma(
     }
     match next.kind {
         Kind::Addition => match lemmas.add(lits)? {
-            Added::Implied | Added::Tautology => Ok(Stand::Going),
+            Added::Implied | Added::Redundant | Added::Tautology => Ok(Stand::Going),
             Added::Refuted => Ok(Stand::Refuted),
             Added::NotImplied => Ok(Stand::NotImplied(next.number)),
         },

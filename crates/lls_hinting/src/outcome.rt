@@ -1,9 +1,10 @@
 // What the proof of a formula comes to: a proof with hints, or why there is none.
 ghost use Rattle.std.specs.Prelude.{◌≡◌, ◌≤◌, [], IfOk};
-ghost use Rattle.lls_prooflog.specs.Spent.{EachStep, IsGood, log_start};
-ghost use Rattle.lls_lemmas.specs.Lemmas.{EndsEmpty, GoesOnWell};
+ghost use Rattle.lls_lit.specs.Formula.{IsUnsatisfiable};
+ghost use Rattle.lls_prooflog.specs.Spent.{EachStep, log_start};
+ghost use Rattle.lls_lemmas.specs.Lemmas.{EndsEmpty, GoesOnWell, HasNoFault};
 ghost use Rattle.lls_hinting.specs.Hinted.{IsHinted};
-ghost use Rattle.lls_hinting.specs.Judging.{IsHintedOutcome, IsProved};
+ghost use Rattle.lls_hinting.specs.Judging.{IsProved, IsResting};
 ghost use Rattle.lls_hinting.specs.Moment.{files_at, shelf_at};
 ghost use Rattle.lls_hinting.specs.Outcome.{RequestComesTo};
 ghost use Rattle.lls_hinting.specs.Refusal.{no_empty_text, not_implied_text};
@@ -85,34 +86,19 @@ fn judged<S: Shelf>(
     requires vars { lemmas.old.vars ≡ vars }
     requires formula { lemmas.old.formula ≡ formula.now }
     requires well { GoesOnWell formula.now [] lemmas.old.steps }
+    requires rest { IsResting lemmas.old }
     ensures { Reads (IsProved formula.now vars (files_at (shelf_at S.Shelf shelf.old)) name.now form) result (shelf_at S.Shelf shelf.old) (shelf_at S.Shelf shelf.new) }
 {
     let mut tally = Tally::new();
-    match judge_file(alloc, shelf, name, form, vars, lemmas, &mut tally)? {
-        Stand::NotImplied(number) => Ok(Outcome::Refused(not_implied_text(alloc, number)?)),
-        Stand::Refuted => hinted(alloc, formula, lemmas, tally),
-        Stand::Going => {
-            if lemmas.is_refuted() {
-                hinted(alloc, formula, lemmas, tally)
-            } else {
-                Ok(Outcome::Refused(no_empty_text(alloc)?))
-            }
-        }
+    let stand = judge_file(alloc, shelf, name, form, vars, lemmas, &mut tally)?;
+    if let Stand::NotImplied(number) = stand {
+        return Ok(Outcome::Refused(not_implied_text(alloc, number)?));
     }
-}
-
-// The proof with hints, once the empty clause was added.
-fn hinted(
-    alloc: Global,
-    formula: &Formula,
-    lemmas: &Lemmas<WatchStore>,
-    tally: Tally,
-) -> Result<Outcome, Fault>
-    requires formula { lemmas.now.formula ≡ formula.now }
-    requires ends { EndsEmpty lemmas.now.steps }
-    ensures { IsHintedOutcome formula.now result }
-{
-    Ok(Outcome::Hinted(hints_of(alloc, formula, lemmas.log(), tally)?))
+    if !lemmas.is_refuted() {
+        return Ok(Outcome::Refused(no_empty_text(alloc)?));
+    }
+    let hints = hints_of(alloc, formula, lemmas.log(), tally)?;
+    Ok(Outcome::Hinted(hints))
 }
 
 // The greater of two numbers of variables.
@@ -142,27 +128,38 @@ fn no_empty_text(alloc: Global) -> Result<Vec<u8>, Memory>
     Ok(text.into_bytes())
 }
 
-// What the empty clause of a log rests on, and what is said of it.
+// What the empty clause of a log rests on, and what is said of it. Where that has a step by its first literal, nothing is left out.
 fn hints_of(alloc: Global, formula: &Formula, log: &Log, tally: Tally) -> Result<Hints, Memory>
-    requires good { EachStep IsGood (log_start formula.now) log.now.steps }
+    requires well { EachStep HasNoFault (log_start formula.now) log.now.steps }
     requires ends { EndsEmpty log.now.steps }
+    requires unsatisfiable { IsUnsatisfiable formula.now }
     ensures { IfOk result (λ hints. IsHinted formula.now hints.bytes.items) }
 {
-    let trimming = match trim(alloc, formula, log) {
-        Ok(trimming) => trimming,
-        Err(TrimError::Memory) => return Err(Memory),
+    match trim(alloc, formula, log) {
+        Ok(trimming) => Ok(Hints {
+            text: kept_text(
+                alloc,
+                trimming.log.len() as u64,
+                trimming.additions as u64,
+                tally,
+            )?,
+            bytes: print_log(alloc, &trimming.log)?,
+        }),
+        Err(TrimError::Memory) => Err(Memory),
         Err(TrimError::Refused(_)) => unreachable!(),
-        Err(TrimError::RatStep(_)) => unreachable!(),
-    };
-    let kept = trimming.log.len();
-    let given = trimming.additions;
+        Err(TrimError::RatStep(_)) => Ok(Hints {
+            text: kept_text(alloc, log.additions(), log.additions(), tally)?,
+            bytes: print_log(alloc, log)?,
+        }),
+    }
+}
+
+// What is said of a proof with hints.
+fn kept_text(alloc: Global, kept: u64, given: u64, tally: Tally) -> Result<Vec<u8>, Memory> {
     let reasons = tally.reasons;
     let unknown = tally.unknown;
     let text = format!(in alloc;
         "kept {kept} of {given}\npassed over {reasons} deletions of reasons and {unknown} of unknown clauses\n"
     )?;
-    Ok(Hints {
-        bytes: print_log(alloc, &trimming.log)?,
-        text: text.into_bytes(),
-    })
+    Ok(text.into_bytes())
 }

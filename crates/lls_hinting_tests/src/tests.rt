@@ -70,7 +70,7 @@ fn run_over(alloc: Global, words: &str, mut shelf: MemShelf) -> Result<Ended, Al
 // A proof, the status, the text, and the file that is left, if one is written.
 type Row = (&'static [u8], Status, &'static str, Option<&'static str>);
 
-const ROWS: [Row; 8] = [
+const ROWS: [Row; 10] = [
     (b"1 0\n0\n", Status::Done, KEPT, Some(HINTED)),
     // The same in bytes.
     (b"a\x02\x00a\x00", Status::Done, KEPT, Some(HINTED)),
@@ -80,16 +80,24 @@ const ROWS: [Row; 8] = [
         "kept 3 of 4\npassed over 0 deletions of reasons and 1 of unknown clauses\n",
         Some(HINTED),
     ),
+    // No clause has -3, so nothing stands against 3 0. Then -3 would make the empty clause of it.
     (
-        b"c one\n3 0\n",
+        b"3 0\n1 0\n0\n",
+        Status::Done,
+        "kept 3 of 4\npassed over 0 deletions of reasons and 0 of unknown clauses\n",
+        Some(HINTED),
+    ),
+    (b"3 0\n", Status::Refused, "refused: NoEmpty\n", None),
+    (
+        b"c one\n3 0\n-3 0\n",
         Status::Refused,
-        "refused: NotImplied 2\n",
+        "refused: NotImplied 3\n",
         None,
     ),
     (
-        b"a\x06\x00",
+        b"a\x06\x00a\x07\x00",
         Status::Refused,
-        "refused: NotImplied 1\n",
+        "refused: NotImplied 2\n",
         None,
     ),
     (b"", Status::Refused, "refused: NoEmpty\n", None),

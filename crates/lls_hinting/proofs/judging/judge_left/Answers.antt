@@ -16,6 +16,7 @@ loop-next-init g c = record {
   count = omega (arith, c.requires.fresh);
   formula = refl;
   vars = refl;
+  rest = c.requires.rest;
   passed = ([], passes_none (place_at c.args.proof.now (known_rest (g.S.Shelf.told c.args.shelf.now))), refl);
   files = refl;
   counts = Counts-refl _ (g.met.S.Shelf.faults_fit c.args.shelf.now);
@@ -61,6 +62,7 @@ loop-next-preserved g c =
       count = c.in_ok-next.ensures.fits next (ap Ok c.in-Some.is);
       formula = c.judge_lemma.ensures.formula ∙ inv.formula;
       vars = c.judge_lemma.ensures.vars ∙ inv.vars;
+      rest = c.in_ok-stand.ensures.rest (ap Ok c.in-Going.is);
       passed = (
         inv.passed.0 ++ l ∷ [],
         passes_more a b d inv.passed.0 l inv.passed.1 read.ok.0.1,

@@ -1,15 +1,23 @@
-use Rattle.std.proofs.Common.{Err, ap, ◌∙◌}
+use Rattle.std.proofs.Common.{Err, ap, ◌∙◌, inl, inr}
 use Rattle.lls_hinting.proofs.Hinting.{accepted_at_end, is_hinted}
 use Rattle.lls_hinting.proofs.outcome.hints_of.Goals as goal
 
 pub unreachable-requires : goal.unreachable-requires
 unreachable-requires c =
-    let accepted = accepted_at_end c.args.formula.now c.args.log.now.steps c.requires.good c.requires.ends in
+    let accepted = accepted_at_end c.args.formula.now c.args.log.now.steps c.requires.well c.requires.ends in
     c.trim.ensures.not_refused accepted c.in-Err-Refused.field-0-0 (c.in-Err-Refused.is ∙ ap Err c.in-Err-Refused.field-0-is)
 
-pub returns : goal.returns
-returns c =
+pub returns-in_ok-print_log-in-Ok : goal.returns-in_ok-print_log-in-Ok
+returns-in_ok-print_log-in-Ok c =
     let trimmed = c.in-Ok.ensures in
-    let printed = c.in_ok-print_log.ensures in
-    is_hinted c.args.formula.now c.in-Ok.trimming.log.steps c.in_ok-print_log.field-0.items printed.text printed.read_again
-    trimmed.accepted_again trimmed.good trimmed.additions trimmed.again
+    let printed = c.in_ok-print_log-in-Ok.ensures in
+    is_hinted c.args.formula.now c.in-Ok.trimming.log.steps c.in_ok-print_log-in-Ok.field-0.items printed.text printed.read_again trimmed.accepted_again c.requires.unsatisfiable
+    (inl (record { additions = trimmed.additions; again = trimmed.again }))
+
+pub returns-in_ok-print_log-in-Err-RatStep : goal.returns-in_ok-print_log-in-Err-RatStep
+returns-in_ok-print_log-in-Err-RatStep c =
+    let line = c.in-Err-RatStep.field-0-0 in
+    let is = c.in-Err-RatStep.is ∙ ap Err c.in-Err-RatStep.field-0-is in
+    let printed = c.in_ok-print_log-in-Err-RatStep.ensures in
+    is_hinted c.args.formula.now c.args.log.now.steps c.in_ok-print_log-in-Err-RatStep.field-0.items printed.text printed.read_again (c.trim.ensures.rat_accepted line is) c.requires.unsatisfiable
+    (inr (line, c.trim.ensures.rat line is))
