@@ -152,7 +152,7 @@ module _ (formula : Cnf) (steps : List Step) (store : StoreState) (trail : Trail
   pub without_deletes : (lits : List ℤ) → set.from_list lits ≡ clause.lits → DeletesOne formula steps (steps ++ Del (clause.id ∷ []) ∷ []) lits
   without_deletes lits same =
       let s = spelled store.live (live_after formula steps) number clause rest.holds.spelled live.ids found in
-      record { id = clause.id; clause = s.lits; was_live = s.found; same_literals = s.same ∙ sym same; deleted = refl }
+      record { was_live = record { id = clause.id; clause = s.lits; found = s.found; same_literals = s.same ∙ sym same }; deleted = refl }
 
 -- a clause none of whose literals it forced or stands for may go
 pub is_free : (store : StoreState) (t : TrailState) (units : List (Option ℕ)) (number id : ℕ) (lits : List ℤ) → AreLive store → IsTrail t → IsSound store.live t → AreUnits store.live t.entries units → (told : IsTold store number lits) → told.clause.id ≡ id

@@ -82,8 +82,5 @@ pub record HasClause (formula : Cnf) (steps : List Step) (lits : Clause) : Type 
 
 -- one step more, the deletion of a live clause of just these literals
 pub record DeletesOne (formula : Cnf) (old new : List Step) (lits : Clause) : Type 0 where
-  pub id : ℕ
-  pub clause : Clause
-  pub was_live : find_clause (live_after formula old) id ≡ Some clause
-  pub same_literals : set.from_list {R = int_cmp} clause ≡ set.from_list lits
-  pub deleted : new ≡ old ++ Del (id ∷ []) ∷ []
+  pub was_live : HasClause formula old lits
+  pub deleted : new ≡ old ++ Del (was_live.id ∷ []) ∷ []

@@ -14,7 +14,7 @@ use Rattle.lls_lemmas.proofs.lemmas.Lemmas.delete.Goals as goal
 -- the log goes on by the deletion
 deleted : (P : LogState → Step → Type 0) (formula : Cnf) (old new : List Step) (lits : List ℤ) → ((state : LogState) (ids : List ℕ) → P state (Del ids)) → EachStep P (log_start formula) old → DeletesOne formula old new lits → EachStep P (log_start formula) new
 deleted P formula old new lits any each d =
-    each-then P formula old new each (subst (GoesOnBy P formula old) (sym d.deleted) (well-one P formula old (Del (d.id ∷ [])) (any (fold log_after (log_start formula) old) (d.id ∷ []))))
+    each-then P formula old new each (subst (GoesOnBy P formula old) (sym d.deleted) (well-one P formula old (Del (d.was_live.id ∷ [])) (any (fold log_after (log_start formula) old) (d.was_live.id ∷ []))))
 
 pub invariant_of-self-2 : goal.invariant_of-self-2
 invariant_of-self-2 g c =
