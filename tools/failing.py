@@ -7,7 +7,7 @@ Refused are each allocation, opening, read and write, one a run; and in other ru
 tools/failing.c, which a C compiler makes into a library, stands between the program and the C library. Then the program ends
 
 - with 5, `lls: memory`, nothing on the standard output and all files as before, but the search file of `make`, which may stand whole;
-- or, where memory lacks to trim the proof of a search, as it ends where nothing fails, with the whole log in the proof's place;
+- or, where memory lacks to record what the proof of a search comes from, as it ends where nothing fails, with the whole log in its place;
 - or with 4 and the call that failed: the inputs are as before, an output stands for first bytes of its text, and is whole where the
   standard output failed, which has first bytes of its own;
 - or as it ends where nothing fails, where the call that failed was of no matter, as a write to the standard error.
