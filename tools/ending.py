@@ -25,6 +25,15 @@ def words(module_doc, *names):
     return given
 
 
+def option(name_of_it, default=None):
+    """Takes an option that stands before all other words out of the script's words, and returns its value."""
+    if sys.argv[1:2] != [name_of_it] or len(sys.argv) < 3:
+        return default
+    value = sys.argv[2]
+    del sys.argv[1:3]
+    return value
+
+
 def number(word, what):
     """Returns a word as a number, or ends with a sentence."""
     try:

@@ -1,11 +1,10 @@
 #!/usr/bin/env python3
-"""Tests of the scripts that bring other solvers' answers to the program: hints.py, with_solver.py, and turns.py, which counts what a search learns.
+"""Tests of the scripts that bring other solvers' answers to the program: with_solver.py and tighten.py, and of what trimmed.py and turns.py say.
 
     test_solvers.py
 
 Takes a few seconds and needs neither the proved program nor a solver: both are played by scripts. What is expected was worked out by hand.
 """
-import itertools
 import os
 import shutil
 import subprocess
@@ -13,21 +12,9 @@ import sys
 import tempfile
 import unittest
 
-import hints
-import pivots
-
 TOP = os.path.dirname(os.path.dirname(os.path.abspath(__file__)))
-# Both signs of 1 are refused, the positive one by what unit propagation doesn't see.
-SIX = "p cnf 4 6\n1 2 3 0\n1 2 -3 0\n1 -2 3 0\n1 -2 -3 0\n-1 4 0\n-1 -4 0\n"
-# Each way to give three variables a sign, so that nothing is left; the clauses 1 to 8.
-EIGHT = "p cnf 3 8\n1 2 3 0\n1 2 -3 0\n1 -2 3 0\n1 -2 -3 0\n-1 2 3 0\n-1 2 -3 0\n-1 -2 3 0\n-1 -2 -3 0\n"
-# And four variables.
-SIXTEEN = "p cnf 4 16\n" + "".join(f"{a} {b} {c} {d} 0\n" for a in (1, -1) for b in (2, -2) for c in (3, -3) for d in (4, -4))
-# Clauses are taken out once they are of no more use.
-PROOF = "1 2 0\nd 3 2 1 0\nd 1 2 -3 0\n1 -2 0\n1 0\nd 1 2 0\n2 0\n0\n"
-BINARY = b"a\2\4\0d\6\4\2\0d\2\4\7\0a\2\5\0a\2\0d\2\4\0a\4\0a\0"
-# What they make: the literals and the hints in no order.
-LINES = {9: ({1, 2}, {1, 2}), 10: ({1, -2}, {3, 4}), 11: ({1}, {9, 10}), 12: ({2}, {11, 5, 6}), 13: (set(), {11, 12, 7, 8})}
+FORMULA = "p cnf 2 4\n1 2 0\n1 -2 0\n-1 2 0\n-1 -2 0\n"
+PROOF = "1 0\n2 0\n0\n"
 
 
 def ran(*words, folder=TOP, path=None):
@@ -38,58 +25,6 @@ def ran(*words, folder=TOP, path=None):
         (sys.executable, script, *words[1:]), capture_output=True, text=True, cwd=folder, env=around, check=False, timeout=60
     )
     return done.returncode, done.stdout, done.stderr
-
-
-def parts_of(line):
-    """Returns the id, the literals and the hints of an addition in LRAT."""
-    index, *numbers = map(int, line.split())
-    end = numbers.index(0)
-    return index, numbers[:end], numbers[end + 1 : -1]
-
-
-def first_fault(formula, lines):
-    """Returns the first line of LRAT that the rules of unit propagation refuse, or None where they all hold and the empty clause is the
-    last."""
-    clauses = dict(enumerate(map(set, formula), 1))
-    for line in lines:
-        index, literals, ids = parts_of(line)
-        false, ended = set(literals), False
-        for hint in ids:
-            left = clauses[hint] - false
-            if ended or len(left) > 1:
-                return line
-            ended = not left
-            false |= {-literal for literal in left}
-        if not ended or index in clauses:
-            return line
-        clauses[index] = set(literals)
-    return None if not literals else "no empty clause"
-
-
-def cooks_proof(holes):
-    """Returns that one more pigeon than holes doesn't fit, as a formula, and a short proof that leaves out one hole and one pigeon after
-    another (Cook, A short proof of the pigeon hole principle using extended resolution, 1976), without hints."""
-    names = {}
-
-    def sits(level, pigeon, hole):
-        return names.setdefault((level, pigeon, hole), len(names) + 1)
-
-    formula = [[sits(holes, pigeon, hole) for hole in range(holes)] for pigeon in range(holes + 1)]
-    formula += [[-sits(holes, a, hole), -sits(holes, b, hole)] for hole in range(holes) for b in range(holes + 1) for a in range(b)]
-    count, proof = len(names), []
-    for k in range(holes, 1, -1):
-        # In the smaller question a pigeon sits in a hole where it did, or where it sat in the last hole and the last pigeon here.
-        for pigeon, hole in itertools.product(range(k), range(k - 1)):
-            new, old, aside, last = sits(k - 1, pigeon, hole), sits(k, pigeon, hole), sits(k, pigeon, k - 1), sits(k, k, hole)
-            proof += [[new, -old], [new, -aside, -last], [-new, old, aside], [-new, old, last]]
-        proof += [[sits(k - 1, pigeon, hole) for hole in range(k - 1)] for pigeon in range(k)]
-        for hole, b in itertools.product(range(k - 1), range(k)):
-            for a in range(b):
-                both = [-sits(k - 1, a, hole), -sits(k - 1, b, hole)]
-                proof += [[*both, sits(k, a, hole)], both]
-    proof.append([])
-    text = "".join(" ".join(map(str, [*clause, 0])) + "\n" for clause in formula)
-    return f"p cnf {count} {len(formula)}\n{text}", "".join(" ".join(map(str, [*clause, 0])) + "\n" for clause in proof)
 
 
 class Scratch(unittest.TestCase):
@@ -110,116 +45,6 @@ class Scratch(unittest.TestCase):
     def read(self, name):
         with open(os.path.join(self.folder, name), encoding="utf-8") as file:
             return file.read()
-
-
-class Hints(Scratch):
-    def hinted(self, proof, *words, formula=EIGHT):
-        return ran("hints.py", *words, self.write("cnf", formula), self.write("proof", proof))
-
-    def refused(self, fault, proof, *words, formula=EIGHT):
-        self.assertEqual(self.hinted(proof, *words, formula=formula), (1, "", f"hints.py: {fault}\n"))
-
-    def check(self, out, wanted):
-        found = {index: (set(literals), set(ids)) for index, literals, ids in map(parts_of, out.splitlines())}
-        self.assertEqual(found, wanted)
-        self.assertIsNone(first_fault(hints.read_formula(EIGHT.encode()), out.splitlines()))
-
-    def test_text_and_binary_with_deletions(self):
-        for proof in (PROOF, PROOF.replace("\n", "\r\n"), "c a comment\n\n" + PROOF, PROOF[: -len("0\n")], BINARY, BINARY[:-2]):
-            with self.subTest(proof):
-                status, out, err = self.hinted(proof)
-                self.assertEqual((status, err), (0, ""))
-                self.check(out, LINES)
-
-    def test_what_isnt_needed_is_left_out_unchecked(self):
-        # The clause with a fourth variable doesn't follow.
-        out = self.hinted("3 4 0\nd 3 4 0\n" + PROOF)[1]
-        self.assertEqual([parts_of(line)[1] for line in out.splitlines()], [[1, 2], [1, -2], [1], [2], []])
-        self.assertIsNone(first_fault(hints.read_formula(EIGHT.encode()), out.splitlines()))
-
-    def test_a_formula_that_falls_by_itself(self):
-        self.assertEqual(self.hinted("", formula="p cnf 1 2\n1 0\n-1 0\n"), (0, "3 0 1 2 0\n", ""))
-        self.assertEqual(self.hinted("", formula="p cnf 1 2\n1 0\n0\n"), (0, "3 0 2 0\n", ""))
-
-    def test_a_stored_proof_gets_its_hints_back(self):
-        for name in ("pigeons", "parity", "random"):
-            formula = hints.content(f"{TOP}/examples/{name}.cnf")
-            with open(f"{TOP}/examples/{name}.lrat", encoding="ascii") as file:
-                lemmas = [parts_of(line)[1] for line in file if line.split()[1] != "d"]
-            proof = "".join(f"{' '.join(map(str, [*literals, 0]))}\n" for literals in lemmas)
-            self.assertIsNone(first_fault(hints.read_formula(formula), hints.hinted(formula, proof.encode())))
-
-    def test_lemmas_that_arent_implied(self):
-        neither = "stands neither by unit propagation nor by its first literal"
-        self.refused(f"line 2: {neither}: 1", "c\n1 0\n2 0\n0\n", formula=SIX)
-        self.refused(f"step 1 of the binary proof: {neither}: 1", b"a\2\0a\4\0a\0", formula=SIX)
-        # Without the clause that it needs, which is gone by then.
-        self.refused(f"line 2: {neither}: 1 2", PROOF.replace("1 2 0\nd 3 2 1 0\n", "d 3 2 1 0\n1 2 0\n"))
-        self.refused("line 1: the empty clause doesn't follow by unit propagation", "0\n")
-
-    # A variable 5 of the proof's own, true just where 1 and 2 are, which is refuted. What follows needs it, since clauses of the formula go.
-    DEFINED = (
-        "5 -1 -2 0\n-5 1 0\n-5 2 0\n-5 3 0\n-5 0\nd -1 -2 3 4 0\nd -1 -2 3 -4 0\nd -1 -2 -3 4 0\nd -1 -2 -3 -4 0\n"
-        "1 2 3 0\n1 2 0\n1 -2 3 0\n1 -2 0\n1 0\n3 0\n0\n"
-    )
-
-    def check_by_pivots(self, formula, proof):
-        """Returns the lines of LRAT, which the rules accept as tools/pivots.py has them."""
-        status, out, err = self.hinted(proof, formula=formula)
-        self.assertEqual((status, err), (0, ""))
-        lines = [line.split() for line in out.splitlines()]
-        steps = [list(map(int, line[2:-1])) if line[1] == "d" else parts_of(" ".join(line)) for line in lines]
-        self.assertEqual(pivots.answer(hints.read_formula(formula.encode()), steps), "accepted")
-        return out.splitlines()
-
-    def test_lemmas_that_stand_by_their_first_literal(self):
-        lines = self.check_by_pivots(SIXTEEN, self.DEFINED)
-        self.assertEqual(lines[:3], ["17 5 -1 -2 0 0", "18 -5 1 0 -17 0", "19 -5 2 0 -17 0"])
-        self.assertEqual(lines[5:9], ["13 d 13 0", "14 d 14 0", "15 d 15 0", "16 d 16 0"])
-
-    def test_pigeons_by_extension(self):
-        for holes in (3, 6):
-            formula, proof = cooks_proof(holes)
-            lines = self.check_by_pivots(formula, proof)
-            self.assertTrue(any(" 0 -" in line for line in lines))
-
-    def test_a_first_literal_whose_negation_is_deleted(self):
-        formula = SIXTEEN.replace("4 16", "8 17") + "5 8 0\n"
-        lines = self.check_by_pivots(formula, "d 8 5 0\n" + self.DEFINED)
-        self.assertEqual(lines[:3], ["17 d 17 0", "18 5 -1 -2 0 0", "19 -5 1 0 -18 0"])
-        self.refused("line 3: stands neither by unit propagation nor by its first literal: -5 2", self.DEFINED, formula=formula)
-
-    def test_unfinished_proofs(self):
-        unfinished = "the proof is unfinished: its clauses come to no contradiction"
-        for proof in ("", "1 2 0\n", b"a\2\4\0"):
-            self.refused(unfinished, proof)
-
-    def test_reasons_stay(self):
-        # Solvers delete clauses that hold for good, as those do that the values of 1 and 2 follow from.
-        formula = "p cnf 4 6\n1 0\n-1 2 0\n-2 3 4 0\n-2 3 -4 0\n-2 -3 4 0\n-2 -3 -4 0\n"
-        status, out, err = self.hinted("d 1 0\nd -1 2 0\n3 0\n", formula=formula)
-        self.assertEqual((status, err), (0, ""))
-        self.assertEqual([set(parts_of(line)[2]) for line in out.splitlines()], [{1, 2, 3, 4}, {1, 2, 7, 5, 6}])
-        self.assertIsNone(first_fault(hints.read_formula(formula.encode()), out.splitlines()))
-
-    def test_binary_numbers(self):
-        steps = hints.binary_steps(b"a\xc8\x01\x03\x00d\x81\x80\x01\x00")
-        self.assertEqual([step[1:] for step in steps], [(False, [100, -1]), (True, [-8192])])
-
-    def test_a_word_says_the_form(self):
-        # The first ten bytes are those of a text: `d`, and the letters `A`, `C` and so on are negative literals.
-        proof = b"dACEGIKMOQ\0" + BINARY
-        self.check(self.hinted(proof, "--binary")[1], LINES)
-        self.refused("line 1: a word is no number", proof)
-        self.refused("line 1: a word is no number", BINARY, "--text")
-        self.refused("step 1 of the binary proof begins with neither `a` nor `d`", PROOF, "--binary")
-
-    def test_files_that_are_no_proofs(self):
-        self.refused("step 2 of the binary proof has no end", b"a\2\4\0a\2")
-        self.refused("line 2: a step ends with its first 0, and has a line to itself", "1 2 0\n1 -2\n")
-        self.refused("line 1: a step ends with its first 0, and has a line to itself", "1 2 0 1 -2 0\n")
-        self.refused("the formula: a word is no number", PROOF, formula="p cnf 1 1\none 0\n")
-        self.assertEqual(ran("hints.py", "nowhere", "nowhere")[::2], (1, "hints.py: nowhere: No such file or directory\n"))
 
 
 class Trimmed(Scratch):
@@ -254,7 +79,8 @@ class Trimmed(Scratch):
 
 
 class WithSolver(Scratch):
-    """A search file of two cells. The program's part is played by a script that takes one pattern and proofs that begin with `9`."""
+    """A search file of two cells. The programs' parts are played by scripts: one takes a pattern and proofs that begin with `9`, the other gives
+    hints to one proof."""
 
     LLS = """#!/bin/sh
 echo "$*" >> calls
@@ -265,20 +91,26 @@ check) grep -q "^9 " "$3" && echo accepted || { echo "refused: NoEmpty"; exit 1;
 esac
 """
 
+    HINTS = """#!/bin/sh
+cmp -s "$1" cnf && cmp -s "$2" proof && echo "9 0 3 0" > "$3" && echo "kept 1 of 1" || { echo "refused: NotImplied 2"; exit 1; }
+"""
+
     def setUp(self):
         super().setUp()
         self.write("lls", self.LLS, True)
-        self.write("cnf", EIGHT)
+        self.write("lls-hints", self.HINTS, True)
+        self.write("cnf", FORMULA)
+        self.write("proof", PROOF)
         self.write("q.lls", "* *\n")
         # No other programs are found, so that none of this machine's is run.
         os.mkdir(f"{self.folder}/bin")
-        for name in ("cat", "grep"):
+        for name in ("cat", "cmp", "grep"):
             os.symlink(shutil.which(name), f"{self.folder}/bin/{name}")
 
     def solved(self, solver, script=None, *words):
         if script is not None:
             self.write(f"bin/{solver}", f"#!/bin/sh\n{script}\n", True)
-        where = ("--lls", "./lls", f"{self.folder}/bin/{solver}", "q.lls", "out.lrat", *words)
+        where = ("--lls", "./lls", "--hints", "./lls-hints", f"{self.folder}/bin/{solver}", "q.lls", "out.lrat", *words)
         status, out, err = ran("with_solver.py", *where, folder=self.folder, path=f"{self.folder}/bin")
         return status, out, [line.removeprefix("with_solver.py: ") for line in err.splitlines()]
 
@@ -310,30 +142,19 @@ esac
         status, out, said = self.solved("cadical", self.ABSENCE, "--live", "0:1-")
         self.assertEqual((status, out), (20, "no pattern\n"))
         self.assertEqual(said[-1], "no pattern: shown by `lls check` of out.lrat")
-        self.assertRegex(said[2], r"^hints by hints\.py: \d+\.\d s$")
+        self.assertRegex(said[2], r"^`lls-hints`: \d+\.\d s$")
         self.assertRegex(self.calls()[1], r"^check \S+ --live 0:1-$")
-        self.assertIsNone(first_fault(hints.read_formula(EIGHT.encode()), self.read("out.lrat").splitlines()))
+        self.assertEqual(self.read("out.lrat"), "9 0 3 0\n")
 
     def test_lrat_is_taken_as_it_is(self):
         script = 'case "$*" in --help) echo "  --lrat=bool"; exit 0 ;; *--lrat*) echo "9 0 1 0" > "$5" ;; esac\nexit 20'
         self.assertEqual(self.solved("cadical", script)[:2], (20, "no pattern\n"))
         self.assertEqual(self.read("out.lrat"), "9 0 1 0\n")
 
-    def test_lrat_of_drat_trim(self):
-        self.write("bin/drat-trim", '#!/bin/sh\n[ "$3" = -L ] && echo "9 0 2 0" > "$4"\n', True)
-        status, _, said = self.solved("cadical", self.ABSENCE)
-        self.assertRegex(said[2], r"^hints by drat-trim: \d+\.\d s$")
-        self.assertEqual((status, self.read("out.lrat")), (20, "9 0 2 0\n"))
-        # Where it makes none, the script does.
-        self.write("bin/drat-trim", "#!/bin/sh\nexit 1\n", True)
-        status, _, said = self.solved("cadical", self.ABSENCE)
-        self.assertEqual((status, said[3]), (20, "drat-trim made no LRAT"))
-        self.assertIn("13 0 ", self.read("out.lrat"))
-
     def test_a_wrong_proof_is_no_answer(self):
         self.write("out.lrat", "what was there")
-        status, out, said = self.solved("cadical", self.ABSENCE.replace("1 2 0\nd 3 2 1 0\n", "d 3 2 1 0\n1 2 0\n", 1))
-        fault = "the solver's proof: line 2: stands neither by unit propagation nor by its first literal: 1 2"
+        status, out, said = self.solved("cadical", self.ABSENCE.replace("1 0\n2 0\n", "2 0\n1 0\n", 1))
+        fault = "`lls-hints` doesn't take the solver's proof: refused: NotImplied 2"
         self.assertEqual((status, out, said[-1]), (1, "", fault))
         script = 'case "$*" in --help) echo --lrat; exit 0 ;; esac\necho "14 0 1 0" > "$5"\nexit 20'
         status, out, said = self.solved("cadical", script)

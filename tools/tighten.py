@@ -76,10 +76,8 @@ def fewest(looks, words):
 
 
 def main():
+    program = ending.option("--lls", LLS)
     words = sys.argv[1:]
-    program = LLS
-    if words[:1] == ["--lls"] and len(words) > 1:
-        program, words = words[1], words[2:]
     if len(words) < 2 or os.path.basename(words[0]) not in SOLVERS:
         sys.exit(f"{__doc__}\ntighten.py: a solver ({', '.join(SOLVERS)}) and a search file are needed")
     solver, search, *options = words

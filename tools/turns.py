@@ -10,7 +10,6 @@ turn, so for a crew it is the number of its turns but the last. Prints the numbe
 """
 import os
 import subprocess
-import sys
 import tempfile
 
 import ending
@@ -50,21 +49,9 @@ def least_budget(decides):
     return least
 
 
-def taken(words, name, default):
-    """Takes an option of the script's own and its value out of the words before the first that is none."""
-    if words[:1] == [name] and len(words) > 1:
-        value = words[1]
-        del words[:2]
-        return value
-    return default
-
-
 def main():
-    given = sys.argv[1:]
-    program = taken(given, "--lls", LLS)
-    crew = taken(given, "--crew", None)
-    seeds = ending.number(taken(given, "--seeds", "3"), "N")
-    sys.argv[1:] = given
+    program, crew = ending.option("--lls", LLS), ending.option("--crew")
+    seeds = ending.number(ending.option("--seeds", "3"), "N")
     search, *words = ending.words(__doc__, "SEARCH", "WORD ..")
     ways = [("alone", [])]
     if crew is not None:

@@ -1,7 +1,7 @@
 #!/usr/bin/env python3
 """Answers a search file with another solver, and has the answer shown by the program.
 
-    with_solver.py [--lls PROGRAM] SOLVER SEARCH PROOF [WORD ..]
+    with_solver.py [--lls PROGRAM] [--hints PROGRAM] SOLVER SEARCH PROOF [WORD ..]
 
 `lls cnf` makes the formula of SEARCH and of the WORDs, which are its options (`--period 3`), and SOLVER solves it. A model is made a
 pattern, which `lls judge` judges; a proof is given its hints, and `lls check` checks it. As with `lls search`, what is printed is the
@@ -9,8 +9,8 @@ pattern (status 10), `no pattern` (20), where the checked proof stands in PROOF,
 sentence. The standard error says what each step took, and what is shown by what.
 
 SOLVER is a name or a path that ends in one: cadical, or minisat or picosat, which write no proof, so that only their patterns are shown.
-LRAT of newer versions of CaDiCaL is taken as it is, and drat-trim's where that program is there; else tools/hints.py makes it.
-PROGRAM is by default `lls` in the folder above this file's.
+LRAT of newer versions of CaDiCaL is taken as it is; else the proof gets its hints by `lls-hints`. The PROGRAMs are by default `lls` and
+`lls-hints` in the folder above this file's.
 
 Neither the solver nor this script has to be trusted, only what the program says of the pattern or the proof.
 """
@@ -22,10 +22,11 @@ import tempfile
 import time
 
 import ending
-import hints
 from pattern import BadInput, pattern_of
 
-LLS = os.path.join(os.path.dirname(os.path.dirname(os.path.abspath(__file__))), "lls")
+TOP = os.path.dirname(os.path.dirname(os.path.abspath(__file__)))
+LLS = os.path.join(TOP, "lls")
+HINTS = os.path.join(TOP, "lls-hints")
 
 
 class NoAnswer(Exception):
@@ -104,23 +105,13 @@ def minisat(program, formula, proof):
 SOLVERS = {"cadical": cadical, "minisat": minisat, "picosat": picosat}
 
 
-def lrat_of(formula, proof, folder):
+def lrat_of(program, formula, proof, folder):
     """Returns the name of a file that has a DRAT proof in LRAT."""
     lrat = f"{folder}/lrat"
-    trim = shutil.which("drat-trim")
-    if trim:
-        with Step("hints by drat-trim"):
-            run(trim, formula, proof, "-L", lrat)
-        if os.path.exists(lrat) and os.path.getsize(lrat):
-            return lrat
-        say("drat-trim made no LRAT")
-    try:
-        with Step("hints by hints.py"):
-            lines = hints.hinted(hints.content(formula), hints.content(proof), False)
-    except hints.BadProof as fault:
-        raise NoAnswer(f"the solver's proof: {fault}") from None
-    with open(lrat, "w", encoding="ascii") as file:
-        file.write("\n".join(lines) + "\n")
+    with Step("`lls-hints`"):
+        status, out = run(program, formula, proof, lrat)
+    if status != 0:
+        raise NoAnswer(f"`lls-hints` doesn't take the solver's proof: {out.strip() or f'status {status}'}")
     return lrat
 
 
@@ -153,8 +144,8 @@ def show_absence(question, lrat, proof):
     return 20
 
 
-def answer(question, solver, proof, folder):
-    """Returns the status of the answer that a solver gives and the program shows."""
+def answer(question, hints, solver, proof, folder):
+    """Returns the status of the answer that a solver gives and the program shows; a proof gets its hints by the program `hints`."""
     name = os.path.basename(solver)
     if name not in SOLVERS:
         raise NoAnswer(f"of the solver '{name}' the options aren't known here, only those of {', '.join(SOLVERS)}")
@@ -176,7 +167,7 @@ def answer(question, solver, proof, folder):
     if status == 20 and form is None:
         raise NoAnswer(f"{name} says that there is no pattern, and writes no proof: nothing is shown")
     if status == 20:
-        return show_absence(question, made if form == "lrat" else lrat_of(formula, made, folder), proof)
+        return show_absence(question, made if form == "lrat" else lrat_of(hints, formula, made, folder), proof)
     if status in (0, 30):
         print("undecided")
         say(f"undecided: {name} ended without an answer")
@@ -186,14 +177,11 @@ def answer(question, solver, proof, folder):
 
 
 def main():
-    program = LLS
-    if sys.argv[1:2] == ["--lls"] and len(sys.argv) > 2:
-        program = sys.argv[2]
-        del sys.argv[1:3]
+    program, hints = ending.option("--lls", LLS), ending.option("--hints", HINTS)
     solver, search, proof, *words = ending.words(__doc__, "SOLVER", "SEARCH", "PROOF", "WORD ..")
     try:
         with tempfile.TemporaryDirectory() as folder:
-            return answer(Question(program, search, words), solver, proof, folder)
+            return answer(Question(program, search, words), hints, solver, proof, folder)
     except NoAnswer as fault:
         return f"with_solver.py: {fault}"
 
