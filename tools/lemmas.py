@@ -4,9 +4,10 @@
     lemmas.py FOLDER COUNT SEED
 
 FOLDER gets the files N.cnf, N.drat, the proof as text, and N.bytes, the same proof in bytes, for N from 0 on. A line of the standard output
-has N and the answer: `hinted`, or `refused: ` with the first lemma that unit propagation doesn't give, or that there is no empty clause. All
-clauses are gone through until nothing new follows; nothing is watched, sorted or looked up by a hash. Where the answer is `hinted` all
-assignments are tried, and the script ends with a failure if one satisfies the formula.
+has N and the answer: `hinted`, or `refused: ` with the first lemma that stands neither by unit propagation nor by its first literal, or that
+there is no empty clause. All clauses are gone through until nothing new follows; nothing is watched, sorted or looked up by a hash. Where
+the answer is `hinted` all assignments are tried, and the script ends with a failure if one satisfies the formula. The last N is `pigeons`: seven
+of them don't fit into six holes, by a short proof that stands on first literals.
 """
 import itertools
 import os
@@ -35,6 +36,23 @@ def is_implied(clauses, lemma):
     return any(-literal in negated for literal in negated) or forced(clauses, negated) is None
 
 
+def stands_by_first(clauses, lemma):
+    """Whether each resolvent on the first literal is implied, as a checker of LRAT looks at it."""
+    if not lemma:
+        return False
+    negated = {-literal for literal in lemma}
+    for clause in clauses:
+        if -lemma[0] in clause:
+            rest = {-literal for literal in clause if literal != -lemma[0]}
+            if not any(literal in lemma for literal in rest) and forced(clauses, negated | rest) is not None:
+                return False
+    return True
+
+
+def stands(clauses, lemma):
+    return is_implied(clauses, lemma) or stands_by_first(clauses, lemma)
+
+
 def answer(formula, lemmas):
     """What comes of the lemmas, each a pair of whether it is deleted and its literals."""
     live, units = [frozenset(clause) for clause in formula], set()
@@ -47,7 +65,7 @@ def answer(formula, lemmas):
         units = at_zero
         if is_deletion and frozenset(lemma) in live:
             live.remove(frozenset(lemma))
-        elif not is_deletion and not is_implied(clauses, lemma):
+        elif not is_deletion and not stands(clauses, lemma):
             return f"refused: NotImplied {line}"
         elif not is_deletion and not any(-literal in lemma for literal in lemma):
             live.append(frozenset(lemma))
@@ -60,8 +78,8 @@ def drawn_clause(draw, count, least):
 
 
 def drawn(draw):
-    """A formula of few variables, most of them without a solution, and lemmas most of which are implied."""
-    count = draw.randint(2, 4)
+    """A formula of few variables, most of them without a solution, and lemmas most of which stand."""
+    variables = count = draw.randint(2, 4)
     formula = [drawn_clause(draw, count, 1) for _ in range(draw.randint(3, 4 * count))]
     live, lemmas = list(formula), []
     for _ in range(draw.randint(0, 12)):
@@ -71,13 +89,41 @@ def drawn(draw):
         elif draw.random() < 0.05:
             lemmas.append((True, drawn_clause(draw, count, 1)))
         else:
-            lemma = drawn_clause(draw, count + (draw.random() < 0.1), 1)
-            if is_implied(live, lemma) or draw.random() < 0.1:
+            lemma = drawn_clause(draw, count, 1)
+            if draw.random() < 0.3:
+                count += 1
+                lemma = [draw.choice((count, -count)), *lemma[:2]]
+            if stands(live, lemma) or draw.random() < 0.05:
                 lemmas.append((False, lemma))
                 live.append(lemma)
     if draw.random() < 0.5:
         lemmas.append((False, []))
-    return count, formula, lemmas
+    return variables, formula, lemmas
+
+
+def pigeons(holes):
+    """That one more pigeon than holes doesn't fit, and a short proof that leaves out one hole and one pigeon after another (Cook, A short
+    proof of the pigeon hole principle using extended resolution, 1976)."""
+    names = {}
+
+    def sits(level, pigeon, hole):
+        return names.setdefault((level, pigeon, hole), len(names) + 1)
+
+    formula = [[sits(holes, pigeon, hole) for hole in range(holes)] for pigeon in range(holes + 1)]
+    formula += [[-sits(holes, a, hole), -sits(holes, b, hole)] for hole in range(holes) for b in range(holes + 1) for a in range(b)]
+    count, proof = len(names), []
+    for k in range(holes, 1, -1):
+        # In the smaller question a pigeon sits in a hole where it did, or where it sat in the last hole and the last pigeon here.
+        for pigeon, hole in itertools.product(range(k), range(k - 1)):
+            new, old, aside, last = sits(k - 1, pigeon, hole), sits(k, pigeon, hole), sits(k, pigeon, k - 1), sits(k, k, hole)
+            proof += [[new, -old], [new, -aside, -last], [-new, old, aside], [-new, old, last]]
+        proof += [[sits(k - 1, pigeon, hole) for hole in range(k - 1)] for pigeon in range(k)]
+        for hole, b in itertools.product(range(k - 1), range(k)):
+            for a in range(b):
+                both = [-sits(k - 1, a, hole), -sits(k - 1, b, hole)]
+                proof += [[*both, sits(k, a, hole)], both]
+    proof.append([])
+    return count, formula, [(False, lemma) for lemma in proof]
 
 
 def number_in_bytes(number):
@@ -104,6 +150,17 @@ def has_solution(count, formula):
     )
 
 
+def write(folder, name, variables, formula, lemmas):
+    clauses = "".join(f"{' '.join(map(str, [*clause, 0]))}\n" for clause in formula)
+    for kind, text in (
+        ("cnf", f"p cnf {variables} {len(formula)}\n{clauses}".encode()),
+        ("drat", in_text(lemmas).encode()),
+        ("bytes", in_bytes(lemmas)),
+    ):
+        with open(os.path.join(folder, f"{name}.{kind}"), "wb") as file:
+            file.write(text)
+
+
 def main():
     folder, count, seed = ending.words(__doc__, "FOLDER", "COUNT", "SEED")
     draw = random.Random(ending.number(seed, "SEED"))
@@ -112,13 +169,10 @@ def main():
         found = answer(formula, lemmas)
         if found == "hinted" and has_solution(variables, formula):
             return f"lemmas.py: the formula {n} has a solution"
-        with open(os.path.join(folder, f"{n}.cnf"), "w", encoding="ascii") as file:
-            file.write(f"p cnf {variables} {len(formula)}\n" + "".join(f"{' '.join(map(str, [*clause, 0]))}\n" for clause in formula))
-        with open(os.path.join(folder, f"{n}.drat"), "w", encoding="ascii") as file:
-            file.write(in_text(lemmas))
-        with open(os.path.join(folder, f"{n}.bytes"), "wb") as file:
-            file.write(in_bytes(lemmas))
+        write(folder, n, variables, formula, lemmas)
         print(n, found, sep="\t")
+    write(folder, "pigeons", *pigeons(6))
+    print("pigeons", "hinted", sep="\t")
     return 0
 
 
