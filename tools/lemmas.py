@@ -44,7 +44,10 @@ def stands_by_first(clauses, lemma):
     for clause in clauses:
         if -lemma[0] in clause:
             rest = {-literal for literal in clause if literal != -lemma[0]}
-            if not any(literal in lemma for literal in rest) and forced(clauses, negated | rest) is not None:
+            if any(literal in lemma for literal in rest):
+                continue
+            # A clause with a literal beside its negation stands against the lemma, whatever follows.
+            if any(-literal in clause for literal in clause) or forced(clauses, negated | rest) is not None:
                 return False
     return True
 
