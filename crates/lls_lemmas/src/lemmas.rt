@@ -72,6 +72,7 @@ impl<'f, S: Store + Drop> Lemmas<'f, S> {
         ensures formula { IfOk result (λ lemmas. lemmas.formula ≡ formula.now) }
         ensures vars { IfOk result (λ lemmas. lemmas.vars ≡ vars) }
         ensures well { IfOk result (λ lemmas. GoesOnWell formula.now [] lemmas.steps) }
+        ensures keeps { IfOk result (λ lemmas. KeepsLive formula.now [] lemmas.steps) }
         ensures none_redundant { IfOk result (λ lemmas. lemmas.has_redundant ≡ false) }
         ensures settled { IfOk result (λ lemmas. (lemmas.refuted ≡ true) ⊎ (lemmas.settled ≡ true)) }
     {
@@ -127,6 +128,7 @@ impl<'f, S: Store> Lemmas<'f, S> {
     pub fn add(&mut self, lits: &[Lit]) -> Result<Added, Memory>
         requires within { is_within self.old.vars lits.now ≡ true }
         ensures well { GoesOnWell self.old.formula self.old.steps self.new.steps }
+        ensures keeps { KeepsLive self.old.formula self.old.steps self.new.steps }
         ensures implied { result ≡ Ok Added.Implied → IsLive self.old.formula self.new.steps lits.now }
         ensures redundant { result ≡ Ok Added.Redundant → IsLive self.old.formula self.new.steps lits.now }
         ensures not_given { result ≡ Ok Added.Redundant → self.old.settled ≡ true → IsNotImplied self.old.formula self.old.steps lits.now }
@@ -289,6 +291,7 @@ impl<'f, S: Store> Lemmas<'f, S> {
         requires settled { self.old.settled ≡ true }
         requires going { self.old.refuted ≡ false }
         ensures well { GoesOnWell self.old.formula self.old.steps self.new.steps }
+        ensures keeps { KeepsLive self.old.formula self.old.steps self.new.steps }
         ensures implied { result ≡ Ok Added.Implied → IsLive self.old.formula self.new.steps lits.now }
         ensures redundant { result ≡ Ok Added.Redundant → IsLive self.old.formula self.new.steps lits.now }
         ensures not_given { result ≡ Ok Added.Redundant → IsNotImplied self.old.formula self.old.steps lits.now }
@@ -318,6 +321,7 @@ impl<'f, S: Store> Lemmas<'f, S> {
         requires settled { self.old.settled ≡ true }
         requires going { self.old.refuted ≡ false }
         ensures well { GoesOnWell self.old.formula self.old.steps self.new.steps }
+        ensures keeps { KeepsLive self.old.formula self.old.steps self.new.steps }
         ensures implied { result ≡ Ok true → IsLive self.old.formula self.new.steps lits.now }
         ensures not_implied { result ≡ Ok false → IsNotImplied self.old.formula self.old.steps lits.now }
         ensures stays { result ≡ Ok false → self.new ≡ self.old }
@@ -358,6 +362,7 @@ impl<'f, S: Store> Lemmas<'f, S> {
         requires settled { self.old.settled ≡ true }
         requires going { self.old.refuted ≡ false }
         ensures well { GoesOnWell self.old.formula self.old.steps self.new.steps }
+        ensures keeps { KeepsLive self.old.formula self.old.steps self.new.steps }
         ensures redundant { result ≡ Ok true → IsLive self.old.formula self.new.steps lits.now }
         ensures told { result ≡ Ok true → self.new.has_redundant ≡ true }
         ensures not_addable { result ≡ Ok false → IsNotAddable self.old.formula self.old.steps lits.now ⊎ MeetsTautology self.old.formula self.old.steps lits.now }

@@ -1,6 +1,8 @@
-use Rattle.std.proofs.Common.{ap, ◌∙◌}
+use Rattle.std.proofs.Common.{List, ap, ◌∙◌, subst}
 use Rattle.lls_lit.specs.Marked.{Marked}
 use Rattle.lls_prooflog.specs.Log.{Logged}
+use Rattle.lls_prooflog.specs.declared.step.Step.{Step}
+use Rattle.lls_lemmas.specs.Lemmas.{KeepsLive}
 use Rattle.lls_lemmas.proofs.Loaded.{engine_start}
 use Rattle.lls_lemmas.proofs.lemmas.Lemmas.new.Goals as goal
 
@@ -12,3 +14,7 @@ invariant_of-lemmas g c =
           (ap (λ (l : Logged). l.steps) c.new-log.ensures) c.in_ok-trail.ensures c.len-len.ensures.kept e.holds e.vars c.in_ok-units.ensures.ids c.in_ok-units.ensures.done c.len.ensures.len
           (c.index_clauses.ensures.vars ∙ ap (λ (m : Marked). m.vars) c.in_ok-marks.ensures),
     )
+
+pub returns-clause-keeps : goal.returns-clause-keeps
+returns-clause-keeps g c =
+    subst (λ (old : List Step). KeepsLive c.args.formula.now old c.settle.new.self.steps) (ap (λ (l : Logged). l.steps) c.new-log.ensures) c.settle.ensures.keeps
