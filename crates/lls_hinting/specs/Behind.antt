@@ -5,12 +5,16 @@ use Rattle.lls_prooflog.specs.declared.step.Step.{Step}
 use Rattle.lls_drat.specs.declared.kind.Kind.{Kind}
 use Rattle.lls_drat.specs.declared.kind.Kind.TheVariants.{Addition, Deletion}
 use Rattle.lls_drat.specs.Lemma.{NumberedLemma}
-use Rattle.lls_lemmas.specs.Lemmas.{is_tautology, DeletesOne, GoesOnWell, IsLive}
+use Rattle.lls_lemmas.specs.Lemmas.{is_tautology, DeletesOne, GoesOnWell, IsLive, KeepsLive}
+
+-- a log goes on by steps with which nothing is wrong, and what was live stays so
+abbrev pub Grows : Cnf → List Step → List Step → Type 0
+Grows formula old new = GoesOnWell formula old new × KeepsLive formula old new
 
 -- a lemma was taken: one that is added is live then, if it has no literal beside its negation; one that is deleted took a live clause of
 -- its literals out, or was passed over
 abbrev pub Takes : Cnf → Kind → Clause → List Step → List Step → Type 0
-Takes formula Addition lits old new = GoesOnWell formula old new × (IsLive formula new lits ⊎ (is_tautology lits ≡ true))
+Takes formula Addition lits old new = Grows formula old new × (IsLive formula new lits ⊎ (is_tautology lits ≡ true))
 Takes formula Deletion lits old new = (new ≡ old) ⊎ DeletesOne formula old new lits
 
 -- lemmas were taken, one after another
@@ -22,5 +26,5 @@ TakesAll formula (first ∷ lemmas) old new =
 -- the log's steps behind a formula and lemmas of its proof
 pub record IsBehind (formula : Cnf) (lemmas : List NumberedLemma) (steps : List Step) : Type 0 where
   pub start : List Step
-  pub well : GoesOnWell formula [] start
+  pub grown : Grows formula [] start
   pub taken : TakesAll formula lemmas start steps

@@ -2,7 +2,7 @@
 ghost use Rattle.std.specs.Prelude.{◌≡◌, ◌≤◌, [], IfOk};
 ghost use Rattle.lls_lit.specs.Formula.{IsUnsatisfiable};
 ghost use Rattle.lls_prooflog.specs.Spent.{EachStep, log_start};
-ghost use Rattle.lls_lemmas.specs.Lemmas.{EndsEmpty, GoesOnWell, HasNoFault};
+ghost use Rattle.lls_lemmas.specs.Lemmas.{EndsEmpty, GoesOnWell, HasNoFault, KeepsLive};
 ghost use Rattle.lls_hinting.specs.Hinted.{IsHinted};
 ghost use Rattle.lls_hinting.specs.Judging.{IsProved, IsResting};
 ghost use Rattle.lls_hinting.specs.Moment.{files_at, shelf_at};
@@ -86,6 +86,7 @@ fn judged<S: Shelf>(
     requires vars { lemmas.old.vars ≡ vars }
     requires formula { lemmas.old.formula ≡ formula.now }
     requires well { GoesOnWell formula.now [] lemmas.old.steps }
+    requires keeps { KeepsLive formula.now [] lemmas.old.steps }
     requires rest { IsResting lemmas.old }
     ensures { Reads (IsProved formula.now vars (files_at (shelf_at S.Shelf shelf.old)) name.now form) result (shelf_at S.Shelf shelf.old) (shelf_at S.Shelf shelf.new) }
 {
