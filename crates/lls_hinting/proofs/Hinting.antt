@@ -1,6 +1,7 @@
 -- What a log with hints comes to.
 use Rattle.std.proofs.Common.{◌≡◌, ℕ, Bool, true, false, ◌||◌, cond, List, [], ◌∷◌, ◌++◌, Option, is_none, refl, sym, ap, subst, ◌∙◌}
-use Rattle.std.specs.Prelude.{◌⊎◌, ℤ}
+use Rattle.std.specs.Prelude.{◌⊎◌, ℤ, IfOk, Result, Ok, Err}
+use Rattle.lls_base.specs.declared.memory.Memory.{Memory}
 use Rattle.lls_lit.specs.Formula.{Cnf, IsUnsatisfiable}
 use Rattle.lls_prooflog.specs.declared.step.Step.{Step}
 use Rattle.lls_prooflog.specs.declared.step.Step.TheVariants.{Add}
@@ -11,6 +12,7 @@ use Rattle.lls_prooflog.specs.Steps.{after, are_accepted, is_empty_addition}
 use Rattle.lls_prooflog.specs.UnitWalk.{numbered}
 use Rattle.lls_lrat.proofs.Logs.{accepted_log, verdict_of_lines}
 use Rattle.lls_lemmas.specs.Lemmas.{EndsEmpty, HasNoFault}
+use Rattle.lls_hinting.specs.declared.outcome.Hints.{Hints}
 use Rattle.lls_hinting.specs.Hinted.{AreTrimmed, IsHinted, RestOnRat}
 
 accepted : (state : LogState) (before : List Step) (id : ℕ) (hints : List ℤ) → EachStep HasNoFault state (before ++ Add id [] hints ∷ []) → are_accepted state.live (before ++ Add id [] hints ∷ []) ≡ true
@@ -31,13 +33,14 @@ accepted_at_end formula steps good e =
     let Q : List Step → Type 0 = λ ss. are_accepted (numbered formula.clauses) ss ≡ true in
     subst Q (sym e.ends) (accepted (log_start formula) e.before e.id e.hints (subst P e.ends good))
 
--- steps that are accepted, as they are printed
-pub is_hinted : (formula : Cnf) (steps : List Step) (bytes : List ℕ) → bytes ≡ log_text steps → ReadsAs bytes steps → are_accepted (numbered formula.clauses) steps ≡ true
-    → IsUnsatisfiable formula → AreTrimmed formula steps ⊎ RestOnRat formula steps → IsHinted formula bytes
-is_hinted formula steps bytes text read is_accepted unsatisfiable trimmed = record {
+-- what is printed of steps that are accepted
+pub is_hinted : (formula : Cnf) (steps : List Step) (result : Result Hints Memory) → IfOk result (λ hints. hints.bytes.items ≡ log_text steps) → IfOk result (λ hints. ReadsAs hints.bytes.items steps)
+    → are_accepted (numbered formula.clauses) steps ≡ true → IsUnsatisfiable formula → AreTrimmed formula steps ⊎ RestOnRat formula steps → IfOk result (λ hints. IsHinted formula hints.bytes.items)
+is_hinted formula steps (Ok hints) text read is_accepted unsatisfiable trimmed = record {
   steps = steps;
   text = text;
-  accepted = verdict_of_lines formula steps bytes read ∙ accepted_log formula steps is_accepted;
+  accepted = verdict_of_lines formula steps hints.bytes.items read ∙ accepted_log formula steps is_accepted;
   trimmed = trimmed;
   unsatisfiable = unsatisfiable;
 }
+is_hinted formula steps (Err lack) text read is_accepted unsatisfiable trimmed = tt

@@ -1,7 +1,8 @@
 // What the proof of a formula comes to: a proof with hints, or why there is none.
 ghost use Rattle.std.specs.Prelude.{◌≡◌, ◌≤◌, [], IfOk};
 ghost use Rattle.lls_lit.specs.Formula.{IsUnsatisfiable};
-ghost use Rattle.lls_prooflog.specs.Spent.{EachStep, log_start};
+ghost use Rattle.lls_prooflog.specs.Log.{ReadsAs, log_text};
+ghost use Rattle.lls_prooflog.specs.Spent.{EachStep, IsGood, log_start};
 ghost use Rattle.lls_lemmas.specs.Lemmas.{EndsEmpty, GoesOnWell, HasNoFault, KeepsLive};
 ghost use Rattle.lls_hinting.specs.Hinted.{IsHinted};
 ghost use Rattle.lls_hinting.specs.Judging.{IsProved, IsResting};
@@ -21,8 +22,9 @@ use lls_cnf::Formula;
 use lls_drat::Form;
 use lls_lemmas::Lemmas;
 use lls_lit::Var;
+use lls_lrat::CheckError;
 use lls_prooflog::{Log, print_log};
-use lls_trim::{TrimError, trim};
+use lls_trim::{Recorded, TrimError, trim};
 use lls_watch::WatchStore;
 use std::alloc::Global;
 
@@ -69,8 +71,8 @@ fn prove<S: Shelf>(
 {
     let vars = greater(formula.vars(), greatest);
     let store = WatchStore::new(alloc, vars)?;
-    let mut lemmas = Lemmas::new(alloc, store, formula, vars)?;
-    judged(alloc, shelf, name, form, vars, formula, &mut lemmas)
+    let lemmas = Lemmas::new(alloc, store, formula, vars)?;
+    judged(alloc, shelf, name, form, vars, formula, lemmas)
 }
 
 // The same, with an engine that has the formula's clauses.
@@ -81,25 +83,45 @@ fn judged<S: Shelf>(
     form: Form,
     vars: u32,
     formula: &Formula,
-    lemmas: &mut Lemmas<WatchStore>,
+    mut lemmas: Lemmas<WatchStore>,
 ) -> Result<Outcome, Fault>
-    requires vars { lemmas.old.vars ≡ vars }
-    requires formula { lemmas.old.formula ≡ formula.now }
-    requires well { GoesOnWell formula.now [] lemmas.old.steps }
-    requires keeps { KeepsLive formula.now [] lemmas.old.steps }
-    requires rest { IsResting lemmas.old }
+    requires vars { lemmas.vars ≡ vars }
+    requires formula { lemmas.formula ≡ formula.now }
+    requires well { GoesOnWell formula.now [] lemmas.steps }
+    requires keeps { KeepsLive formula.now [] lemmas.steps }
+    requires rest { IsResting lemmas }
     ensures { Reads (IsProved formula.now vars (files_at (shelf_at S.Shelf shelf.old)) name.now form) result (shelf_at S.Shelf shelf.old) (shelf_at S.Shelf shelf.new) }
 {
     let mut tally = Tally::new();
-    let stand = judge_file(alloc, shelf, name, form, vars, lemmas, &mut tally)?;
+    let stand = judge_file(alloc, shelf, name, form, vars, &mut lemmas, &mut tally)?;
     if let Stand::NotImplied(number) = stand {
         return Ok(Outcome::Refused(not_implied_text(alloc, number)?));
     }
     if !lemmas.is_refuted() {
         return Ok(Outcome::Refused(no_empty_text(alloc)?));
     }
-    let hints = hints_of(alloc, formula, lemmas.log(), tally)?;
+    let hints = hinted(alloc, formula, lemmas, tally)?;
     Ok(Outcome::Hinted(hints))
+}
+
+// What lemmas that end with the empty clause come to. Their clauses are let go before their log is trimmed.
+fn hinted(
+    alloc: Global,
+    formula: &Formula,
+    lemmas: Lemmas<WatchStore>,
+    tally: Tally,
+) -> Result<Hints, Memory>
+    requires formula { lemmas.formula ≡ formula.now }
+    requires ends { EndsEmpty lemmas.steps }
+    requires unsatisfiable { IsUnsatisfiable formula.now }
+    ensures { IfOk result (λ hints. IsHinted formula.now hints.bytes.items) }
+{
+    let has_redundant = lemmas.has_redundant();
+    let log = lemmas.into_log();
+    if has_redundant {
+        return hints_of(alloc, formula, &log, tally);
+    }
+    trimmed(alloc, formula, log, tally)
 }
 
 // The greater of two numbers of variables.
@@ -129,6 +151,28 @@ fn no_empty_text(alloc: Global) -> Result<Vec<u8>, Memory>
     Ok(text.into_bytes())
 }
 
+// What the empty clause of a log rests on, whose additions are all by unit propagation, and what is said of it. The log is let go before what is
+// left of it is written down.
+fn trimmed(alloc: Global, formula: &Formula, log: Log, tally: Tally) -> Result<Hints, Memory>
+    requires well { EachStep HasNoFault (log_start formula.now) log.steps }
+    requires good { EachStep IsGood (log_start formula.now) log.steps }
+    requires ends { EndsEmpty log.steps }
+    requires unsatisfiable { IsUnsatisfiable formula.now }
+    ensures { IfOk result (λ hints. IsHinted formula.now hints.bytes.items) }
+{
+    let recorded = match Recorded::of_log(alloc, formula, &log) {
+        Ok(recorded) => recorded,
+        Err(CheckError::Memory) => return Err(Memory),
+        Err(_) => unreachable!(),
+    };
+    drop(log);
+    match recorded.trim(alloc) {
+        Ok(trimming) => printed(alloc, &trimming.log, trimming.additions as u64, tally),
+        Err(TrimError::Memory) => Err(Memory),
+        Err(_) => unreachable!(),
+    }
+}
+
 // What the empty clause of a log rests on, and what is said of it. Where that has a step by its first literal, nothing is left out.
 fn hints_of(alloc: Global, formula: &Formula, log: &Log, tally: Tally) -> Result<Hints, Memory>
     requires well { EachStep HasNoFault (log_start formula.now) log.now.steps }
@@ -137,30 +181,26 @@ fn hints_of(alloc: Global, formula: &Formula, log: &Log, tally: Tally) -> Result
     ensures { IfOk result (λ hints. IsHinted formula.now hints.bytes.items) }
 {
     match trim(alloc, formula, log) {
-        Ok(trimming) => Ok(Hints {
-            text: kept_text(
-                alloc,
-                trimming.log.len() as u64,
-                trimming.additions as u64,
-                tally,
-            )?,
-            bytes: print_log(alloc, &trimming.log)?,
-        }),
+        Ok(trimming) => printed(alloc, &trimming.log, trimming.additions as u64, tally),
         Err(TrimError::Memory) => Err(Memory),
         Err(TrimError::Refused(_)) => unreachable!(),
-        Err(TrimError::RatStep(_)) => Ok(Hints {
-            text: kept_text(alloc, log.additions(), log.additions(), tally)?,
-            bytes: print_log(alloc, log)?,
-        }),
+        Err(TrimError::RatStep(_)) => printed(alloc, log, log.additions(), tally),
     }
 }
 
-// What is said of a proof with hints.
-fn kept_text(alloc: Global, kept: u64, given: u64, tally: Tally) -> Result<Vec<u8>, Memory> {
+// The text of a log, and what is said of it where so many additions were given.
+fn printed(alloc: Global, log: &Log, given: u64, tally: Tally) -> Result<Hints, Memory>
+    ensures text { IfOk result (λ hints. hints.bytes.items ≡ log_text log.now.steps) }
+    ensures read_again { IfOk result (λ hints. ReadsAs hints.bytes.items log.now.steps) }
+{
+    let kept = log.additions();
     let reasons = tally.reasons;
     let unknown = tally.unknown;
     let text = format!(in alloc;
         "kept {kept} of {given}\npassed over {reasons} deletions of reasons and {unknown} of unknown clauses\n"
     )?;
-    Ok(text.into_bytes())
+    Ok(Hints {
+        bytes: print_log(alloc, log)?,
+        text: text.into_bytes(),
+    })
 }

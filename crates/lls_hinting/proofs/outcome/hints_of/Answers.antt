@@ -7,17 +7,16 @@ unreachable-requires c =
     let accepted = accepted_at_end c.args.formula.now c.args.log.now.steps c.requires.well c.requires.ends in
     c.trim.ensures.not_refused accepted c.in-Err-Refused.field-0-0 (c.in-Err-Refused.is ∙ ap Err c.in-Err-Refused.field-0-is)
 
-pub returns-in_ok-print_log-in-Ok : goal.returns-in_ok-print_log-in-Ok
-returns-in_ok-print_log-in-Ok c =
+pub returns-in-Ok : goal.returns-in-Ok
+returns-in-Ok c =
     let trimmed = c.in-Ok.ensures in
-    let printed = c.in_ok-print_log-in-Ok.ensures in
-    is_hinted c.args.formula.now c.in-Ok.trimming.log.steps c.in_ok-print_log-in-Ok.field-0.items printed.text printed.read_again trimmed.accepted_again c.requires.unsatisfiable
+    is_hinted c.args.formula.now c.in-Ok.trimming.log.steps c.printed.result c.printed.ensures.text c.printed.ensures.read_again trimmed.accepted_again c.requires.unsatisfiable
     (inl (record { additions = trimmed.additions; again = trimmed.again }))
 
-pub returns-in_ok-print_log-in-Err-RatStep : goal.returns-in_ok-print_log-in-Err-RatStep
-returns-in_ok-print_log-in-Err-RatStep c =
+pub returns-in-Err-RatStep : goal.returns-in-Err-RatStep
+returns-in-Err-RatStep c =
     let line = c.in-Err-RatStep.field-0-0 in
     let is = c.in-Err-RatStep.is ∙ ap Err c.in-Err-RatStep.field-0-is in
-    let printed = c.in_ok-print_log-in-Err-RatStep.ensures in
-    is_hinted c.args.formula.now c.args.log.now.steps c.in_ok-print_log-in-Err-RatStep.field-0.items printed.text printed.read_again (c.trim.ensures.rat_accepted line is) c.requires.unsatisfiable
+    let printed = c.printed-in-Err-RatStep in
+    is_hinted c.args.formula.now c.args.log.now.steps printed.result printed.ensures.text printed.ensures.read_again (c.trim.ensures.rat_accepted line is) c.requires.unsatisfiable
     (inr (line, c.trim.ensures.rat line is))
