@@ -440,7 +440,7 @@ class Pattern(unittest.TestCase):
 class Slips(unittest.TestCase):
     """Whatever words and files a script gets, it says a sentence and ends with a status that isn't 0: no traceback."""
 
-    SCRIPTS = "costs decided formula hints made pattern place pose problems refute show solutions"
+    SCRIPTS = "costs decided formula lemmas made pattern place pose problems refute show solutions"
 
     def test_words_and_files(self):
         binary = scratch(self, "binary", "")
