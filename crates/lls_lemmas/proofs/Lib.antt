@@ -13,6 +13,7 @@ pub mod Loaded
 pub mod Kept
 pub mod Without
 pub mod Found
+pub mod Forced
 pub mod Groups
 pub mod Opposed
 pub mod Resolvents

@@ -50,7 +50,7 @@ pub same_number : (live : List LiveClause) (number : ℕ) (clause c : LiveClause
 same_number live number clause c rising found inside same =
     same_Some c clause (sym (clause_numbered-contained live c rising inside) ∙ ap (clause_numbered live) same ∙ found)
 
-same_id : (live : List LiveClause) (a b : LiveClause) → AllPairs (λ (x y : LiveClause). x.id ≢ y.id) live → Contains live a → Contains live b → a.id ≡ b.id → a ≡ b
+pub same_id : (live : List LiveClause) (a b : LiveClause) → AllPairs (λ (x y : LiveClause). x.id ≢ y.id) live → Contains live a → Contains live b → a.id ≡ b.id → a ≡ b
 same_id [] a b apart inside inside' same = absurd (nothing_there a inside)
 same_id (c ∷ cs) a b apart inside inside' same = by (first_or_later c cs a inside) (first_or_later c cs b inside') (λ t t'. same_id cs a b (λ i j d lt within. apart (suc i) (suc j) d (omega (arith, lt)) (omega (arith, within))) t t' same) where
   differs : (x : LiveClause) → Contains cs x → c.id ≡ x.id → ⊥

@@ -1,7 +1,7 @@
 -- For private contracts: a live clause that is found by its literals, and whether it may go.
-use Rattle.std.specs.Prelude.{◌≡◌, ◌≢◌, ℕ, ℤ, List, Option, Some, slice_index_or, None}
+use Rattle.std.specs.Prelude.{◌≡◌, ◌≢◌, ◌⊎◌, ℕ, ◌-◌, ℤ, List, Option, Some, slice_index_or, None}
 use Rattle.std.specs.FinSet as set
-use Rattle.lls_store.specs.Trail.{Entry}
+use Rattle.lls_store.specs.Trail.{Entry, reason_of}
 use Rattle.lls_store.specs.Clauses.{LiveClause, clause_numbered}
 use Rattle.lls_store.specs.Removal.{IsNoReason}
 
@@ -10,6 +10,13 @@ pub record HasLiterals (live : List LiveClause) (number : ℕ) (lits : List ℤ)
   pub clause : LiveClause
   pub is_live : clause_numbered live number ≡ Some clause
   pub same : set.from_list lits ≡ clause.lits
+
+-- it forced the value of a variable, or stands for it at level 0
+pub record IsNeeded (live : List LiveClause) (entries : List Entry) (units : List (Option ℕ)) (number : ℕ) : Type 0 where
+  pub variable : ℕ
+  pub clause : LiveClause
+  pub is_live : clause_numbered live number ≡ Some clause
+  pub why : (reason_of entries variable ≡ Some number) ⊎ (slice_index_or units (variable - 1) None ≡ Some clause.id)
 
 -- it forced no literal, and stands for no value of level 0
 pub record IsFree (live : List LiveClause) (entries : List Entry) (units : List (Option ℕ)) (number : ℕ) : Type 0 where

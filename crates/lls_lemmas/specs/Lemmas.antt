@@ -1,5 +1,5 @@
 -- What an engine of lemmas is seen as, and what a lemma or a deletion makes of it.
-use Rattle.std.specs.Prelude.{◌≡◌, ℕ, ℤ, Bool, true, List, [], ◌∷◌, ◌++◌, Some, None, fold, slice_get}
+use Rattle.std.specs.Prelude.{◌≡◌, ℕ, ℤ, Bool, true, List, [], ◌∷◌, ◌++◌, Contains, Some, None, fold, slice_get}
 use Rattle.std.specs.List.{list_any}
 use Rattle.std.specs.FinSet as set
 use Rattle.std.specs.Ordering.{int_cmp}
@@ -79,6 +79,12 @@ pub record HasClause (formula : Cnf) (steps : List Step) (lits : Clause) : Type 
   pub clause : Clause
   pub found : find_clause (live_after formula steps) id ≡ Some clause
   pub same_literals : set.from_list {R = int_cmp} clause ≡ set.from_list lits
+
+-- some literal of the clause holds for good: a clause of it alone is live behind the steps
+pub record HoldsForGood (formula : Cnf) (steps : List Step) (lits : Clause) : Type 0 where
+  pub lit : ℤ
+  pub inside : Contains lits lit
+  pub unit : HasClause formula steps (lit ∷ [])
 
 -- one step more, the deletion of a live clause of just these literals
 pub record DeletesOne (formula : Cnf) (old new : List Step) (lits : Clause) : Type 0 where

@@ -1,12 +1,12 @@
 // A clause that is taken out.
-ghost use Rattle.std.specs.Prelude.{◌≡◌, ◌≢◌, true, false, length, Some, IsSome, OnErr, OnOk};
+ghost use Rattle.std.specs.Prelude.{◌≡◌, ◌≢◌, ◌⊎◌, true, false, length, Some, IsSome, OnErr, OnOk};
 ghost use Rattle.lls_lit.specs.Literal.{variable_of};
 ghost use Rattle.lls_lit.specs.Formula.{is_literal_of};
 ghost use Rattle.lls_store.specs.Trail.{IsTrail, reason_of};
 ghost use Rattle.lls_store.specs.Clauses.{clause_numbered};
 ghost use Rattle.lls_store.specs.Sound.{IsSound};
 ghost use Rattle.lls_store.specs.Store.{AreLive};
-ghost use Rattle.lls_lemmas.specs.Finding.{HasLiterals, IsFree};
+ghost use Rattle.lls_lemmas.specs.Finding.{HasLiterals, IsFree, IsNeeded};
 ghost use Rattle.lls_lemmas.specs.Lemmas.{DeletesOne};
 ghost use Rattle.lls_lemmas.specs.Units.{AreUnits, HasSettled, IsAtRest, unit_of};
 
@@ -22,6 +22,7 @@ fn is_for(trail: &Trail, units: &[Option<u64>], lit: Lit, number: u32, id: u64) 
     requires unit_each { length units.now ≡ trail.now.vars }
     ensures no_reason { result ≡ false → reason_of trail.now.entries (variable_of lit) ≢ Some number }
     ensures no_unit { result ≡ false → unit_of units.now lit ≢ Some id }
+    ensures either { result ≡ true → (reason_of trail.now.entries (variable_of lit) ≡ Some number) ⊎ (unit_of units.now lit ≡ Some id) }
 {
     if trail.reason(lit.var()) == Some(number) {
         return true;
@@ -43,7 +44,8 @@ pub(crate) fn is_needed<S: Store>(
     requires unit_each { length units.now ≡ trail.now.vars }
     requires are_units { AreUnits (S.state store.now).live trail.now.entries units.now }
     requires is_live { IsSome (clause_numbered (S.state store.now).live number) }
-    ensures { result ≡ false → IsFree (S.state store.now).live trail.now.entries units.now number }
+    ensures free { result ≡ false → IsFree (S.state store.now).live trail.now.entries units.now number }
+    ensures needed { result ≡ true → IsNeeded (S.state store.now).live trail.now.entries units.now number }
 {
     let id = store.id(number);
     let lits = store.lits(number);

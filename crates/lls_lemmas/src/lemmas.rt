@@ -4,7 +4,7 @@ ghost use Rattle.lls_lit.specs.Formula.{is_within, IsUnsatisfiable};
 ghost use Rattle.lls_prooflog.specs.Spent.{EachStep, IsGood, log_start};
 ghost use Rattle.lls_store.specs.Changes.{empty_trail};
 ghost use Rattle.lls_store.specs.Store.{empty_store};
-ghost use Rattle.lls_lemmas.specs.Lemmas.{is_tautology, DeletesOne, EndsEmpty, GoesOnWell, HasClause, HasNoFault, IsLive, IsNotAddable, IsNotImplied, KeepsLive, MeetsTautology};
+ghost use Rattle.lls_lemmas.specs.Lemmas.{is_tautology, DeletesOne, EndsEmpty, GoesOnWell, HasClause, HasNoFault, HoldsForGood, IsLive, IsNotAddable, IsNotImplied, KeepsLive, MeetsTautology};
 
 use crate::answers::{Added, Deleted};
 use crate::deleting::{delete_clause, is_needed};
@@ -180,6 +180,7 @@ impl<'f, S: Store> Lemmas<'f, S> {
         ensures gone { result ≡ Ok Deleted.Gone → DeletesOne self.old.formula self.old.steps self.new.steps lits.now }
         ensures stays { result ≢ Ok Deleted.Gone → self.new.steps ≡ self.old.steps }
         ensures reason { result ≡ Ok Deleted.Reason → HasClause self.old.formula self.old.steps lits.now }
+        ensures for_good { result ≡ Ok Deleted.Reason → self.old.settled ≡ true → HoldsForGood self.old.formula self.old.steps lits.now }
         ensures unknown { result ≡ Ok Deleted.Unknown → HasClause self.old.formula self.old.steps lits.now → ⊥ }
         ensures ended { result ≡ Ok Deleted.Refuted → self.old.refuted ≡ true }
         ensures redundant { self.new.has_redundant ≡ self.old.has_redundant }

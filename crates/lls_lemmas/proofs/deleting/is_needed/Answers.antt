@@ -35,8 +35,21 @@ loop-lit-preserved g c = λ m inside. elim (Contains-take_more c.lits-lits.resul
       subst P same (c.is_for.ensures.no_reason c.if-is_for.false, c.is_for.ensures.no_unit c.if-is_for.false))
 ]
 
-pub returns : goal.returns
-returns g c = λ _.
+pub returns-then-is_for-clause-needed : goal.returns-then-is_for-clause-needed
+returns-then-is_for-clause-needed g c = λ _.
+    let s = g.S.Store.state c.args.store.now in
+    let is = told s c.args.number c.lits-lits.result.now c.requires.live c.requires.is_live c.lits-lits.ensures in
+    let P : Option LiveClause → Type 0 = λ x. IfSome x (λ (d : LiveClause). c.id-id.result ≡ d.id) in
+    let same : c.id-id.result ≡ is.clause.id = subst P is.is_live c.id-id.ensures in
+    record {
+      variable = variable_of c.lit-item.result;
+      clause = is.clause;
+      is_live = is.is_live;
+      why = elim (c.is_for.ensures.either c.if-is_for.true) [ inl reason ↦ inl reason | inr unit ↦ inr (unit ∙ ap (λ n. Some n) same) ];
+    }
+
+pub returns-clause-free : goal.returns-clause-free
+returns-clause-free g c = λ _.
     let s = g.S.Store.state c.args.store.now in
     let t = c.args.trail.now in
     let lits = c.lits-lits.result.now in

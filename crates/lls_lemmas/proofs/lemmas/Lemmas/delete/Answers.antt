@@ -1,11 +1,13 @@
-use Rattle.std.proofs.Common.{ℕ, List, [], ◌∷◌, Option, refl, sym, ◌∙◌, subst}
+use Rattle.std.proofs.Common.{ℕ, List, [], ◌∷◌, Option, refl, sym, ap, ◌∙◌, subst}
 use Rattle.std.specs.Prelude.{ℤ, fold}
 use Rattle.lls_lit.specs.Formula.{Cnf}
 use Rattle.lls_prooflog.specs.Spent.{EachStep, IsGood, LogState, log_after, log_start}
 use Rattle.lls_prooflog.specs.declared.step.Step.{Step}
 use Rattle.lls_prooflog.specs.declared.step.Step.TheVariants.{Del}
-use Rattle.lls_lemmas.specs.Lemmas.{DeletesOne, GoesOnBy, HasClause, HasNoFault, LemmasState}
+use Rattle.lls_lemmas.specs.Lemmas.{DeletesOne, GoesOnBy, HasClause, HasNoFault, HoldsForGood, LemmasState}
+use Rattle.lls_lemmas.specs.Finding.{IsNeeded}
 use Rattle.lls_lemmas.specs.Units.{IsAtRest}
+use Rattle.lls_lemmas.proofs.Forced.{holds_for_good}
 use Rattle.lls_lemmas.proofs.Found.{in_log, in_store}
 use Rattle.lls_lemmas.proofs.Loaded.{engine_going}
 use Rattle.lls_lemmas.proofs.Logs.{each-then, well-one}
@@ -52,3 +54,14 @@ returns-then-is_needed-clause-reason g c = λ _.
     let rest = c.self.invariant.1.rest c.if-self.false in
     subst (λ (x : LemmasState). HasClause x.formula x.steps c.args.lits.now) c.self.view_is
     (in_log inside.formula.now inside.log.steps (g.S.Store.state inside.store) inside.last c.args.lits.now rest.holds c.count-count.ensures.live c.in-Some.number c.in-Some.ensures.has)
+
+pub returns-then-is_needed-clause-for_good : goal.returns-then-is_needed-clause-for_good
+returns-then-is_needed-clause-for_good g c = λ _ settled.
+    let inside = c.self.inside in
+    let i = c.self.invariant.1 in
+    let store = g.S.Store.state inside.store in
+    let P : List (Option ℕ) → Type 0 = λ ids. IsNeeded store.live inside.trail.entries ids c.in-Some.number in
+    let needed = subst P c.as_slice-units.ensures.value (c.is_needed.ensures.needed c.if-is_needed.true) in
+    let all_done = i.open_ c.if-self.false (ap (λ (x : LemmasState). x.settled) c.self.view_is ∙ settled) in
+    subst (λ (x : LemmasState). HoldsForGood x.formula x.steps c.args.lits.now) c.self.view_is
+    (holds_for_good inside.formula.now inside.log.steps store inside.trail inside.units.ids.items inside.units.done inside.last (i.rest c.if-self.false) c.count-count.ensures.live c.in-Some.number c.args.lits.now c.in-Some.ensures.has all_done needed)
