@@ -13,7 +13,7 @@ use Rattle.lls_prooflog.specs.UnitWalk.{numbered}
 use Rattle.lls_lrat.proofs.Logs.{accepted_log, verdict_of_lines}
 use Rattle.lls_lemmas.specs.Lemmas.{EndsEmpty, HasNoFault}
 use Rattle.lls_hinting.specs.declared.outcome.Hints.{Hints}
-use Rattle.lls_hinting.specs.Hinted.{AreTrimmed, IsHinted, RestOnRat}
+use Rattle.lls_hinting.specs.Hinted.{AreTrimmed, IsHinted, IsHintsText, RestOnRat}
 
 accepted : (state : LogState) (before : List Step) (id : ℕ) (hints : List ℤ) → EachStep HasNoFault state (before ++ Add id [] hints ∷ []) → are_accepted state.live (before ++ Add id [] hints ∷ []) ≡ true
 accepted state [] id hints good = ap (λ (o : Option StepFault). cond (is_none o) true false) good.0
@@ -35,12 +35,14 @@ accepted_at_end formula steps good e =
 
 -- what is printed of steps that are accepted
 pub is_hinted : (formula : Cnf) (steps : List Step) (result : Result Hints Memory) → IfOk result (λ hints. hints.bytes.items ≡ log_text steps) → IfOk result (λ hints. ReadsAs hints.bytes.items steps)
-    → are_accepted (numbered formula.clauses) steps ≡ true → IsUnsatisfiable formula → AreTrimmed formula steps ⊎ RestOnRat formula steps → IfOk result (λ hints. IsHinted formula hints.bytes.items)
-is_hinted formula steps (Ok hints) text read is_accepted unsatisfiable trimmed = record {
+    → are_accepted (numbered formula.clauses) steps ≡ true → IsUnsatisfiable formula → AreTrimmed formula steps ⊎ RestOnRat formula steps → IfOk result (λ hints. IsHintsText steps hints.text.items)
+    → IfOk result (λ hints. IsHinted formula hints.bytes.items hints.text.items)
+is_hinted formula steps (Ok hints) text read is_accepted unsatisfiable trimmed said = record {
   steps = steps;
   text = text;
   accepted = verdict_of_lines formula steps hints.bytes.items read ∙ accepted_log formula steps is_accepted;
   trimmed = trimmed;
   unsatisfiable = unsatisfiable;
+  said = said;
 }
-is_hinted formula steps (Err lack) text read is_accepted unsatisfiable trimmed = tt
+is_hinted formula steps (Err lack) text read is_accepted unsatisfiable trimmed said = tt

@@ -12,7 +12,7 @@ use Rattle.lls_drat.specs.declared.form.Form.{Form}
 use Rattle.lls_drat.specs.Lemma.{NumberedLemma}
 use Rattle.lls_drat.specs.Proof.{Proof, no_more}
 use Rattle.lls_drat.specs.Reading.{begun, to_come}
-use Rattle.lls_lemmas.specs.Lemmas.{IsNotImplied, LemmasState}
+use Rattle.lls_lemmas.specs.Lemmas.{AddsUnits, IsNotImplied, LemmasState}
 use Rattle.lls_hinting.specs.declared.fault.Fault.{Fault}
 use Rattle.lls_hinting.specs.declared.fault.Fault.TheVariants as faults
 use Rattle.lls_hinting.specs.declared.fault.OutsideFault.TheVariants as outside
@@ -124,9 +124,9 @@ file_judged formula vars (Some files) name form old new place after (Err fault) 
     no_stop formula vars form bytes old new place after fault (fresh form bytes place reading taken (opened.2 ∙ sym opened.1 ∙ found)) surveyed says
 
 -- a refusal of a surveyed proof
-pub stand_refused : (formula : Cnf) (lemmas : List NumberedLemma) (old new : List Step) (number : ℕ) (text : List ℕ) → Grows formula [] old → StandSays formula lemmas old new (NotImplied number)
+pub stand_refused : (formula : Cnf) (lemmas : List NumberedLemma) (old new : List Step) (number : ℕ) (text : List ℕ) → Grows formula [] old → AddsUnits formula [] old → StandSays formula lemmas old new (NotImplied number)
     → text ≡ not_implied_text number → IsRefusal (record { formula = formula; lemmas = lemmas }) text
-stand_refused formula lemmas old new number text grown says is = inl (
+stand_refused formula lemmas old new number text grown units says is = inl (
   number,
   record {
     before = says.0;
@@ -134,30 +134,30 @@ stand_refused formula lemmas old new number text grown says is = inl (
     behind = says.2;
     lemmas_are = says.3;
     steps = new;
-    is_behind = record { start = old; grown = grown; taken = says.4 };
+    is_behind = record { start = old; grown = grown; units = units; taken = says.4 };
     not_implied = says.5;
     not_addable = says.6;
   },
   is,
 )
 
-pub stand_open : (formula : Cnf) (lemmas : List NumberedLemma) (old new : List Step) (text : List ℕ) → Grows formula [] old → StandSays formula lemmas old new Going
+pub stand_open : (formula : Cnf) (lemmas : List NumberedLemma) (old new : List Step) (text : List ℕ) → Grows formula [] old → AddsUnits formula [] old → StandSays formula lemmas old new Going
     → IsNotImplied formula new [] → text ≡ no_empty_text → IsRefusal (record { formula = formula; lemmas = lemmas }) text
-stand_open formula lemmas old new text grown says open_ is =
-    inr (record { steps = new; is_behind = record { start = old; grown = grown; taken = says }; not_implied = open_ }, is)
+stand_open formula lemmas old new text grown units says open_ is =
+    inr (record { steps = new; is_behind = record { start = old; grown = grown; units = units; taken = says }; not_implied = open_ }, is)
 
 -- what was judged is proved, or refused
-pub proved_refused : (formula : Cnf) (vars : ℕ) (files : Option Files) (name : List ℕ) (form : Form) (old new : List Step) (number : ℕ) (text : Vec ℕ Global) → Grows formula [] old
+pub proved_refused : (formula : Cnf) (vars : ℕ) (files : Option Files) (name : List ℕ) (form : Form) (old new : List Step) (number : ℕ) (text : Vec ℕ Global) → Grows formula [] old → AddsUnits formula [] old
     → text.items ≡ not_implied_text number → IsJudged formula vars files name form old new (Ok (NotImplied number)) → IsProved formula vars files name form (Ok (Refusal text))
-proved_refused formula vars None name form old new number text grown is judged = tt
-proved_refused formula vars (Some files) name form old new number text grown is judged = λ bytes found surveyed.
-    stand_refused formula surveyed.lemmas old new number text.items grown (judged bytes found surveyed) is
+proved_refused formula vars None name form old new number text grown units is judged = tt
+proved_refused formula vars (Some files) name form old new number text grown units is judged = λ bytes found surveyed.
+    stand_refused formula surveyed.lemmas old new number text.items grown units (judged bytes found surveyed) is
 
-pub proved_open : (formula : Cnf) (vars : ℕ) (files : Option Files) (name : List ℕ) (form : Form) (old new : List Step) (text : Vec ℕ Global) → Grows formula [] old
+pub proved_open : (formula : Cnf) (vars : ℕ) (files : Option Files) (name : List ℕ) (form : Form) (old new : List Step) (text : Vec ℕ Global) → Grows formula [] old → AddsUnits formula [] old
     → IsNotImplied formula new [] → text.items ≡ no_empty_text → IsJudged formula vars files name form old new (Ok Going) → IsProved formula vars files name form (Ok (Refusal text))
-proved_open formula vars None name form old new text grown open_ is judged = tt
-proved_open formula vars (Some files) name form old new text grown open_ is judged = λ bytes found surveyed.
-    stand_open formula surveyed.lemmas old new text.items grown (judged bytes found surveyed) open_ is
+proved_open formula vars None name form old new text grown units open_ is judged = tt
+proved_open formula vars (Some files) name form old new text grown units open_ is judged = λ bytes found surveyed.
+    stand_open formula surveyed.lemmas old new text.items grown units (judged bytes found surveyed) open_ is
 
 within_vars : (few vars : ℕ) (lemmas : List NumberedLemma) → few ≤ vars → are_within few lemmas ≡ true → are_within vars lemmas ≡ true
 within_vars few vars [] le all = refl

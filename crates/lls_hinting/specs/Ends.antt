@@ -42,19 +42,22 @@ IsSilent status = ⊥
 abbrev pub KeepsBut : List ℕ → Option Files → Option Files → Type 0
 KeepsBut name before after = (after ≡ before) ⊎ ((bytes : List ℕ) × (after ≡ option_map (λ files. map.insert files name bytes) before))
 
--- what was asked was done: the formula that is asked about has a proof with hints, which stands in the third file. No other file has changed
-pub record HasHints (request : Request) (before after : Files) : Type 0 where
+-- what was asked was done: the formula that is asked about has a proof with hints, which stands in the third file, and the standard output says how many
+-- additions it has. No other file has changed
+pub record HasHints (out_before out_after : SinkMoment) (request : Request) (before after : Files) : Type 0 where
   pub asked : Asked
   pub asked_is : asked_in request before ≡ Ok asked
   pub bytes : List ℕ
-  pub hinted : IsHinted asked.formula bytes
+  pub text : List ℕ
+  pub hinted : IsHinted asked.formula bytes text
   pub files : after ≡ map.insert before request.output bytes
+  pub said : out_after.written ≡ append_known out_before.written text
 
 -- so it was, by what the words ask and what the shelf tells
-abbrev pub LeavesHints : Result Request WordsError → Option Files → Option Files → Type 0
-LeavesHints (Err error) before after = ⊥
-LeavesHints (Ok request) None after = Unit {0}
-LeavesHints (Ok request) (Some before) after = (files : Files) × (after ≡ Some files) × HasHints request before files
+abbrev pub LeavesHints : SinkMoment → SinkMoment → Result Request WordsError → Option Files → Option Files → Type 0
+LeavesHints out_before out_after (Err error) before after = ⊥
+LeavesHints out_before out_after (Ok request) None after = Unit {0}
+LeavesHints out_before out_after (Ok request) (Some before) after = (files : Files) × (after ≡ Some files) × HasHints out_before out_after request before files
 
 -- the words ask for a file, and only that one may have other bytes
 abbrev pub KeepsOthers : Result Request WordsError → Option Files → Option Files → Type 0

@@ -1,6 +1,7 @@
 // The delivery of what a proof comes to, and of faults: the file first, then the text; or a line on the standard error.
 ghost use Rattle.std.specs.Prelude.{◌≡◌, ◌⊎◌};
 ghost use Rattle.std.specs.FinMap as map;
+ghost use Rattle.std.specs.Io.KnownBytes.{append_known};
 ghost use Rattle.std.specs.Option.{option_map};
 ghost use Rattle.lls_base.specs.Faults.{Rose};
 ghost use Rattle.lls_base.specs.Shelf.{known_files};
@@ -86,6 +87,7 @@ pub fn give_hints<S: Shelf, O: Sink, E: Sink>(
     ensures status { (result ≡ Status.Done) ⊎ (result ≡ Status.Outside) }
     ensures done { result ≡ Status.Done →
         known_files (S.told shelf.new) ≡ option_map (λ files. map.insert files output.now hints.now.bytes.items) (known_files (S.told shelf.old)) }
+    ensures said { result ≡ Status.Done → O.written out.new ≡ append_known (O.written out.old) hints.now.text.items }
     ensures others { KeepsBut output.now (known_files (S.told shelf.old)) (known_files (S.told shelf.new)) }
     ensures failed { result ≡ Status.Outside → Rose (S.faults shelf.old) (S.faults shelf.new) ⊎ Rose (O.faults out.old) (O.faults out.new) }
 {

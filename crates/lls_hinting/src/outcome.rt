@@ -3,8 +3,8 @@ ghost use Rattle.std.specs.Prelude.{◌≡◌, ◌≤◌, [], IfOk};
 ghost use Rattle.lls_lit.specs.Formula.{IsUnsatisfiable};
 ghost use Rattle.lls_prooflog.specs.Log.{ReadsAs, log_text};
 ghost use Rattle.lls_prooflog.specs.Spent.{EachStep, IsGood, log_start};
-ghost use Rattle.lls_lemmas.specs.Lemmas.{EndsEmpty, GoesOnWell, HasNoFault, KeepsLive};
-ghost use Rattle.lls_hinting.specs.Hinted.{IsHinted};
+ghost use Rattle.lls_lemmas.specs.Lemmas.{AddsUnits, EndsEmpty, GoesOnWell, HasNoFault, KeepsLive};
+ghost use Rattle.lls_hinting.specs.Hinted.{IsHinted, IsHintsText};
 ghost use Rattle.lls_hinting.specs.Judging.{IsProved, IsResting};
 ghost use Rattle.lls_hinting.specs.Moment.{files_at, shelf_at};
 ghost use Rattle.lls_hinting.specs.Outcome.{RequestComesTo};
@@ -89,6 +89,7 @@ fn judged<S: Shelf>(
     requires formula { lemmas.formula ≡ formula.now }
     requires well { GoesOnWell formula.now [] lemmas.steps }
     requires keeps { KeepsLive formula.now [] lemmas.steps }
+    requires units { AddsUnits formula.now [] lemmas.steps }
     requires rest { IsResting lemmas }
     ensures { Reads (IsProved formula.now vars (files_at (shelf_at S.Shelf shelf.old)) name.now form) result (shelf_at S.Shelf shelf.old) (shelf_at S.Shelf shelf.new) }
 {
@@ -114,7 +115,7 @@ fn hinted(
     requires formula { lemmas.formula ≡ formula.now }
     requires ends { EndsEmpty lemmas.steps }
     requires unsatisfiable { IsUnsatisfiable formula.now }
-    ensures { IfOk result (λ hints. IsHinted formula.now hints.bytes.items) }
+    ensures { IfOk result (λ hints. IsHinted formula.now hints.bytes.items hints.text.items) }
 {
     let has_redundant = lemmas.has_redundant();
     let log = lemmas.into_log();
@@ -158,7 +159,7 @@ fn trimmed(alloc: Global, formula: &Formula, log: Log, tally: Tally) -> Result<H
     requires good { EachStep IsGood (log_start formula.now) log.steps }
     requires ends { EndsEmpty log.steps }
     requires unsatisfiable { IsUnsatisfiable formula.now }
-    ensures { IfOk result (λ hints. IsHinted formula.now hints.bytes.items) }
+    ensures { IfOk result (λ hints. IsHinted formula.now hints.bytes.items hints.text.items) }
 {
     let recorded = match Recorded::of_log(alloc, formula, &log) {
         Ok(recorded) => recorded,
@@ -178,7 +179,7 @@ fn hints_of(alloc: Global, formula: &Formula, log: &Log, tally: Tally) -> Result
     requires well { EachStep HasNoFault (log_start formula.now) log.now.steps }
     requires ends { EndsEmpty log.now.steps }
     requires unsatisfiable { IsUnsatisfiable formula.now }
-    ensures { IfOk result (λ hints. IsHinted formula.now hints.bytes.items) }
+    ensures { IfOk result (λ hints. IsHinted formula.now hints.bytes.items hints.text.items) }
 {
     match trim(alloc, formula, log) {
         Ok(trimming) => printed(alloc, &trimming.log, trimming.additions as u64, tally),
@@ -192,6 +193,7 @@ fn hints_of(alloc: Global, formula: &Formula, log: &Log, tally: Tally) -> Result
 fn printed(alloc: Global, log: &Log, given: u64, tally: Tally) -> Result<Hints, Memory>
     ensures text { IfOk result (λ hints. hints.bytes.items ≡ log_text log.now.steps) }
     ensures read_again { IfOk result (λ hints. ReadsAs hints.bytes.items log.now.steps) }
+    ensures said { IfOk result (λ hints. IsHintsText log.now.steps hints.text.items) }
 {
     let kept = log.additions();
     let reasons = tally.reasons;

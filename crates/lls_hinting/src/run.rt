@@ -20,7 +20,7 @@ fn run_request<S: Shelf, O: Sink, E: Sink>(
     out: &mut O,
     err: &mut E,
 ) -> Status
-    ensures done { result ≡ Status.Done → LeavesHints (Ok request.now) (known_files (S.told shelf.old)) (known_files (S.told shelf.new)) }
+    ensures done { result ≡ Status.Done → LeavesHints (sink_at O.Sink out.old) (sink_at O.Sink out.new) (Ok request.now) (known_files (S.told shelf.old)) (known_files (S.told shelf.new)) }
     ensures files { result ≢ Status.Done → result ≢ Status.Outside → known_files (S.told shelf.new) ≡ known_files (S.told shelf.old) }
     ensures others { KeepsOthers (Ok request.now) (known_files (S.told shelf.old)) (known_files (S.told shelf.new)) }
     ensures answered { IsAnswered result → OfRequest HasNoFault (Ok request.now) (known_files (S.told shelf.old)) }
@@ -46,9 +46,9 @@ pub fn run<S: Shelf, O: Sink, E: Sink>(
     out: &mut O,
     err: &mut E,
 ) -> Status
-    // A proof with hints was written: that of the formula of the first file, in the third one.
+    // A proof with hints was written: that of the formula of the first file, in the third one. The standard output says how many additions it has.
     ensures done { result ≡ Status.Done →
-        LeavesHints (request_in (map string_bytes words.now)) (known_files (S.told shelf.old)) (known_files (S.told shelf.new)) }
+        LeavesHints (sink_at O.Sink out.old) (sink_at O.Sink out.new) (request_in (map string_bytes words.now)) (known_files (S.told shelf.old)) (known_files (S.told shelf.new)) }
 
     // An answer comes only where the inputs have no fault. The proof doesn't go through where no hints lead to one of its lemmas from
     // what those before it leave, or where all were taken and the empty clause isn't reached; the standard output says which.

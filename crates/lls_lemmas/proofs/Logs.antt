@@ -1,5 +1,5 @@
 -- A log that grows by good steps, and the clauses that are live behind it.
-use Rattle.std.proofs.Common.{◌≡◌, ◌≢◌, ℕ, ◌+◌, ◌≤◌, ◌<◌, true, false, cond, List, [], ◌∷◌, ◌++◌, Option, Some, None, is_some, refl, sym, ap, subst, ◌∙◌, inl, inr, arith, append_assoc}
+use Rattle.std.proofs.Common.{◌≡◌, ◌≢◌, ℕ, ◌+◌, ◌≤◌, ◌<◌, true, false, cond, List, [], ◌∷◌, ◌++◌, length, Option, Some, None, is_some, refl, sym, ap, subst, ◌∙◌, inl, inr, arith, append_assoc}
 use Rattle.std.specs.Prelude.{ℤ, fold, Contains, ◌==◌}
 use Rattle.std.specs.List.{list_all}
 use Rattle.std.specs.FinSet as set
@@ -24,8 +24,8 @@ use Rattle.lls_store.specs.Clauses.{LiveClause}
 use Rattle.lls_store.specs.Store.{StoreState, IsNewId, with_clause}
 use Rattle.lls_analyse.specs.Spelled.{Spells}
 use Rattle.lls_analyse.proofs.Gathering.{later}
-use Rattle.lls_lemmas.specs.Lemmas.{GoesOnBy, GoesOnWell, HasNoFault, KeepsLive}
-use Rattle.lls_lemmas.specs.Behind.{GivesClause, Grows, HoldsLive}
+use Rattle.lls_lemmas.specs.Lemmas.{AddsLemma, AddsUnit, AddsUnits, GoesOnBy, GoesOnWell, HasNoFault, KeepsLive}
+use Rattle.lls_lemmas.specs.Behind.{GivesClause, Grows, HoldsLive, PushesLemma}
 use Rattle.lls_lemmas.specs.Closing.{is_id_hint}
 use Rattle.lls_lemmas.specs.Pivot.{AddsClause}
 use Rattle.lls_lemmas.proofs.Listing.{among-from_Contains}
@@ -72,10 +72,22 @@ each-then P formula old new each well =
     subst Q (sym well.follows) (each-append P (log_start formula) old well.more each well.each)
 
 pub grows-none : (formula : Cnf) (steps : List Step) → Grows formula steps steps
-grows-none formula steps = record { well = well-none IsGood formula steps; stays = λ id clause found. found }
+grows-none formula steps = record { well = well-none IsGood formula steps; units = well-none AddsUnit formula steps; stays = λ id clause found. found }
 
 pub grows-then : (formula : Cnf) (a b c : List Step) → Grows formula a b → Grows formula b c → Grows formula a c
-grows-then formula a b c first second = record { well = well-then IsGood formula a b c first.well second.well; stays = λ id clause found. second.stays id clause (first.stays id clause found) }
+grows-then formula a b c first second = record { well = well-then IsGood formula a b c first.well second.well; units = well-then AddsUnit formula a b c first.units second.units; stays = λ id clause found. second.stays id clause (first.stays id clause found) }
+
+-- one clause more, of at most one literal
+pub grows-one : (formula : Cnf) (old new : List Step) (id : ℕ) (lits : Clause) (hints : List ℤ) → new ≡ old ++ Add id lits hints ∷ [] → length lits ≤ 1 → GoesOnBy IsGood formula old new → KeepsLive formula old new → Grows formula old new
+grows-one formula old new id lits hints follows short good keeps =
+    let P : List Step → Type 0 = λ steps. AddsUnits formula old steps in
+    record { well = good; units = subst P (sym follows) (well-one AddsUnit formula old (Add id lits hints) short); stays = keeps }
+
+-- unit clauses, then the lemma, then unit clauses
+pub adds_between : (formula : Cnf) (old before added new : List Step) (lits : Clause) → AddsUnits formula old before → PushesLemma before added lits → AddsUnits formula added new → AddsLemma formula old new lits
+adds_between formula old before added new lits first pushes second =
+    let P : List Step → Type 0 = λ steps. AddsUnits formula steps new in
+    record { before = before; id = pushes.id; hints = pushes.hints; units_before = first; units_behind = subst P pushes.follows second }
 
 -- a clause that is found stays found where one comes behind
 find-kept : (live : Live) (id q : ℕ) (lits clause : Clause) → find_clause live q ≡ Some clause → find_clause (live ++ (id, lits) ∷ []) q ≡ Some clause
@@ -148,17 +160,14 @@ module _ (formula : Cnf) (steps : List Step) (store : StoreState) (last : ℕ) (
   adds_keeps = λ id clause found. ap (λ (live : Live). find_clause live id) (live_after-push formula steps (Add (last + 1) lits hints)) ∙ find-kept (live_after formula steps) (last + 1) id lits clause found
 
   -- by unit propagation alone, where the hints lead to it so
-  pub adds_grows : GivesClause store.live lits hints → list_all is_id_hint hints ≡ true → Grows formula steps (steps ++ Add (last + 1) lits hints ∷ [])
-  adds_grows gives all =
+  pub adds_good : GivesClause store.live lits hints → list_all is_id_hint hints ≡ true → GoesOnBy IsGood formula steps (steps ++ Add (last + 1) lits hints ∷ [])
+  adds_good gives all =
       let live = live_after formula steps in
       let walk = gives live lits holds.spelled (λ l inside. among-from_Contains lits l inside) in
-      record {
-        well = well-one IsGood formula steps (Add (last + 1) lits hints) (record {
-          positive = (id_hints hints all).1;
-          good = ap (λ (o : Option Clause). cond (is_some o) (Some (IdLive (last + 1))) (unit_walk live lits hints)) next_new ∙ walk;
-        });
-        stays = adds_keeps;
-      }
+      well-one IsGood formula steps (Add (last + 1) lits hints) (record {
+        positive = (id_hints hints all).1;
+        good = ap (λ (o : Option Clause). cond (is_some o) (Some (IdLive (last + 1))) (unit_walk live lits hints)) next_new ∙ walk;
+      })
 
   pub adds_found : find_clause (live_after formula (steps ++ Add (last + 1) lits hints ∷ [])) (last + 1) ≡ Some lits
   adds_found = ap (λ (live : Live). find_clause live (last + 1)) (live_after-push formula steps (Add (last + 1) lits hints)) ∙ find-last (live_after formula steps) (last + 1) lits next_new

@@ -77,6 +77,11 @@ pub if_ok_weaker : {T E : Type 0} {P Q : T → Type 0} (r : Result T E) → ((va
 if_ok_weaker (Ok value) f p = f value p
 if_ok_weaker (Err error) f p = tt
 
+-- what follows both where a call succeeds and where it fails
+pub either : {T E : Type 0} (r : Result T E) (G : Type 0) (P : T → Type 0) (Q : Type 0) → IfOk r P → OnErr r Q → ((value : T) → P value → G) → (Q → G) → G
+either (Ok value) G P Q ok err after_ok after_err = after_ok value ok
+either (Err error) G P Q ok err after_ok after_err = after_err err
+
 -- what holds of a store after a call that adds a clause or fails
 pub either_store_by : {T E : Type 0} (r : Result T E) (P : StoreState → Type 0) (old new : StoreState) (more : T → StoreState) → IfOk r (λ value. new ≡ more value) → OnErr r (new ≡ old) → ((value : T) → P (more value)) → P old → P new
 either_store_by (Ok value) P old new more ok err added stayed = subst P (sym ok) (added value)

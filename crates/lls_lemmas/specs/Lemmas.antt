@@ -1,5 +1,5 @@
 -- What an engine of lemmas is seen as, and what a lemma or a deletion makes of it.
-use Rattle.std.specs.Prelude.{◌≡◌, ℕ, ℤ, Bool, true, List, [], ◌∷◌, ◌++◌, Contains, Some, None, fold, slice_get}
+use Rattle.std.specs.Prelude.{◌≡◌, ◌≤◌, ℕ, ℤ, Bool, true, List, [], ◌∷◌, ◌++◌, length, Contains, Some, None, fold, slice_get}
 use Rattle.std.specs.List.{list_any}
 use Rattle.std.specs.FinSet as set
 use Rattle.std.specs.Ordering.{int_cmp}
@@ -38,6 +38,23 @@ pub record GoesOnBy (IsSuch : LogState → Step → Type 0) (formula : Cnf) (old
 -- a log goes on by steps with which nothing is wrong
 abbrev pub GoesOnWell : Cnf → List Step → List Step → Type 0
 GoesOnWell formula old new = GoesOnBy HasNoFault formula old new
+
+-- a step adds a clause of one literal or the empty clause
+abbrev pub AddsUnit : LogState → Step → Type 0
+AddsUnit state (Add id lits hints) = length lits ≤ 1
+AddsUnit state (Del ids) = ⊥
+
+-- a log goes on by nothing else
+abbrev pub AddsUnits : Cnf → List Step → List Step → Type 0
+AddsUnits formula old new = GoesOnBy AddsUnit formula old new
+
+-- a log goes on by one step that adds the lemma, and by nothing else before and behind it than clauses of one literal or the empty clause
+pub record AddsLemma (formula : Cnf) (old new : List Step) (lits : Clause) : Type 0 where
+  pub before : List Step
+  pub id : ℕ
+  pub hints : List ℤ
+  pub units_before : AddsUnits formula old before
+  pub units_behind : AddsUnits formula (before ++ Add id lits hints ∷ []) new
 
 -- a clause of just these literals, in this order, is live behind the steps
 pub record IsLive (formula : Cnf) (steps : List Step) (lits : Clause) : Type 0 where

@@ -14,7 +14,7 @@ use lls_store::Store;
 const FACTOR: u64 = 11_400_714_819_323_198_485;
 
 /// The hash of a set of literals: it depends on no order, and counts no literal twice. What is marked is lost.
-pub(crate) fn hash_of(marks: &mut Marks, lits: &[Lit]) -> u64
+pub(crate) fn hash_of(marks: &mut Marks, lits: &[Lit]) -> u32
     requires { is_within marks.old.vars lits.now ≡ true }
     ensures vars { marks.new.vars ≡ marks.old.vars }
 {
@@ -27,7 +27,7 @@ pub(crate) fn hash_of(marks: &mut Marks, lits: &[Lit]) -> u64
             hash = hash.wrapping_add(mixed ^ (mixed >> 29));
         }
     }
-    hash
+    (hash >> 32) as u32
 }
 
 /// Marks literals, where none was marked.
@@ -95,7 +95,7 @@ fn find_known<S: Store>(
     store: &S,
     marks: &mut Marks,
     index: &Index,
-    hash: u64,
+    hash: u32,
     lits: &[Lit],
 ) -> Option<u32>
     requires vars { (S.state store.now).vars ≡ marks.old.vars }
@@ -106,6 +106,7 @@ fn find_known<S: Store>(
     let mut left = index.entries.len();
     let mut at = index.newest(hash);
     while let Some(place) = at {
+        let place = place as usize;
         if place >= left {
             return None;
         }
@@ -141,7 +142,7 @@ pub(crate) fn find<S: Store>(
     store: &S,
     marks: &mut Marks,
     index: &Index,
-    hash: u64,
+    hash: u32,
     lits: &[Lit],
 ) -> Option<u32>
     requires vars { (S.state store.now).vars ≡ marks.old.vars }

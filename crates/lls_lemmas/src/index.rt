@@ -7,14 +7,14 @@ use std::collections::HashMap;
 #[derive(Clone, Copy, Debug, Drop)]
 pub(crate) struct Entry {
     pub(crate) number: u32,
-    pub(crate) before: Option<usize>,
+    pub(crate) before: Option<u32>,
 }
 
 /// The numbers of clauses, by a hash of the sets of their literals. No contract speaks of it: what is found in it is compared.
 #[derive(Drop)]
 pub(crate) struct Index {
     pub(crate) entries: Vec<Entry>,
-    newest: HashMap<u64, usize>,
+    newest: HashMap<u32, u32>,
 }
 
 impl Index {
@@ -26,8 +26,10 @@ impl Index {
     }
 
     /// Puts the number of a clause in, before those with the same hash.
-    pub(crate) fn put(&mut self, hash: u64, number: u32) -> Result<(), Memory> {
-        let place = self.entries.len();
+    pub(crate) fn put(&mut self, hash: u32, number: u32) -> Result<(), Memory> {
+        let Ok(place) = u32::try_from(self.entries.len()) else {
+            return Err(Memory);
+        };
         let before = self.newest(hash);
         self.entries.push(Entry { number, before })?;
         self.newest.insert(hash, place)?;
@@ -35,7 +37,7 @@ impl Index {
     }
 
     /// The place of the newest entry with a hash.
-    pub(crate) fn newest(&self, hash: u64) -> Option<usize> {
+    pub(crate) fn newest(&self, hash: u32) -> Option<u32> {
         self.newest.get(&hash).copied()
     }
 }

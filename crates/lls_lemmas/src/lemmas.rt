@@ -1,10 +1,11 @@
 // An engine of lemmas.
-ghost use Rattle.std.specs.Prelude.{◌≡◌, ◌≢◌, ◌⊎◌, ◌≤◌, [], true, false, Ok, IfOk, OnOk};
+ghost use Rattle.std.specs.Prelude.{◌≡◌, ◌≢◌, ◌⊎◌, ◌≤◌, [], true, false, Ok, IfOk, OnErr, OnOk};
 ghost use Rattle.lls_lit.specs.Formula.{is_within, IsUnsatisfiable};
 ghost use Rattle.lls_prooflog.specs.Spent.{EachStep, IsGood, log_start};
 ghost use Rattle.lls_store.specs.Changes.{empty_trail};
 ghost use Rattle.lls_store.specs.Store.{empty_store};
-ghost use Rattle.lls_lemmas.specs.Lemmas.{is_tautology, DeletesOne, EndsEmpty, GoesOnWell, HasClause, HasNoFault, HoldsForGood, IsLive, IsNotAddable, IsNotImplied, KeepsLive, MeetsTautology};
+ghost use Rattle.lls_lemmas.specs.Behind.{PushesLemma};
+ghost use Rattle.lls_lemmas.specs.Lemmas.{is_tautology, AddsLemma, AddsUnits, DeletesOne, EndsEmpty, GoesOnWell, HasClause, HasNoFault, HoldsForGood, IsLive, IsNotAddable, IsNotImplied, KeepsLive, MeetsTautology};
 
 use crate::answers::{Added, Deleted};
 use crate::deleting::{delete_clause, is_needed};
@@ -12,7 +13,7 @@ use crate::finding::{find, hash_of};
 use crate::gathering::Gathering;
 use crate::index::Index;
 use crate::loading::{index_clauses, load};
-use crate::logging::{add_step, push_step};
+use crate::logging::push_step;
 use crate::resolving::{Resolving, try_pivot};
 use crate::settling::{Settled, settle};
 use crate::tautology::is_tautology;
@@ -73,6 +74,7 @@ impl<'f, S: Store + Drop> Lemmas<'f, S> {
         ensures vars { IfOk result (λ lemmas. lemmas.vars ≡ vars) }
         ensures well { IfOk result (λ lemmas. GoesOnWell formula.now [] lemmas.steps) }
         ensures keeps { IfOk result (λ lemmas. KeepsLive formula.now [] lemmas.steps) }
+        ensures units { IfOk result (λ lemmas. AddsUnits formula.now [] lemmas.steps) }
         ensures none_redundant { IfOk result (λ lemmas. lemmas.has_redundant ≡ false) }
         ensures settled { IfOk result (λ lemmas. (lemmas.refuted ≡ true) ⊎ (lemmas.settled ≡ true)) }
     {
@@ -129,6 +131,10 @@ impl<'f, S: Store> Lemmas<'f, S> {
         requires within { is_within self.old.vars lits.now ≡ true }
         ensures well { GoesOnWell self.old.formula self.old.steps self.new.steps }
         ensures keeps { KeepsLive self.old.formula self.old.steps self.new.steps }
+        ensures adds { AddsUnits self.old.formula self.old.steps self.new.steps ⊎ AddsLemma self.old.formula self.old.steps self.new.steps lits.now }
+        ensures adds_implied { result ≡ Ok Added.Implied → AddsLemma self.old.formula self.old.steps self.new.steps lits.now }
+        ensures adds_redundant { result ≡ Ok Added.Redundant → AddsLemma self.old.formula self.old.steps self.new.steps lits.now }
+        ensures adds_none { result ≡ Ok Added.NotImplied → AddsUnits self.old.formula self.old.steps self.new.steps }
         ensures implied { result ≡ Ok Added.Implied → IsLive self.old.formula self.new.steps lits.now }
         ensures redundant { result ≡ Ok Added.Redundant → IsLive self.old.formula self.new.steps lits.now }
         ensures not_given { result ≡ Ok Added.Redundant → self.old.settled ≡ true → IsNotImplied self.old.formula self.old.steps lits.now }
@@ -183,6 +189,8 @@ impl<'f, S: Store> Lemmas<'f, S> {
         ensures for_good { result ≡ Ok Deleted.Reason → self.old.settled ≡ true → HoldsForGood self.old.formula self.old.steps lits.now }
         ensures unknown { result ≡ Ok Deleted.Unknown → HasClause self.old.formula self.old.steps lits.now → ⊥ }
         ensures ended { result ≡ Ok Deleted.Refuted → self.old.refuted ≡ true }
+        ensures ends { result ≡ Ok Deleted.Refuted → EndsEmpty self.old.steps }
+        ensures behind_the_end { self.old.refuted ≡ true → result ≡ Ok Deleted.Refuted }
         ensures redundant { self.new.has_redundant ≡ self.old.has_redundant }
         ensures settled { self.new.settled ≡ self.old.settled }
         ensures refuted { self.new.refuted ≡ self.old.refuted }
@@ -256,6 +264,7 @@ impl<'f, S: Store> Lemmas<'f, S> {
     fn settle(&mut self) -> Result<(), Memory>
         ensures well { GoesOnWell self.old.formula self.old.steps self.new.steps }
         ensures keeps { KeepsLive self.old.formula self.old.steps self.new.steps }
+        ensures units { AddsUnits self.old.formula self.old.steps self.new.steps }
         ensures none_redundant { self.new.has_redundant ≡ self.old.has_redundant }
         ensures ok { OnOk result ((self.new.refuted ≡ true) ⊎ (self.new.settled ≡ true)) }
         ensures settled { self.old.settled ≡ true → self.new ≡ self.old }
@@ -293,6 +302,8 @@ impl<'f, S: Store> Lemmas<'f, S> {
         requires going { self.old.refuted ≡ false }
         ensures well { GoesOnWell self.old.formula self.old.steps self.new.steps }
         ensures keeps { KeepsLive self.old.formula self.old.steps self.new.steps }
+        ensures pushes { IfOk result (λ added. added ≢ Added.NotImplied → PushesLemma self.old.steps self.new.steps lits.now) }
+        ensures err { OnErr result (self.new.steps ≡ self.old.steps) }
         ensures implied { result ≡ Ok Added.Implied → IsLive self.old.formula self.new.steps lits.now }
         ensures redundant { result ≡ Ok Added.Redundant → IsLive self.old.formula self.new.steps lits.now }
         ensures not_given { result ≡ Ok Added.Redundant → IsNotImplied self.old.formula self.old.steps lits.now }
@@ -323,6 +334,8 @@ impl<'f, S: Store> Lemmas<'f, S> {
         requires going { self.old.refuted ≡ false }
         ensures well { GoesOnWell self.old.formula self.old.steps self.new.steps }
         ensures keeps { KeepsLive self.old.formula self.old.steps self.new.steps }
+        ensures pushes { result ≡ Ok true → PushesLemma self.old.steps self.new.steps lits.now }
+        ensures err { OnErr result (self.new.steps ≡ self.old.steps) }
         ensures implied { result ≡ Ok true → IsLive self.old.formula self.new.steps lits.now }
         ensures not_implied { result ≡ Ok false → IsNotImplied self.old.formula self.old.steps lits.now }
         ensures stays { result ≡ Ok false → self.new ≡ self.old }
@@ -343,7 +356,7 @@ impl<'f, S: Store> Lemmas<'f, S> {
         }
         let hash = hash_of(&mut self.gathering.marks, lits);
         self.index.put(hash, self.store.count())?;
-        add_step(
+        push_step(
             self.formula,
             &mut self.store,
             &self.trail,
@@ -364,6 +377,8 @@ impl<'f, S: Store> Lemmas<'f, S> {
         requires going { self.old.refuted ≡ false }
         ensures well { GoesOnWell self.old.formula self.old.steps self.new.steps }
         ensures keeps { KeepsLive self.old.formula self.old.steps self.new.steps }
+        ensures pushes { result ≡ Ok true → PushesLemma self.old.steps self.new.steps lits.now }
+        ensures err { OnErr result (self.new.steps ≡ self.old.steps) }
         ensures redundant { result ≡ Ok true → IsLive self.old.formula self.new.steps lits.now }
         ensures told { result ≡ Ok true → self.new.has_redundant ≡ true }
         ensures not_addable { result ≡ Ok false → IsNotAddable self.old.formula self.old.steps lits.now ⊎ MeetsTautology self.old.formula self.old.steps lits.now }

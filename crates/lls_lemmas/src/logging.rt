@@ -1,15 +1,16 @@
 // A clause that is added to the store and to the log.
-ghost use Rattle.std.specs.Prelude.{◌≡◌, Some, true, IfOk, OnErr};
+ghost use Rattle.std.specs.Prelude.{◌≡◌, ◌++◌, ◌∷◌, [], Some, true, IfOk, OnErr};
 ghost use Rattle.std.specs.List.{list_all};
 ghost use Rattle.lls_lit.specs.Formula.{is_within};
 ghost use Rattle.lls_prooflog.specs.Range.{is_hint};
 ghost use Rattle.lls_prooflog.specs.UnitWalk.{find_clause};
-ghost use Rattle.lls_prooflog.specs.Spent.{live_after};
+ghost use Rattle.lls_prooflog.specs.Spent.{IsGood, live_after};
+ghost use Rattle.lls_prooflog.specs.declared.step.Step.TheVariants.{Add};
 ghost use Rattle.lls_store.specs.Sound.{IsSound};
 ghost use Rattle.lls_store.specs.Store.{with_clause};
-ghost use Rattle.lls_lemmas.specs.Behind.{GivesClause, Grows, HoldsLive};
+ghost use Rattle.lls_lemmas.specs.Behind.{GivesClause, HoldsLive};
 ghost use Rattle.lls_lemmas.specs.Closing.{is_id_hint};
-ghost use Rattle.lls_lemmas.specs.Lemmas.{GoesOnWell, KeepsLive};
+ghost use Rattle.lls_lemmas.specs.Lemmas.{GoesOnBy, GoesOnWell, KeepsLive};
 ghost use Rattle.lls_lemmas.specs.Pivot.{AddsClause};
 
 use lls_base::Memory;
@@ -43,7 +44,8 @@ pub(crate) fn push_step<S: Store>(
     ensures holds { HoldsLive formula.now log.new.steps (S.state store.new) last.new }
     ensures well { GoesOnWell formula.now log.old.steps log.new.steps }
     ensures keeps { KeepsLive formula.now log.old.steps log.new.steps }
-    ensures grows { GivesClause (S.state store.old).live lits.now hints.now → list_all is_id_hint hints.now ≡ true → Grows formula.now log.old.steps log.new.steps }
+    ensures pushed { IfOk result (λ id. log.new.steps ≡ log.old.steps ++ Add id lits.now hints.now ∷ []) }
+    ensures good { GivesClause (S.state store.old).live lits.now hints.now → list_all is_id_hint hints.now ≡ true → GoesOnBy IsGood formula.now log.old.steps log.new.steps }
     ensures tracked { S.tracks store.new trail.now }
     ensures sound { IsSound (S.state store.new).live trail.now }
 {
@@ -56,33 +58,4 @@ pub(crate) fn push_step<S: Store>(
     log.push_add(id, lits, hints);
     *last = id;
     Ok(id)
-}
-
-/// Adds a clause to which the hints lead by unit propagation.
-pub(crate) fn add_step<S: Store>(
-    formula: &Formula,
-    store: &mut S,
-    trail: &Trail,
-    log: &mut Log,
-    last: &mut u64,
-    lits: &[Lit],
-    hints: &[i64],
-) -> Result<u64, Memory>
-    requires holds { HoldsLive formula.now log.old.steps (S.state store.old) last.old }
-    requires level { trail.now.current ≡ 0 }
-    requires tracked { S.tracks store.old trail.now }
-    requires sound { IsSound (S.state store.old).live trail.now }
-    requires within { is_within (S.state store.old).vars lits.now ≡ true }
-    requires gives { GivesClause (S.state store.old).live lits.now hints.now }
-    requires in_range { list_all is_id_hint hints.now ≡ true }
-    ensures state { IfOk result (λ id. S.state store.new ≡ with_clause (S.state store.old) id lits.now) }
-    ensures found { IfOk result (λ id. find_clause (live_after formula.now log.new.steps) id ≡ Some lits.now) }
-    ensures err { OnErr result (S.state store.new ≡ S.state store.old) }
-    ensures err_steps { OnErr result (log.new.steps ≡ log.old.steps) }
-    ensures holds { HoldsLive formula.now log.new.steps (S.state store.new) last.new }
-    ensures grows { Grows formula.now log.old.steps log.new.steps }
-    ensures tracked { S.tracks store.new trail.now }
-    ensures sound { IsSound (S.state store.new).live trail.now }
-{
-    push_step(formula, store, trail, log, last, lits, hints)
 }

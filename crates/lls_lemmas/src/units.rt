@@ -6,7 +6,7 @@ ghost use Rattle.lls_lemmas.specs.Behind.{Grows};
 ghost use Rattle.lls_lemmas.specs.Units.{IsAtRest, IsUnit, StoreGrows};
 
 use crate::gathering::{Gathering, gather};
-use crate::logging::add_step;
+use crate::logging::push_step;
 use lls_base::Memory;
 use lls_cnf::Formula;
 use lls_prooflog::Log;
@@ -67,7 +67,7 @@ fn unit_id<S: Store>(
     }
     gather(gathering, trail, store, units, place, place, reason)?;
     let hints = gathering.hints.as_slice();
-    add_step(formula, store, trail, log, last, &[lit], hints)
+    push_step(formula, store, trail, log, last, &[lit], hints)
 }
 
 // Gives the first literal without a unit clause one.

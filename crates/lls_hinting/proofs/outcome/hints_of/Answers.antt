@@ -11,7 +11,7 @@ pub returns-in-Ok : goal.returns-in-Ok
 returns-in-Ok c =
     let trimmed = c.in-Ok.ensures in
     is_hinted c.args.formula.now c.in-Ok.trimming.log.steps c.printed.result c.printed.ensures.text c.printed.ensures.read_again trimmed.accepted_again c.requires.unsatisfiable
-    (inl (record { additions = trimmed.additions; again = trimmed.again }))
+    (inl (record { additions = trimmed.additions; again = trimmed.again })) c.printed.ensures.said
 
 pub returns-in-Err-RatStep : goal.returns-in-Err-RatStep
 returns-in-Err-RatStep c =
@@ -19,4 +19,4 @@ returns-in-Err-RatStep c =
     let is = c.in-Err-RatStep.is ∙ ap Err c.in-Err-RatStep.field-0-is in
     let printed = c.printed-in-Err-RatStep in
     is_hinted c.args.formula.now c.args.log.now.steps printed.result printed.ensures.text printed.ensures.read_again (c.trim.ensures.rat_accepted line is) c.requires.unsatisfiable
-    (inr (line, c.trim.ensures.rat line is))
+    (inr (line, c.trim.ensures.rat line is)) printed.ensures.said

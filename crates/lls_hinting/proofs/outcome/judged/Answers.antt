@@ -22,7 +22,7 @@ returns-in-NotImplied g c =
     let new = c.judge_file.new.lemmas.steps in
     let text = c.in_ok-not_implied_text.field-0 in
     reads_value (IsJudged c.args.lemmas.formula c.args.vars files name c.args.form old new) (IsProved formula c.args.vars files name c.args.form) c.in_ok-stand.stand (Refused text) _ _
-    (λ judged. proved_refused formula c.args.vars files name c.args.form old new c.in-NotImplied.number text (c.requires.well, c.requires.keeps) c.in_ok-not_implied_text.ensures
+    (λ judged. proved_refused formula c.args.vars files name c.args.form old new c.in-NotImplied.number text (c.requires.well, c.requires.keeps) c.requires.units c.in_ok-not_implied_text.ensures
     (subst (λ (f : Cnf). IsJudged f c.args.vars files name c.args.form old new (Ok (NotImplied c.in-NotImplied.number))) c.requires.formula
     (subst (λ (s : Stand). IsJudged c.args.lemmas.formula c.args.vars files name c.args.form old new (Ok s)) c.in-NotImplied.is judged)))
     c.in_ok-stand.ensures.read
@@ -41,7 +41,7 @@ returns-then-not-is_refuted g c =
     let settled = settled_of now (c.in_ok-stand.ensures.rest (ap Ok going)) none in
     let open_ = subst (λ (f : Cnf). IsNotImplied f now.steps []) (c.judge_file.ensures.formula ∙ c.requires.formula) (c.is_refuted.ensures.unrefuted unrefuted settled) in
     reads_value (IsJudged c.args.lemmas.formula c.args.vars files name c.args.form old now.steps) (IsProved formula c.args.vars files name c.args.form) c.in_ok-stand.stand (Refused text) _ _
-    (λ judged. proved_open formula c.args.vars files name c.args.form old now.steps text (c.requires.well, c.requires.keeps) open_ c.in_ok-no_empty_text.ensures
+    (λ judged. proved_open formula c.args.vars files name c.args.form old now.steps text (c.requires.well, c.requires.keeps) c.requires.units open_ c.in_ok-no_empty_text.ensures
     (subst (λ (f : Cnf). IsJudged f c.args.vars files name c.args.form old now.steps (Ok Going)) c.requires.formula
     (subst (λ (s : Stand). IsJudged c.args.lemmas.formula c.args.vars files name c.args.form old now.steps (Ok s)) going judged)))
     c.in_ok-stand.ensures.read

@@ -42,4 +42,4 @@ returns-in-Ok-trim c =
     call_trims_well formula (steps_of_log steps) accepted recorded.inferences (length recorded.formula.clauses) result
     c.in-Ok.ensures.inferences (ap (λ (f : Cnf). length f.clauses) c.in-Ok.ensures.formula) does.trims does.additions does.by_propagation in
     is_hinted formula trimming.log.steps c.printed.result c.printed.ensures.text c.printed.ensures.read_again well.well.accepted c.requires.unsatisfiable
-    (inl (record { additions = well.well.additions; again = well.again }))
+    (inl (record { additions = well.well.additions; again = well.again })) c.printed.ensures.said

@@ -1,7 +1,9 @@
 use Rattle.std.proofs.Common.{◌≡◌, Ok, subst}
 use Rattle.std.specs.FinMap as map
+use Rattle.std.specs.Io.KnownBytes.{append_known}
 use Rattle.std.specs.Option.{option_map}
 use Rattle.lls_base.specs.Shelf.{Files, known_files}
+use Rattle.lls_hinting.specs.Moment.{sink_at}
 use Rattle.lls_hinting.specs.Outcome.{RequestComesTo}
 use Rattle.lls_hinting.specs.declared.outcome.Hints.{Hints}
 use Rattle.lls_hinting.specs.declared.outcome.Outcome.{Outcome}
@@ -17,7 +19,8 @@ returns-in-Ok-Hinted-clause-done g c = λ is.
     let read = c.in-Ok-Hinted.ensures in
     let comes = subst (λ (o : Outcome). RequestComesTo c.args.request.now before (Ok o)) c.in-Ok-Hinted.field-0-is read.ok.0 in
     let written = subst (λ (h : Hints). after ≡ option_map (λ (files : Files). map.insert files c.args.request.now.output h.bytes.items) mid) c.in-Ok-Hinted.hints-is (c.give_hints.ensures.done is) in
-    leaves_hints c.args.request.now c.in-Ok-Hinted.hints before mid after comes read.files written
+    let said = subst (λ (h : Hints). g.O.Sink.written c.give_hints.new.out ≡ append_known (g.O.Sink.written c.args.out.now) h.text.items) c.in-Ok-Hinted.hints-is (c.give_hints.ensures.said is) in
+    leaves_hints c.args.request.now c.in-Ok-Hinted.hints (sink_at g.O.Sink c.args.out.now) (sink_at g.O.Sink c.give_hints.new.out) before mid after comes read.files written said
 
 pub returns-in-Err-clause-error : goal.returns-in-Err-clause-error
 returns-in-Err-clause-error g c = λ content.

@@ -1,14 +1,14 @@
 use Rattle.std.proofs.Common.{◌≡◌, ◌+◌, ◌++◌, ◌∷◌, [], List, Some, sym, ap, ◌∙◌, subst, arith}
 use Rattle.lls_prooflog.specs.UnitWalk.{find_clause}
-use Rattle.lls_prooflog.specs.Spent.{live_after}
+use Rattle.lls_prooflog.specs.Spent.{IsGood, live_after}
 use Rattle.lls_prooflog.specs.Log.{Logged}
 use Rattle.lls_prooflog.specs.declared.step.Step.{Step}
 use Rattle.lls_prooflog.specs.declared.step.Step.TheVariants.{Add}
 use Rattle.lls_store.specs.Store.{StoreState}
-use Rattle.lls_lemmas.specs.Behind.{Grows, HoldsLive}
-use Rattle.lls_lemmas.specs.Lemmas.{GoesOnWell, KeepsLive}
+use Rattle.lls_lemmas.specs.Behind.{HoldsLive}
+use Rattle.lls_lemmas.specs.Lemmas.{GoesOnBy, GoesOnWell, KeepsLive}
 use Rattle.lls_lemmas.proofs.Kept.{kept_push, literals_within}
-use Rattle.lls_lemmas.proofs.Logs.{adds_found, adds_grows, adds_holds, adds_in_range, adds_keeps, adds_no_fault, adds_well}
+use Rattle.lls_lemmas.proofs.Logs.{adds_found, adds_good, adds_holds, adds_in_range, adds_keeps, adds_no_fault, adds_well}
 use Rattle.lls_lemmas.proofs.logging.push_step.Goals as goal
 
 pub push_add-requires-clause-in_range : goal.push_add-requires-clause-in_range
@@ -58,12 +58,12 @@ returns-clause-keeps g c =
     let P : List Step → Type 0 = λ steps. KeepsLive formula c.args.log.now.steps steps in
     subst P (sym is) (adds_keeps formula c.args.log.now.steps (g.S.Store.state c.args.store.now) last lits c.args.hints.now c.requires.holds c.requires.adds)
 
-pub returns-clause-grows : goal.returns-clause-grows
-returns-clause-grows g c = λ gives all.
+pub returns-clause-good : goal.returns-clause-good
+returns-clause-good g c = λ gives all.
     let formula = c.args.formula.now in
     let lits = c.args.lits.now in
     let last = c.args.last.now in
     let more : List Step = Add (last + 1) lits c.args.hints.now ∷ [] in
     let is : c.push_add.new.self.steps ≡ c.args.log.now.steps ++ more = ap (λ (l : Logged). l.steps) c.push_add.ensures ∙ ap (λ (ss : List Step). ss ++ more) c.in_ok-reserve.ensures.widens.steps_stay in
-    let P : List Step → Type 0 = λ steps. Grows formula c.args.log.now.steps steps in
-    subst P (sym is) (adds_grows formula c.args.log.now.steps (g.S.Store.state c.args.store.now) last lits c.args.hints.now c.requires.holds c.requires.adds gives all)
+    let P : List Step → Type 0 = λ steps. GoesOnBy IsGood formula c.args.log.now.steps steps in
+    subst P (sym is) (adds_good formula c.args.log.now.steps (g.S.Store.state c.args.store.now) last lits c.args.hints.now c.requires.holds c.requires.adds gives all)

@@ -9,7 +9,7 @@ use Rattle.lls_prooflog.proofs.Soundness.{unsatisfiable_at_empty}
 use Rattle.lls_lemmas.specs.Behind.{GivesClause, Grows}
 use Rattle.lls_lemmas.specs.Closing.{is_id_hint}
 use Rattle.lls_lemmas.proofs.AtZero.{gives_empty}
-use Rattle.lls_lemmas.proofs.Logs.{adds_by_propagation, adds_grows, adds_in_range, adds_no_fault, id_hints}
+use Rattle.lls_lemmas.proofs.Logs.{adds_by_propagation, adds_good, adds_in_range, adds_keeps, adds_no_fault, grows-one, id_hints}
 use Rattle.lls_lemmas.proofs.settling.refute.Goals as goal
 
 pub push_add-requires-clause-in_range : goal.push_add-requires-clause-in_range
@@ -31,8 +31,9 @@ returns-clause-grows g c =
     let Q : List ℤ → Type 0 = λ hs. list_all is_id_hint hs ≡ true in
     let R : List ℤ → Type 0 = λ hs. GivesClause s.live [] hs in
     let gives = subst R (sym c.as_slice-hints.ensures.value) (gives_empty s.live t c.len-end.result c.args.conflict c.gather.new.gathering.hints.items u.is_trail u.level (omega (arith, c.len-end.ensures.len)) c.requires.conflict c.in_ok-gather.ensures.gives) in
-    subst P (sym is) (adds_grows formula c.args.log.now.steps s last [] hints c.requires.rest.holds (adds_by_propagation s.live [] hints gives) gives
-    (subst Q (sym c.as_slice-hints.ensures.value) c.gather.ensures.in_range))
+    let adds = adds_by_propagation s.live [] hints gives in
+    let good = adds_good formula c.args.log.now.steps s last [] hints c.requires.rest.holds adds gives (subst Q (sym c.as_slice-hints.ensures.value) c.gather.ensures.in_range) in
+    subst P (sym is) (grows-one formula c.args.log.now.steps (c.args.log.now.steps ++ more) (last + 1) [] hints refl (omega arith) good (adds_keeps formula c.args.log.now.steps s last [] hints c.requires.rest.holds adds))
 
 pub returns-clause-unsatisfiable : goal.returns-clause-unsatisfiable
 returns-clause-unsatisfiable g c =

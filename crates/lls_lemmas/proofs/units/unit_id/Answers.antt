@@ -1,18 +1,23 @@
-use Rattle.std.proofs.Common.{◌≡◌, ◌∷◌, [], ℕ, List, Some, sym, ap, ◌∙◌, subst, take, refl}
+use Rattle.std.proofs.Common.{◌≡◌, ◌∷◌, ◌++◌, [], ℕ, true, List, Some, sym, ap, ◌∙◌, subst, take, refl, arith}
 use Rattle.std.specs.Prelude.{ℤ, slice_get}
+use Rattle.std.specs.List.{list_all}
 use Rattle.std.specs.Cmp.Derive.{both_true}
 use Rattle.std.proofs.lemmas.Option.{same_Some}
 use Rattle.lls_lit.specs.Literal.{variable_of}
 use Rattle.lls_lit.specs.Formula.{is_literal_of}
+use Rattle.lls_prooflog.specs.declared.step.Step.{Step}
+use Rattle.lls_prooflog.specs.declared.step.Step.TheVariants.{Add}
 use Rattle.lls_store.specs.Trail.{entry_of, has, literals_of, reason_of}
 use Rattle.lls_store.specs.Clauses.{clause_numbered}
 use Rattle.lls_store.specs.Sound.{IsForced}
 use Rattle.lls_store.specs.Store.{StoreState, with_clause}
 use Rattle.lls_analyse.proofs.LiveClauses.{IsSome-from, number_given, told}
 use Rattle.lls_analyse.proofs.Trails.{has_here}
-use Rattle.lls_lemmas.specs.Behind.{GivesClause}
+use Rattle.lls_lemmas.specs.Behind.{GivesClause, Grows}
+use Rattle.lls_lemmas.specs.Closing.{is_id_hint}
 use Rattle.lls_lemmas.specs.Units.{HasUnits, IsUnit, StoreGrows}
-use Rattle.lls_lemmas.proofs.Reading.{either_store_by, if_ok_weaker}
+use Rattle.lls_lemmas.proofs.Logs.{adds_by_propagation, grows-none, grows-one, id_hints}
+use Rattle.lls_lemmas.proofs.Reading.{either, either_store_by, if_ok_weaker}
 use Rattle.lls_lemmas.proofs.UnitTables.{forced_place, gives_unit, store_more, store_stays, unit_added, unit_single, units_more}
 use Rattle.lls_lemmas.proofs.units.unit_id.Goals as goal
 
@@ -73,16 +78,16 @@ gather-requires-clause-closing g c =
     let reason : f.reason ≡ c.unwrap-reason.result = same_Some f.reason c.unwrap-reason.result (sym (c.known_reason.ensures ∙ ap (reason_of t.entries) c.var.ensures.var ∙ f.is_reason) ∙ c.unwrap-reason.ensures) in
     IsSome-from (clause_numbered s.live c.unwrap-reason.result) f.forced.clause (ap (clause_numbered s.live) (sym reason) ∙ f.forced.is_live)
 
-pub add_step-requires-clause-within : goal.add_step-requires-clause-within
-add_step-requires-clause-within g c =
+pub push_step-requires-clause-within : goal.push_step-requires-clause-within
+push_step-requires-clause-within g c =
     let s = g.S.Store.state c.args.store.now in
     let t = c.args.trail.now in
     let u = c.requires.rest.has_units in
     let f = forced_place s.live t c.args.place c.lit-lit.result u.is_trail u.level u.sound c.lit-lit.ensures in
     both_true (ap (λ n. is_literal_of n c.lit-lit.result) u.same_vars ∙ f.read.within) refl
 
-pub add_step-requires-clause-gives : goal.add_step-requires-clause-gives
-add_step-requires-clause-gives g c =
+pub push_step-requires-clause-adds : goal.push_step-requires-clause-adds
+push_step-requires-clause-adds g c =
     let s = g.S.Store.state c.args.store.now in
     let t = c.args.trail.now in
     let u = c.requires.rest.has_units in
@@ -90,30 +95,36 @@ add_step-requires-clause-gives g c =
     let reason : f.reason ≡ c.unwrap-reason.result = same_Some f.reason c.unwrap-reason.result (sym (c.known_reason.ensures ∙ ap (reason_of t.entries) c.var.ensures.var ∙ f.is_reason) ∙ c.unwrap-reason.ensures) in
     let P : ℕ → Type 0 = λ n. IsForced s.live (take c.args.place t.entries) c.lit-lit.result n in
     let Q : List ℤ → Type 0 = λ hs. GivesClause s.live (c.lit-lit.result ∷ []) hs in
-    subst Q (sym c.as_slice-hints.ensures.value) (gives_unit s.live t c.args.place c.unwrap-reason.result c.lit-lit.result c.gather.new.gathering.hints.items u.is_trail u.level (subst P reason f.forced) c.in_ok-gather.ensures.gives)
+    adds_by_propagation s.live (c.lit-lit.result ∷ []) c.as_slice-hints.result.now (
+    subst Q (sym c.as_slice-hints.ensures.value) (gives_unit s.live t c.args.place c.unwrap-reason.result c.lit-lit.result c.gather.new.gathering.hints.items u.is_trail u.level (subst P reason f.forced) c.in_ok-gather.ensures.gives))
+
+pub push_step-requires-clause-in_range : goal.push_step-requires-clause-in_range
+push_step-requires-clause-in_range g c =
+    let P : List ℤ → Type 0 = λ hs. list_all is_id_hint hs ≡ true in
+    (id_hints c.as_slice-hints.result.now (subst P (sym c.as_slice-hints.ensures.value) c.gather.ensures.in_range)).0
 
 pub returns-clause-unit : goal.returns-clause-unit
 returns-clause-unit g c =
     let s = g.S.Store.state c.args.store.now in
-    let new = g.S.Store.state c.add_step.new.store in
+    let new = g.S.Store.state c.push_step.new.store in
     let t = c.args.trail.now in
     let u = c.requires.rest.has_units in
     let lit = c.lit-lit.result in
     let f = forced_place s.live t c.args.place lit u.is_trail u.level u.sound c.lit-lit.ensures in
-    if_ok_weaker {P = λ id. new ≡ with_clause s id (lit ∷ [])} {Q = λ id. (l : ℤ) → slice_get (literals_of t.entries) c.args.place ≡ Some l → IsUnit new.live t.entries (variable_of l) id} c.add_step.result (λ id is l at.
+    if_ok_weaker {P = λ id. new ≡ with_clause s id (lit ∷ [])} {Q = λ id. (l : ℤ) → slice_get (literals_of t.entries) c.args.place ≡ Some l → IsUnit new.live t.entries (variable_of l) id} c.push_step.result (λ id is l at.
     let same : lit ≡ l = same_Some lit l (sym c.lit-lit.ensures ∙ at) in
     let P : ℤ → Type 0 = λ m. IsUnit new.live t.entries (variable_of m) id in
     let Q : StoreState → Type 0 = λ x. IsUnit x.live t.entries (variable_of lit) id in
     subst P same (subst Q (sym is) (unit_added s t c.args.place id lit f.read)))
-    c.add_step.ensures.state
+    c.push_step.ensures.state
 
 pub returns-clause-rest : goal.returns-clause-rest
 returns-clause-rest g c =
     let s = g.S.Store.state c.args.store.now in
     let t = c.args.trail.now in
     record {
-      holds = c.add_step.ensures.holds;
-      has_units = either_store_by c.add_step.result (λ x. HasUnits x t c.args.units.now c.args.place) s (g.S.Store.state c.add_step.new.store) (λ id. with_clause s id (c.lit-lit.result ∷ [])) c.add_step.ensures.state c.add_step.ensures.err
+      holds = c.push_step.ensures.holds;
+      has_units = either_store_by c.push_step.result (λ x. HasUnits x t c.args.units.now c.args.place) s (g.S.Store.state c.push_step.new.store) (λ id. with_clause s id (c.lit-lit.result ∷ [])) c.push_step.ensures.state c.push_step.ensures.err
           (λ id. units_more s t c.args.units.now c.args.place id (c.lit-lit.result ∷ []) c.requires.rest.has_units) c.requires.rest.has_units;
     }
 
@@ -123,5 +134,25 @@ returns-clause-store g c =
     let t = c.args.trail.now in
     let u = c.requires.rest.has_units in
     let f = forced_place s.live t c.args.place c.lit-lit.result u.is_trail u.level u.sound c.lit-lit.ensures in
-    either_store_by c.add_step.result (λ x. StoreGrows t s x) s (g.S.Store.state c.add_step.new.store) (λ id. with_clause s id (c.lit-lit.result ∷ [])) c.add_step.ensures.state c.add_step.ensures.err
+    either_store_by c.push_step.result (λ x. StoreGrows t s x) s (g.S.Store.state c.push_step.new.store) (λ id. with_clause s id (c.lit-lit.result ∷ [])) c.push_step.ensures.state c.push_step.ensures.err
     (λ id. store_more t s id c.lit-lit.result (ap (has t.entries) (sym f.read.same) ∙ has_here t.entries c.args.place f.read.entry f.read.at)) (store_stays t s)
+
+pub returns-clause-grows : goal.returns-clause-grows
+returns-clause-grows g c =
+    let s = g.S.Store.state c.args.store.now in
+    let t = c.args.trail.now in
+    let u = c.requires.rest.has_units in
+    let f = forced_place s.live t c.args.place c.lit-lit.result u.is_trail u.level u.sound c.lit-lit.ensures in
+    let reason : f.reason ≡ c.unwrap-reason.result = same_Some f.reason c.unwrap-reason.result (sym (c.known_reason.ensures ∙ ap (reason_of t.entries) c.var.ensures.var ∙ f.is_reason) ∙ c.unwrap-reason.ensures) in
+    let P : ℕ → Type 0 = λ n. IsForced s.live (take c.args.place t.entries) c.lit-lit.result n in
+    let Q : List ℤ → Type 0 = λ hs. GivesClause s.live (c.lit-lit.result ∷ []) hs in
+    let formula = c.args.formula.now in
+    let old = c.args.log.now.steps in
+    let new = c.push_step.new.log.steps in
+    let hints = c.as_slice-hints.result.now in
+    let R : List ℤ → Type 0 = λ hs. list_all is_id_hint hs ≡ true in
+    let gives = subst Q (sym c.as_slice-hints.ensures.value) (gives_unit s.live t c.args.place c.unwrap-reason.result c.lit-lit.result c.gather.new.gathering.hints.items u.is_trail u.level (subst P reason f.forced) c.in_ok-gather.ensures.gives) in
+    let good = c.push_step.ensures.good gives (subst R (sym c.as_slice-hints.ensures.value) c.gather.ensures.in_range) in
+    either c.push_step.result (Grows formula old new) (λ id. new ≡ old ++ Add id (c.lit-lit.result ∷ []) hints ∷ []) (new ≡ old) c.push_step.ensures.pushed c.push_step.ensures.err_steps
+    (λ id follows. grows-one formula old new id (c.lit-lit.result ∷ []) hints follows (omega arith) good c.push_step.ensures.keeps)
+    (λ same. subst (λ (steps : List Step). Grows formula old steps) (sym same) (grows-none formula old))

@@ -1,15 +1,22 @@
-use Rattle.std.proofs.Common.{ℕ, List, Option, length, sym, ap, ◌∙◌, subst}
+use Rattle.std.proofs.Common.{◌≡◌, ℕ, true, List, Option, length, sym, ap, ◌∙◌, subst}
 use Rattle.lls_store.specs.Trail.{TrailState}
 use Rattle.lls_store.specs.Sound.{IsSound}
 use Rattle.lls_store.specs.Store.{StoreState}
-use Rattle.std.specs.Prelude.{Ok}
+use Rattle.std.specs.Prelude.{ℤ, Ok}
+use Rattle.std.specs.List.{list_all}
 use Rattle.lls_prooflog.specs.Spent.{IsGood}
+use Rattle.lls_lemmas.specs.Behind.{GivesClause}
+use Rattle.lls_lemmas.specs.Closing.{is_id_hint}
 use Rattle.lls_lemmas.specs.Lemmas.{GoesOnWell, HasNoFault, IsNotImplied, LemmasState}
 use Rattle.lls_lemmas.specs.Units.{HasUnits}
 use Rattle.lls_lemmas.proofs.Addable.{not_implied}
 use Rattle.lls_lemmas.proofs.Loaded.{engine_added}
-use Rattle.lls_lemmas.proofs.Logs.{each-then, well-by_propagation}
+use Rattle.lls_lemmas.proofs.Logs.{adds_by_propagation, each-then, id_hints, well-by_propagation}
 use Rattle.lls_lemmas.proofs.lemmas.Lemmas.add_implied.Goals as goal
+
+-- hints that lead to the lemma lead to it where it is added
+given : (old new : StoreState) (lits gathered hints : List ℤ) → new ≡ old → hints ≡ gathered → GivesClause old.live lits gathered → GivesClause new.live lits hints
+given old new lits gathered hints same as_slice gives = subst (λ (s : StoreState). GivesClause s.live lits hints) (sym same) (subst (λ (hs : List ℤ). GivesClause old.live lits hs) (sym as_slice) gives)
 
 pub try_clause-requires-clause-ready : goal.try_clause-requires-clause-ready
 try_clause-requires-clause-ready g c =
@@ -24,8 +31,18 @@ try_clause-requires-clause-ready g c =
       marks_vars = i.marks_vars;
     }
 
-pub add_step-requires-clause-sound : goal.add_step-requires-clause-sound
-add_step-requires-clause-sound g c =
+pub push_step-requires-clause-adds : goal.push_step-requires-clause-adds
+push_step-requires-clause-adds g c =
+    let implied = c.in_ok-implied.was ∙ ap Ok c.if-not-implied.false in
+    adds_by_propagation (g.S.Store.state c.try_clause.new.store).live c.args.lits.now c.as_slice-2.result.now (given (g.S.Store.state c.self.inside.store) (g.S.Store.state c.try_clause.new.store) c.args.lits.now c.try_clause.new.gathering.hints.items c.as_slice-2.result.now c.try_clause.ensures.state c.as_slice-2.ensures.value (c.try_clause.ensures.gives implied))
+
+pub push_step-requires-clause-in_range : goal.push_step-requires-clause-in_range
+push_step-requires-clause-in_range g c =
+    let implied = c.in_ok-implied.was ∙ ap Ok c.if-not-implied.false in
+    (id_hints c.as_slice-2.result.now (subst (λ (hs : List ℤ). list_all is_id_hint hs ≡ true) (sym c.as_slice-2.ensures.value) (c.try_clause.ensures.in_range implied))).0
+
+pub push_step-requires-clause-sound : goal.push_step-requires-clause-sound
+push_step-requires-clause-sound g c =
     let rest = c.self.invariant.1.rest (ap (λ (x : LemmasState). x.refuted) c.self.view_is ∙ c.requires.going) in
     let e = c.try_clause.ensures in
     subst (λ (t : TrailState). IsSound (g.S.Store.state c.try_clause.new.store).live t) (sym e.trail) (subst (λ (s : StoreState). IsSound s.live c.self.inside.trail) (sym e.state) rest.has_units.sound)
@@ -35,13 +52,15 @@ invariant_of-self-2 g c =
     let inside = c.self.inside in
     let going = ap (λ (x : LemmasState). x.refuted) c.self.view_is ∙ c.requires.going in
     let i = c.self.invariant.1 in
+    let implied = c.in_ok-implied.was ∙ ap Ok c.if-not-implied.false in
+    let good = c.push_step.ensures.good (given (g.S.Store.state c.self.inside.store) (g.S.Store.state c.try_clause.new.store) c.args.lits.now c.try_clause.new.gathering.hints.items c.as_slice-2.result.now c.try_clause.ensures.state c.as_slice-2.ensures.value (c.try_clause.ensures.gives implied)) (subst (λ (hs : List ℤ). list_all is_id_hint hs ≡ true) (sym c.as_slice-2.ensures.value) (c.try_clause.ensures.in_range implied)) in
     let t = c.try_clause.ensures in (
-      c.add_step.ensures.tracked,
-      engine_added inside.formula.now c.add_step.new.log.steps (g.S.Store.state inside.store) (g.S.Store.state c.try_clause.new.store) (g.S.Store.state c.add_step.new.store) inside.trail c.try_clause.new.trail inside.units.ids.items inside.units.done c.add_step.new.last c.in_ok-add_step.field-0 c.hash_of-hash.new.marks.vars c.args.lits.now
+      c.push_step.ensures.tracked,
+      engine_added inside.formula.now c.push_step.new.log.steps (g.S.Store.state inside.store) (g.S.Store.state c.try_clause.new.store) (g.S.Store.state c.push_step.new.store) inside.trail c.try_clause.new.trail inside.units.ids.items inside.units.done c.push_step.new.last c.in_ok-push_step.field-0 c.hash_of-hash.new.marks.vars c.args.lits.now
           inside.has_redundant inside.refuted going
-          (each-then HasNoFault inside.formula.now inside.log.steps c.add_step.new.log.steps i.well (well-by_propagation inside.formula.now inside.log.steps c.add_step.new.log.steps c.add_step.ensures.grows.well))
-          (λ none. each-then IsGood inside.formula.now inside.log.steps c.add_step.new.log.steps (i.good none) c.add_step.ensures.grows.well)
-          (i.rest going).has_units t.trail t.state c.in_ok-add_step.ensures.state c.add_step.ensures.holds
+          (each-then HasNoFault inside.formula.now inside.log.steps c.push_step.new.log.steps i.well (well-by_propagation inside.formula.now inside.log.steps c.push_step.new.log.steps good))
+          (λ none. each-then IsGood inside.formula.now inside.log.steps c.push_step.new.log.steps (i.good none) good)
+          (i.rest going).has_units t.trail t.state c.in_ok-push_step.ensures.state c.push_step.ensures.holds
           (c.hash_of-hash.ensures.vars ∙ t.vars ∙ i.marks_vars),
     )
 
@@ -54,5 +73,7 @@ returns-then-not-implied-clause-not_implied g c = λ _.
 
 pub returns-clause-well : goal.returns-clause-well
 returns-clause-well g c =
+    let implied = c.in_ok-implied.was ∙ ap Ok c.if-not-implied.false in
+    let good = c.push_step.ensures.good (given (g.S.Store.state c.self.inside.store) (g.S.Store.state c.try_clause.new.store) c.args.lits.now c.try_clause.new.gathering.hints.items c.as_slice-2.result.now c.try_clause.ensures.state c.as_slice-2.ensures.value (c.try_clause.ensures.gives implied)) (subst (λ (hs : List ℤ). list_all is_id_hint hs ≡ true) (sym c.as_slice-2.ensures.value) (c.try_clause.ensures.in_range implied)) in
     let inside = c.self.inside in
-    subst (λ (x : LemmasState). GoesOnWell x.formula x.steps c.add_step.new.log.steps) c.self.view_is (well-by_propagation inside.formula.now inside.log.steps c.add_step.new.log.steps c.add_step.ensures.grows.well)
+    subst (λ (x : LemmasState). GoesOnWell x.formula x.steps c.push_step.new.log.steps) c.self.view_is (well-by_propagation inside.formula.now inside.log.steps c.push_step.new.log.steps good)

@@ -2,7 +2,7 @@ use Rattle.std.proofs.Common.{List, ap, ◌∙◌, subst}
 use Rattle.lls_lit.specs.Marked.{Marked}
 use Rattle.lls_prooflog.specs.Log.{Logged}
 use Rattle.lls_prooflog.specs.declared.step.Step.{Step}
-use Rattle.lls_lemmas.specs.Lemmas.{KeepsLive}
+use Rattle.lls_lemmas.specs.Lemmas.{AddsUnits, KeepsLive}
 use Rattle.lls_lemmas.proofs.Loaded.{engine_start}
 use Rattle.lls_lemmas.proofs.lemmas.Lemmas.new.Goals as goal
 
@@ -18,3 +18,7 @@ invariant_of-lemmas g c =
 pub returns-clause-keeps : goal.returns-clause-keeps
 returns-clause-keeps g c =
     subst (λ (old : List Step). KeepsLive c.args.formula.now old c.settle.new.self.steps) (ap (λ (l : Logged). l.steps) c.new-log.ensures) c.settle.ensures.keeps
+
+pub returns-clause-units : goal.returns-clause-units
+returns-clause-units g c =
+    subst (λ (old : List Step). AddsUnits c.args.formula.now old c.settle.new.self.steps) (ap (λ (l : Logged). l.steps) c.new-log.ensures) c.settle.ensures.units

@@ -1,9 +1,9 @@
 use Rattle.std.proofs.Common.{◌≡◌, true, false, sym, ap, ◌∙◌, subst}
 use Rattle.std.specs.Prelude.{Ok}
 use Rattle.lls_prooflog.specs.Spent.{IsGood}
-use Rattle.lls_lemmas.specs.Lemmas.{GoesOnWell, HasNoFault, LemmasState}
+use Rattle.lls_lemmas.specs.Lemmas.{AddsUnit, AddsUnits, GoesOnWell, HasNoFault, LemmasState}
 use Rattle.lls_lemmas.proofs.Loaded.{engine_going}
-use Rattle.lls_lemmas.proofs.Logs.{each-then, well-by_propagation}
+use Rattle.lls_lemmas.proofs.Logs.{each-then, well-by_propagation, well-none}
 use Rattle.lls_lemmas.proofs.lemmas.Lemmas.settle.Goals as goal
 
 pub invariant_of-self : goal.invariant_of-self
@@ -71,3 +71,18 @@ returns-in-Open-clause-well g c =
 pub returns-in-Refuted-clause-well : goal.returns-in-Refuted-clause-well
 returns-in-Refuted-clause-well g c =
     subst (λ (x : LemmasState). GoesOnWell x.formula x.steps c.settle.new.log.steps) c.self.view_is (well-by_propagation c.self.inside.formula.now c.self.inside.log.steps c.settle.new.log.steps c.settle.ensures.grows.well)
+
+pub returns-in_err-settled-clause-units : goal.returns-in_err-settled-clause-units
+returns-in_err-settled-clause-units g c = subst (λ (x : LemmasState). AddsUnits x.formula x.steps c.settle.new.log.steps) c.self.view_is c.settle.ensures.grows.units
+
+pub returns-in-Open-clause-units : goal.returns-in-Open-clause-units
+returns-in-Open-clause-units g c = subst (λ (x : LemmasState). AddsUnits x.formula x.steps c.settle.new.log.steps) c.self.view_is c.settle.ensures.grows.units
+
+pub returns-in-Refuted-clause-units : goal.returns-in-Refuted-clause-units
+returns-in-Refuted-clause-units g c = subst (λ (x : LemmasState). AddsUnits x.formula x.steps c.settle.new.log.steps) c.self.view_is c.settle.ensures.grows.units
+
+pub returns-then-self-clause-units : goal.returns-then-self-clause-units
+returns-then-self-clause-units g c = well-none AddsUnit c.args.self.now.formula c.args.self.now.steps
+
+pub returns-then-self-2-clause-units : goal.returns-then-self-2-clause-units
+returns-then-self-2-clause-units g c = well-none AddsUnit c.args.self.now.formula c.args.self.now.steps
