@@ -4,7 +4,7 @@ ghost use Rattle.lls_lit.specs.Formula.{IsUnsatisfiable};
 ghost use Rattle.lls_prooflog.specs.Log.{ReadsAs, log_text};
 ghost use Rattle.lls_prooflog.specs.Spent.{EachStep, IsGood, log_start};
 ghost use Rattle.lls_lemmas.specs.Lemmas.{AddsUnits, EndsEmpty, GoesOnWell, HasNoFault, KeepsLive};
-ghost use Rattle.lls_hinting.specs.Hinted.{IsHinted, IsHintsText};
+ghost use Rattle.lls_hinting.specs.Hinted.{IsHinted, IsHintsText, hints_text};
 ghost use Rattle.lls_hinting.specs.Judging.{IsProved, IsResting};
 ghost use Rattle.lls_hinting.specs.Moment.{files_at, shelf_at};
 ghost use Rattle.lls_hinting.specs.Outcome.{RequestComesTo};
@@ -196,13 +196,25 @@ fn printed(alloc: Global, log: &Log, given: u64, tally: Tally) -> Result<Hints, 
     ensures said { IfOk result (λ hints. IsHintsText log.now.steps hints.text.items) }
 {
     let kept = log.additions();
-    let reasons = tally.reasons;
-    let unknown = tally.unknown;
+    let text = hints_text(alloc, kept, given, tally.reasons, tally.unknown)?;
+    Ok(Hints {
+        bytes: print_log(alloc, log)?,
+        text,
+    })
+}
+
+// What is said of a proof that has so many additions of so many, where so many deletions were passed over.
+fn hints_text(
+    alloc: Global,
+    kept: u64,
+    given: u64,
+    reasons: u64,
+    unknown: u64,
+) -> Result<Vec<u8>, Memory>
+    ensures { IfOk result (λ text. text.items ≡ hints_text kept given reasons unknown) }
+{
     let text = format!(in alloc;
         "kept {kept} of {given}\npassed over {reasons} deletions of reasons and {unknown} of unknown clauses\n"
     )?;
-    Ok(Hints {
-        bytes: print_log(alloc, log)?,
-        text: text.into_bytes(),
-    })
+    Ok(text.into_bytes())
 }
