@@ -1,5 +1,5 @@
 -- What follows from how a run ends.
-use Rattle.std.proofs.Common.{◌≡◌, ◌≤◌, ℕ, Option, None, Some, Result, Ok, Err, refl, ap, sym, subst, ◌∙◌, inl, inr, arith, ◌⊎◌}
+use Rattle.std.proofs.Common.{◌≡◌, ◌≢◌, ◌≤◌, ℕ, Option, None, Some, Result, Ok, Err, refl, ap, sym, subst, ◌∙◌, inl, inr, arith, ◌⊎◌}
 use Rattle.std.specs.Prelude.{IsErr}
 use Rattle.lls_base.specs.Faults.{Rose}
 use Rattle.lls_base.specs.Shelf.{Files}
@@ -26,7 +26,7 @@ use Rattle.lls_cli.specs.Question.{Asking, of_none, of_one, of_two, asking_of, q
 use Rattle.lls_cli.specs.Moment.{ShelfMoment, SinkMoment, Moment, files_at}
 use Rattle.lls_cli.specs.Ends.{FileFailed, WroteFile, IsDecided, End, refused, lacked, input_failed, ahead_failed, answered, file_failed, output_failed, IsEndBehind, Ends, ahead_of, IsEnd}
 use Rattle.lls_cli.proofs.Behind.{answer_of, WroteAhead, ahead_faults, lacking}
-use Rattle.lls_cli.specs.Claims.{OfQuestion, IsSilent, IsAnswered, IsFaultStatus, MissesFile, HasCause, NothingFailed, CountsNeverFall}
+use Rattle.lls_cli.specs.Claims.{OfQuestion, IsSilent, IsAnswered, IsFaultStatus, MissesFile, HasCause, NoCallFailed, NothingFailed, CountsNeverFall}
 
 words_status-is : (error : WordsError) → IsFaultStatus (words_status error)
 words_status-is words.Memory = tt
@@ -413,3 +413,32 @@ counts_stay (Err error) before after status (ahead_failed fault, ended) = absurd
 counts_stay (Err error) before after status (answered answer, ended) = absurd ended
 counts_stay (Err error) before after status (file_failed answer fault, ended) = absurd ended
 counts_stay (Err error) before after status (output_failed answer, ended) = absurd ended
+
+same_sink_faults : (before after : SinkMoment) → after ≡ before → after.faults ≡ before.faults
+same_sink_faults before after e = ap (λ (s : SinkMoment). s.faults) e
+
+same_shelf_faults : (before after : ShelfMoment) → after ≡ before → after.faults ≡ before.faults
+same_shelf_faults before after e = ap (λ (s : ShelfMoment). s.faults) e
+
+-- what failed is said: at any other status no call of the shelf or of the standard output failed
+pub no_call_failed : (job : Result Job WordsError) (before after : Moment) (status : Status) → (end : End) × IsEnd job before after status end → status ≢ statuses.Outside → NoCallFailed before after
+no_call_failed (Ok job) before after status (refused fault, ended) other = record { shelf = ended.1.2.shelf_faults; out = same_sink_faults _ _ ended.1.2.out }
+no_call_failed (Ok job) before after status (lacked, ended) other =
+    let behind_it = lacking job (files_at before.shelf) before after status ended.1 in
+    record { shelf = behind_it.lacks.shelf_faults ∙ ahead_faults behind_it.ahead before.shelf behind_it.mid behind_it.wrote; out = same_sink_faults _ _ behind_it.lacks.out }
+no_call_failed (Ok job) before after status (input_failed fault, ended) other = absurd (other ended.1.1.status_is)
+no_call_failed (Ok job) before after status (ahead_failed fault, ended) other = absurd (other (ahead_part ended.1.0 before after status fault ended.1.2).status_is)
+no_call_failed (Ok job) before after status (answered answer, ended) other =
+    let given = answer_of job (files_at before.shelf) before after status (answered answer) tt ended.1 in
+    record { shelf = given.ended.1.shelf.faults ∙ ahead_faults (ahead_of ended.1.0) before.shelf given.mid given.wrote; out = given.ended.1.out_faults }
+no_call_failed (Ok job) before after status (file_failed answer fault, ended) other =
+    absurd (other (answer_of job (files_at before.shelf) before after status (file_failed answer fault) tt ended.1).ended.1.status_is)
+no_call_failed (Ok job) before after status (output_failed answer, ended) other =
+    absurd (other (answer_of job (files_at before.shelf) before after status (output_failed answer) tt ended.1).ended.1.status_is)
+no_call_failed (Err error) before after status (refused fault, ended) other = record { shelf = same_shelf_faults _ _ ended.1; out = same_sink_faults _ _ ended.2.out }
+no_call_failed (Err error) before after status (lacked, ended) other = record { shelf = same_shelf_faults _ _ ended.0; out = same_sink_faults _ _ ended.1.out }
+no_call_failed (Err error) before after status (input_failed fault, ended) other = absurd ended
+no_call_failed (Err error) before after status (ahead_failed fault, ended) other = absurd ended
+no_call_failed (Err error) before after status (answered answer, ended) other = absurd ended
+no_call_failed (Err error) before after status (file_failed answer fault, ended) other = absurd ended
+no_call_failed (Err error) before after status (output_failed answer, ended) other = absurd ended

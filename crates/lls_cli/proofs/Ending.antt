@@ -20,9 +20,9 @@ use Rattle.lls_cli.specs.declared.status.Status.{Status}
 use Rattle.lls_cli.specs.declared.status.Status.TheVariants as statuses
 use Rattle.lls_cli.specs.Fault.{fault_line, words_fault}
 use Rattle.lls_cli.specs.Answer.{IsAnswer}
-use Rattle.lls_cli.specs.Question.{Asks}
+use Rattle.lls_cli.specs.Question.{Asks, default_effort}
 use Rattle.lls_cli.specs.Moment.{ShelfMoment, SinkMoment, Moment, moment, files_at}
-use Rattle.lls_cli.specs.Ends.{GrewBy, KeepsFiles, LacksMemory, IsOfInput, WroteFile, FileFailed, LeavesPart, LeavesShelf, HasInputs, IsDecided, with_file, End, refused, lacked, input_failed, ahead_failed, answered, file_failed, output_failed, IsEndOf, IsEndBehind, Ends, ahead_of, IsEnd}
+use Rattle.lls_cli.specs.Ends.{GrewBy, KeepsFiles, KeepsInput, LacksMemory, IsOfInput, WroteFile, FileFailed, LeavesPart, LeavesShelf, HasInputs, IsDecided, with_file, End, refused, lacked, input_failed, ahead_failed, answered, file_failed, output_failed, IsEndOf, IsEndBehind, Ends, ahead_of, IsEnd}
 use Rattle.lls_cli.specs.Steps.{Reads, Stops, ComesTo, Says, IsDelivery, LeavesPrinting}
 
 -- a right answer that was delivered
@@ -39,18 +39,24 @@ delivered question answer before after status right (ahead_failed fault, d) = ab
 pub KeepsFiles-refl : (shelf : ShelfMoment) → KeepsFiles shelf shelf
 KeepsFiles-refl shelf = record { files = refl; target = refl; has_output = refl }
 
+pub KeepsInput-refl : (shelf : ShelfMoment) → KeepsInput shelf shelf
+KeepsInput-refl shelf = record { rest = refl; has_input = refl }
+
+pub KeepsInput-trans : {before mid after : ShelfMoment} → KeepsInput before mid → KeepsInput mid after → KeepsInput before after
+KeepsInput-trans first second = record { rest = second.rest ∙ first.rest; has_input = second.has_input ∙ first.has_input }
+
 -- want of memory, with the shelf and the output as they were
 pub lacks : (shelf : ShelfMoment) (out err_before err_after : SinkMoment) (status : Status) → shelf.faults < 2 ^ 64 → status ≡ statuses.Memory
     → GrewBy (fault_line faults.Memory) err_before err_after → LacksMemory (moment shelf out err_before) (moment shelf out err_after) status
 lacks shelf out err_before err_after status fits is line =
-    record { status_is = is; shelf = KeepsFiles-refl shelf; shelf_counts = Counts-refl shelf.faults fits; out = refl; err = line }
+    record { status_is = is; shelf = KeepsFiles-refl shelf; shelf_faults = refl; shelf_counts = Counts-refl shelf.faults fits; out = refl; err = line }
 
 -- words that are refused, or lack memory
 words_refused : (error : WordsError) (shelf : ShelfMoment) (out err_before err_after : SinkMoment) (status : Status) → shelf.faults < 2 ^ 64
     → Says (faults.Words error) status err_before err_after → (end : End) × IsEnd (Err error) (moment shelf out err_before) (moment shelf out err_after) status end
 words_refused error shelf out err_before err_after status fits (inl said) =
     (refused (faults.Words error), (refl, refl, record { status_is = said.0; shelf = KeepsFiles-refl shelf; shelf_faults = refl; out = refl; err = said.1 }))
-words_refused error shelf out err_before err_after status fits (inr said) = (lacked, (refl, lacks shelf out err_before err_after status fits said.0 said.1))
+words_refused error shelf out err_before err_after status fits (inr said) = (lacked, (refl, lacks shelf out err_before err_after status fits said.1 said.2))
 
 LeavesShelf-refl : (job : Job) (shelf : ShelfMoment) → LeavesShelf job shelf shelf
 LeavesShelf-refl (jobs.Rule rule) shelf = refl
@@ -60,7 +66,7 @@ LeavesShelf-refl (jobs.Cnf one rule demands form) shelf = tt
 LeavesShelf-refl (jobs.Lrat one two) shelf = tt
 LeavesShelf-refl (jobs.Search one two rule demands form budget keep_all rle crew) shelf = tt
 LeavesShelf-refl (jobs.Sat one two budget keep_all) shelf = tt
-LeavesShelf-refl (jobs.Make seed size one two) shelf = tt
+LeavesShelf-refl (jobs.Make seed size one two) shelf = KeepsInput-refl shelf
 LeavesShelf-refl (jobs.Least one two rule demands form budget keep_all rle) shelf = tt
 LeavesShelf-refl (jobs.Loose one two low high demands form budget keep_all rle) shelf = tt
 LeavesShelf-refl (jobs.LooseCheck one two low high demands form) shelf = tt
@@ -70,16 +76,17 @@ LeavesShelf-refl (jobs.Trim one two three) shelf = tt
 words_lack : (job : Result Job WordsError) (shelf : ShelfMoment) (out err_before err_after : SinkMoment) (status : Status) → shelf.faults < 2 ^ 64
     → Says faults.Memory status err_before err_after → (end : End) × IsEnd job (moment shelf out err_before) (moment shelf out err_after) status end
 words_lack (Ok job) shelf out err_before err_after status fits (inl said) = (lacked, (LeavesShelf-refl job shelf, inl (lacks shelf out err_before err_after status fits said.0 said.1)))
-words_lack (Ok job) shelf out err_before err_after status fits (inr said) = (lacked, (LeavesShelf-refl job shelf, inl (lacks shelf out err_before err_after status fits said.0 said.1)))
+words_lack (Ok job) shelf out err_before err_after status fits (inr said) = (lacked, (LeavesShelf-refl job shelf, inl (lacks shelf out err_before err_after status fits said.1 said.2)))
 words_lack (Err error) shelf out err_before err_after status fits (inl said) = (lacked, (refl, lacks shelf out err_before err_after status fits said.0 said.1))
-words_lack (Err error) shelf out err_before err_after status fits (inr said) = (lacked, (refl, lacks shelf out err_before err_after status fits said.0 said.1))
+words_lack (Err error) shelf out err_before err_after status fits (inr said) = (lacked, (refl, lacks shelf out err_before err_after status fits said.1 said.2))
 
 -- a job whose reading stopped for want of memory, or where the line of a fault lacked it
 stopped_lacking : (job : Job) (before after : ShelfMoment) (out err_before err_after : SinkMoment) (status : Status)
-    → LeavesShelf job before after → KeepsFiles before after → Counts before.faults after.faults → status ≡ statuses.Memory → GrewBy (fault_line faults.Memory) err_before err_after
+    → LeavesShelf job before after → KeepsFiles before after → Counts before.faults after.faults → after.faults ≡ before.faults → status ≡ statuses.Memory
+    → GrewBy (fault_line faults.Memory) err_before err_after
     → (end : End) × IsEnd (Ok job) (moment before out err_before) (moment after out err_after) status end
-stopped_lacking job before after out err_before err_after status leaves kept counts is line =
-    (lacked, (leaves, inl (record { status_is = is; shelf = kept; shelf_counts = counts; out = refl; err = line })))
+stopped_lacking job before after out err_before err_after status leaves kept counts same is line =
+    (lacked, (leaves, inl (record { status_is = is; shelf = kept; shelf_faults = same; shelf_counts = counts; out = refl; err = line })))
 
 -- a job whose inputs were refused
 stopped_refused : (job : Job) (fault : Fault) (before after : ShelfMoment) (out err_before err_after : SinkMoment) (status : Status)
@@ -89,7 +96,7 @@ stopped_refused : (job : Job) (fault : Fault) (before after : ShelfMoment) (out 
 stopped_refused job fault before after out err_before err_after status decided leaves kept counts asked (inl said) =
     (refused fault, (leaves, (decided, asked.0, record { status_is = said.0; shelf = kept; shelf_faults = asked.1; out = refl; err = said.1 })))
 stopped_refused job fault before after out err_before err_after status decided leaves kept counts asked (inr said) =
-    stopped_lacking job before after out err_before err_after status leaves kept counts said.0 said.1
+    stopped_lacking job before after out err_before err_after status leaves kept counts asked.1 said.1 said.2
 
 -- a job whose input failed
 stopped_failing : (job : Job) (fault : OutsideFault) (before after : ShelfMoment) (out err_before err_after : SinkMoment) (status : Status)
@@ -114,8 +121,7 @@ stopped_failing job fault before after out err_before err_after status leaves ke
     ),
   ),
 )
-stopped_failing job fault before after out err_before err_after status leaves kept counts inputs of_input rose (inr said) =
-    stopped_lacking job before after out err_before err_after status leaves kept counts said.0 said.1
+stopped_failing job fault before after out err_before err_after status leaves kept counts inputs of_input rose (inr said) = absurd said.0
 
 -- a job whose reading stopped, and the fault was said
 pub stopped : (job : Job) (fault : Fault) (before after : ShelfMoment) (out err_before err_after : SinkMoment) (status : Status)
@@ -123,9 +129,9 @@ pub stopped : (job : Job) (fault : Fault) (before after : ShelfMoment) (out err_
     → Stops fault (λ f. Asks job (files_at before) (Err f)) before after → Says fault status err_before err_after
     → (end : End) × IsEnd (Ok job) (moment before out err_before) (moment after out err_after) status end
 stopped job faults.Memory before after out err_before err_after status leaves kept counts inputs stops (inl said) =
-    stopped_lacking job before after out err_before err_after status leaves kept counts said.0 said.1
+    stopped_lacking job before after out err_before err_after status leaves kept counts stops said.0 said.1
 stopped job faults.Memory before after out err_before err_after status leaves kept counts inputs stops (inr said) =
-    stopped_lacking job before after out err_before err_after status leaves kept counts said.0 said.1
+    stopped_lacking job before after out err_before err_after status leaves kept counts stops said.1 said.2
 stopped job (faults.Outside outside.OpenFailed) before after out err_before err_after status leaves kept counts inputs stops said =
     stopped_failing job outside.OpenFailed before after out err_before err_after status leaves kept counts inputs stops.1 stops.0 said
 stopped job (faults.Outside outside.ReadFailed) before after out err_before err_after status leaves kept counts inputs stops said =
@@ -181,7 +187,11 @@ leaves_both (jobs.Cnf one rule demands form) question files before mid after ask
 leaves_both (jobs.Lrat one two) question files before mid after asked first second = tt
 leaves_both (jobs.Search one two rule demands form budget keep_all rle crew) question files before mid after asked first second = tt
 leaves_both (jobs.Sat one two budget keep_all) question files before mid after asked first second = tt
-leaves_both (jobs.Make seed size one two) question files before mid after asked first second = tt
+leaves_both (jobs.Make seed size one two) question files before mid after asked first second =
+    let same : question ≡ questions.Make seed size one (default_effort two) = cc in
+    let P : Question → Type 0 = λ q. LeavesPrinting q mid after in
+    let last : KeepsInput mid after = subst P same second in
+    KeepsInput-trans first last
 leaves_both (jobs.Least one two rule demands form budget keep_all rle) question files before mid after asked first second = tt
 leaves_both (jobs.Loose one two low high demands form budget keep_all rle) question files before mid after asked first second = tt
 leaves_both (jobs.LooseCheck one two low high demands form) question files before mid after asked first second = tt
@@ -219,6 +229,7 @@ LacksMemory-after : (before mid after : ShelfMoment) (out_before out_after err_b
 LacksMemory-after before mid after out_before out_after err_before err_after status kept same lacking = record {
   status_is = lacking.status_is;
   shelf = record { files = lacking.shelf.files ∙ kept.files; target = lacking.shelf.target ∙ kept.target; has_output = lacking.shelf.has_output ∙ kept.has_output };
+  shelf_faults = lacking.shelf_faults ∙ same;
   shelf_counts = subst (λ n. Counts n after.faults) same lacking.shelf_counts;
   out = lacking.out;
   err = lacking.err;

@@ -42,7 +42,7 @@ Makes files name limit rule demands = MadeOfOne files name limit (λ first. and_
 stops : (files : Option Files) (name : List ℕ) (limit : ℕ) (rule : List Bool) (demands : Demands) (bytes : List ℕ) (fault : Fault) (before after : ShelfMoment)
     → IsInput files name limit (Ok bytes) → after.faults ≡ before.faults → (fault ≢ faults.Memory → problem_in rule demands bytes ≡ Err fault)
     → Stops fault (λ f. Makes files name limit rule demands (Err f)) before after
-stops files name limit rule demands bytes faults.Memory before after input same gives = tt
+stops files name limit rule demands bytes faults.Memory before after input same gives = same
 stops files name limit rule demands bytes (faults.Posed error) before after input same gives =
     (record { input = Ok bytes; input_is = input; made = sym (gives (λ is. cc)) }, same)
 stops files name limit rule demands bytes (faults.Demands error) before after input same gives =

@@ -19,6 +19,7 @@ use Rattle.lls_cli.specs.declared.status.Status.TheVariants as statuses
 use Rattle.lls_cli.specs.Answer.{judge_answer, Holds, IsAnswer, NoHolds, YesHolds}
 use Rattle.lls_cli.specs.Question.{formula_asked, formula_opened}
 use Rattle.lls_cli.specs.Moment.{ShelfMoment}
+use Rattle.lls_cli.specs.Ends.{KeepsInput}
 use Rattle.lls_cli.specs.Steps.{LeavesAlone, LeavesPrinting}
 
 -- a status that needs no more than a refutation does, but where the proof is accepted
@@ -74,20 +75,20 @@ judged_answer problem history judgement answer is meets broken made = record {
 }
 
 -- an answer that prints a rule has no file
-pub leaves_printing : (question : Question) (answer : Answer) (before after : ShelfMoment) → IsAnswer question answer → LeavesAlone answer.file before after → LeavesPrinting question before after
-leaves_printing (questions.Print rule) answer before after right alone =
+pub leaves_printing : (question : Question) (answer : Answer) (before after : ShelfMoment) → IsAnswer question answer → LeavesAlone answer.file before after → KeepsInput before after → LeavesPrinting question before after
+leaves_printing (questions.Print rule) answer before after right alone input =
     subst (λ file. LeavesAlone file before after) (ap (λ (a : Answer). a.file) right.answers) alone
-leaves_printing (questions.Check asked proof) answer before after right alone = tt
-leaves_printing (questions.Refute formula proof) answer before after right alone = tt
-leaves_printing (questions.Judge problem history) answer before after right alone = tt
-leaves_printing (questions.Search asked effort rle) answer before after right alone = tt
-leaves_printing (questions.Decide formula effort) answer before after right alone = tt
-leaves_printing (questions.Encode asked) answer before after right alone = tt
-leaves_printing (questions.Make seed size name effort) answer before after right alone = tt
-leaves_printing (questions.Least asked effort rle) answer before after right alone = tt
-leaves_printing (questions.Loose asked effort rle) answer before after right alone = tt
-leaves_printing (questions.LooseCheck asked proof) answer before after right alone = tt
-leaves_printing (questions.Trim formula proof output) answer before after right alone = tt
+leaves_printing (questions.Check asked proof) answer before after right alone input = tt
+leaves_printing (questions.Refute formula proof) answer before after right alone input = tt
+leaves_printing (questions.Judge problem history) answer before after right alone input = tt
+leaves_printing (questions.Search asked effort rle) answer before after right alone input = tt
+leaves_printing (questions.Decide formula effort) answer before after right alone input = tt
+leaves_printing (questions.Encode asked) answer before after right alone input = tt
+leaves_printing (questions.Make seed size name effort) answer before after right alone input = input
+leaves_printing (questions.Least asked effort rle) answer before after right alone input = tt
+leaves_printing (questions.Loose asked effort rle) answer before after right alone input = tt
+leaves_printing (questions.LooseCheck asked proof) answer before after right alone input = tt
+leaves_printing (questions.Trim formula proof output) answer before after right alone input = tt
 
 -- nor does a run that gives no answer touch the shelf
 pub leaves_printing-refl : (question : Question) (shelf : ShelfMoment) → LeavesPrinting question shelf shelf
@@ -98,7 +99,7 @@ leaves_printing-refl (questions.Judge problem history) shelf = tt
 leaves_printing-refl (questions.Search asked effort rle) shelf = tt
 leaves_printing-refl (questions.Decide formula effort) shelf = tt
 leaves_printing-refl (questions.Encode asked) shelf = tt
-leaves_printing-refl (questions.Make seed size name effort) shelf = tt
+leaves_printing-refl (questions.Make seed size name effort) shelf = record { rest = refl; has_input = refl }
 leaves_printing-refl (questions.Least asked effort rle) shelf = tt
 leaves_printing-refl (questions.Loose asked effort rle) shelf = tt
 leaves_printing-refl (questions.LooseCheck asked proof) shelf = tt

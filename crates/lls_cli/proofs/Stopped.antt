@@ -11,7 +11,7 @@ use Rattle.lls_cli.specs.Question.{IsInput, MadeOfOne, MadeOf, input_of}
 use Rattle.lls_cli.specs.Steps.{Reads, Stops}
 
 pub Stops-along : (fault : Fault) (One Two : Fault → Type 0) (before after : ShelfMoment) → (One fault → Two fault) → Stops fault One before after → Stops fault Two before after
-Stops-along faults.Memory One Two before after along stops = tt
+Stops-along faults.Memory One Two before after along stops = stops
 Stops-along (faults.Outside outside.OpenFailed) One Two before after along stops = stops
 Stops-along (faults.Outside outside.ReadFailed) One Two before after along stops = stops
 Stops-along (faults.Outside outside.NoFile) One Two before after along stops = (along stops.0, stops.1)
@@ -34,7 +34,7 @@ Reads-along One Two (Err fault) before after along read =
 
 -- as many calls had failed before another moment
 pub Stops-from : (fault : Fault) (Says : Fault → Type 0) (before opened after : ShelfMoment) → opened.faults ≡ before.faults → Stops fault Says opened after → Stops fault Says before after
-Stops-from faults.Memory Says before opened after same stops = tt
+Stops-from faults.Memory Says before opened after same stops = stops ∙ same
 Stops-from (faults.Outside outside.OpenFailed) Says before opened after same stops = (rw same at stops.0, stops.1)
 Stops-from (faults.Outside outside.ReadFailed) Says before opened after same stops = (rw same at stops.0, stops.1)
 Stops-from (faults.Outside outside.NoFile) Says before opened after same stops = (stops.0, stops.1 ∙ same)

@@ -5,14 +5,14 @@ use Rattle.std.specs.Io.KnownBytes.{append_known}
 use Rattle.std.specs.Option.{option_map}
 use Rattle.std.specs.FinMap as map
 use Rattle.lls_base.specs.Faults.{Counts, Rose}
-use Rattle.lls_base.specs.Shelf.{Contents}
+use Rattle.lls_base.specs.Shelf.{Contents, known_rest}
 use Rattle.lls_base.specs.Writing.{with_output, without_output}
 use Rattle.lls_base.specs.declared.sink.Failed.{Failed}
 use Rattle.lls_base.specs.declared.writing.FileFault.{FileFault}
 use Rattle.lls_base.specs.declared.writing.FileFault.TheVariants as writes
 use Rattle.lls_cli.specs.declared.answer_file.AnswerFile.{AnswerFile}
 use Rattle.lls_cli.specs.Moment.{SinkMoment, ShelfMoment}
-use Rattle.lls_cli.specs.Ends.{GrewBy}
+use Rattle.lls_cli.specs.Ends.{GrewBy, KeepsInput}
 use Rattle.lls_cli.specs.Steps.{Unwritten, file_fault}
 
 pub grew_by : (answer : Result (Unit {0}) Failed) (text : List ℕ) (before after : SinkMoment)
@@ -50,3 +50,25 @@ unwritten writes.WriteFailed file before after created written counts rose =
       counts = counts;
       rose = rose;
     }
+
+-- what is left of the input is the same there
+rest-without_output : (told : Option Contents) → known_rest (option_map without_output told) ≡ known_rest told
+rest-without_output None = refl
+rest-without_output (Some c) = refl
+
+rest-with_output : (name bytes : List ℕ) (told : Option Contents) → known_rest (option_map (with_output name bytes) told) ≡ known_rest told
+rest-with_output name bytes None = refl
+rest-with_output name bytes (Some c) = refl
+
+pub input_behind_file : (name bytes : List ℕ) (before after : ShelfMoment) → after.told ≡ option_map (with_output name bytes) before.told → after.has_input ≡ before.has_input
+    → KeepsInput before after
+input_behind_file name bytes before after told input = record { rest = ap known_rest told ∙ rest-with_output name bytes before.told; has_input = input }
+
+pub input_behind_fault : (fault : FileFault) (name bytes : List ℕ) (before after : ShelfMoment)
+    → (fault ≡ writes.CreateFailed → after.told ≡ option_map without_output before.told)
+    → (fault ≡ writes.WriteFailed → (n : ℕ) × (n ≤ length bytes) × (after.told ≡ option_map (with_output name (take n bytes)) before.told))
+    → after.has_input ≡ before.has_input → KeepsInput before after
+input_behind_fault writes.CreateFailed name bytes before after created written input =
+    record { rest = ap known_rest (created refl) ∙ rest-without_output before.told; has_input = input }
+input_behind_fault writes.WriteFailed name bytes before after created written input =
+    let part = written refl in input_behind_file name (take part.0 bytes) before after part.2 input

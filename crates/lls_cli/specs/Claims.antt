@@ -233,6 +233,11 @@ abbrev pub HasCause : Result Job WordsError → Moment → Moment → Type 0
 HasCause job before after =
     Rose before.shelf.faults after.shelf.faults ⊎ Rose before.out.faults after.out.faults ⊎ MissesFile job (files_at before.shelf)
 
+-- no call of the shelf or of the standard output failed
+pub record NoCallFailed (before after : Moment) : Type 0 where
+  pub shelf : after.shelf.faults ≡ before.shelf.faults
+  pub out : after.out.faults ≡ before.out.faults
+
 -- nothing failed, and the standard error is as before
 pub record NothingFailed (before after : Moment) : Type 0 where
   pub shelf : after.shelf.faults ≡ before.shelf.faults

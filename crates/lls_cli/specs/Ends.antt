@@ -4,7 +4,7 @@ use Rattle.std.specs.Io.KnownBytes.{append_known}
 use Rattle.std.specs.FinMap as map
 use Rattle.std.specs.Option.{option_map}
 use Rattle.lls_base.specs.Faults.{Counts, Rose}
-use Rattle.lls_base.specs.Shelf.{Files, known_target}
+use Rattle.lls_base.specs.Shelf.{Files, known_rest, known_target}
 use Rattle.lls_words.specs.declared.error.WordsError.{WordsError}
 use Rattle.lls_words.specs.declared.job.Job.{Job}
 use Rattle.lls_words.specs.declared.job.Job.TheVariants as jobs
@@ -50,10 +50,11 @@ pub record Refused (fault : Fault) (before after : Moment) (status : Status) : T
   pub out : after.out ≡ before.out
   pub err : GrewBy (fault_line fault) before.err after.err
 
--- an allocation was refused
+-- an allocation was refused, and no call of the shelf failed
 pub record LacksMemory (before after : Moment) (status : Status) : Type 0 where
   pub status_is : status ≡ statuses.Memory
   pub shelf : KeepsFiles before.shelf after.shelf
+  pub shelf_faults : after.shelf.faults ≡ before.shelf.faults
   pub shelf_counts : Counts before.shelf.faults after.shelf.faults
   pub out : after.out ≡ before.out
   pub err : GrewBy (fault_line faults.Memory) before.err after.err
@@ -170,9 +171,15 @@ HasInputs (jobs.Rule rule) = ⊥
 HasInputs (jobs.Make seed size search_file proof) = ⊥
 HasInputs job = Unit {0}
 
--- the printing of a rule leaves the shelf alone
+-- the shelf's current input is as before, and as much of it is left
+pub record KeepsInput (before after : ShelfMoment) : Type 0 where
+  pub rest : known_rest after.told ≡ known_rest before.told
+  pub has_input : after.has_input ≡ before.has_input
+
+-- the jobs that read no files: the printing of a rule leaves the shelf alone, and the making of a problem its input
 abbrev pub LeavesShelf : Job → ShelfMoment → ShelfMoment → Type 0
 LeavesShelf (jobs.Rule rule) before after = after ≡ before
+LeavesShelf (jobs.Make seed size search_file proof) before after = KeepsInput before after
 LeavesShelf job before after = Unit {0}
 
 -- how a job ends

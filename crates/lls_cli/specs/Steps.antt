@@ -23,11 +23,11 @@ use Rattle.lls_cli.specs.Fault.{fault_line, status_of}
 use Rattle.lls_cli.specs.Question.{Asks}
 use Rattle.lls_cli.specs.Answer.{IsAnswer}
 use Rattle.lls_cli.specs.Moment.{ShelfMoment, SinkMoment, Moment, files_at}
-use Rattle.lls_cli.specs.Ends.{GrewBy, KeepsFiles, LeavesPart, Delivered, FileFailed, OutputFailed, End, refused, lacked, input_failed, ahead_failed, ahead_of, answered, file_failed, output_failed}
+use Rattle.lls_cli.specs.Ends.{GrewBy, KeepsFiles, KeepsInput, LeavesPart, Delivered, FileFailed, OutputFailed, End, refused, lacked, input_failed, ahead_failed, ahead_of, answered, file_failed, output_failed}
 
--- why reading stopped: for want of memory; since a call of the shelf failed; or for what the inputs say, and no call failed
+-- why reading stopped: since a call of the shelf failed; or for want of memory, or for what the inputs say, and no call failed
 abbrev pub Stops : Fault → (Fault → Type 0) → ShelfMoment → ShelfMoment → Type 0
-Stops faults.Memory Says before after = Unit {0}
+Stops faults.Memory Says before after = after.faults ≡ before.faults
 Stops (faults.Outside outside.OpenFailed) Says before after = Rose before.faults after.faults × (after.has_input ≡ false)
 Stops (faults.Outside outside.ReadFailed) Says before after = Rose before.faults after.faults × (after.has_input ≡ true)
 Stops (faults.Outside outside.CreateFailed) Says before after = ⊥
@@ -64,10 +64,16 @@ input_fault (reads.TooLong limit) = faults.TooLong limit
 input_fault reads.Memory = faults.Memory
 input_fault reads.NoFile = faults.Outside outside.NoFile
 
--- a fault is said on the standard error, or want of memory where there was none for its line
+-- a fault whose line takes memory: any but a failure of the outside
+abbrev pub TakesMemory : Fault → Type 0
+TakesMemory (faults.Outside fault) = ⊥
+TakesMemory fault = Unit {0}
+
+-- a fault is said on the standard error, or want of memory where its line takes some and there was none
 abbrev pub Says : Fault → Status → SinkMoment → SinkMoment → Type 0
 Says fault status before after =
-    ((status ≡ status_of fault) × GrewBy (fault_line fault) before after) ⊎ ((status ≡ statuses.Memory) × GrewBy (fault_line faults.Memory) before after)
+    ((status ≡ status_of fault) × GrewBy (fault_line fault) before after)
+    ⊎ (TakesMemory fault × (status ≡ statuses.Memory) × GrewBy (fault_line faults.Memory) before after)
 
 abbrev pub file_fault : FileFault → OutsideFault
 file_fault writes.CreateFailed = outside.CreateFailed
@@ -94,7 +100,8 @@ abbrev pub LeavesAlone : Option AnswerFile → ShelfMoment → ShelfMoment → T
 LeavesAlone None before after = after ≡ before
 LeavesAlone (Some file) before after = Unit {0}
 
--- and so does the printing of a rule
+-- and so does the printing of a rule; what is said of a made problem leaves the input alone
 abbrev pub LeavesPrinting : Question → ShelfMoment → ShelfMoment → Type 0
 LeavesPrinting (questions.Print rule) before after = after ≡ before
+LeavesPrinting (questions.Make seed size name effort) before after = KeepsInput before after
 LeavesPrinting question before after = Unit {0}

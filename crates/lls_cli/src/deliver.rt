@@ -3,7 +3,7 @@ ghost use Rattle.std.specs.Prelude.{◌≡◌, IfErr, IfOk, OnOk};
 ghost use Rattle.lls_cli.specs.declared.fault.Fault.TheVariants.{Outside as OfOutside};
 ghost use Rattle.lls_cli.specs.Questions as questions;
 ghost use Rattle.lls_cli.specs.Answer.{IsAnswer};
-ghost use Rattle.lls_cli.specs.Ends.{End, GrewBy, IsEndOf, WroteFile};
+ghost use Rattle.lls_cli.specs.Ends.{End, GrewBy, IsEndOf, KeepsInput, WroteFile};
 ghost use Rattle.lls_cli.specs.Fault.{fault_line};
 ghost use Rattle.lls_cli.specs.Moment.{shelf_at, sink_at};
 ghost use Rattle.lls_cli.specs.Outside.{BorrowsSame, moment_of};
@@ -42,10 +42,14 @@ pub fn lack<E: Sink>(err: &mut E) -> Status
     Status::Memory
 }
 
-/// Says a fault on the standard error. Where there is no memory for its line, it says want of memory.
+/// Says a fault on the standard error. Where there is no memory for its line, it says want of memory. A failure of the outside takes
+/// none, so it is always said.
 pub fn refuse<E: Sink>(alloc: Global, fault: Fault, err: &mut E) -> Status
     ensures { Says fault result (sink_at E.Sink err.old) (sink_at E.Sink err.new) }
 {
+    if let Fault::Outside(failure) = fault {
+        return say(failure, err);
+    }
     match fault.line(alloc) {
         Ok(line) => {
             write_line(err, line.as_bytes());
@@ -73,6 +77,7 @@ pub fn write_answer_file<S: Shelf>(
     ensures written { OnOk result (WroteFile file.now (shelf_at S.Shelf shelf.old) (shelf_at S.Shelf shelf.new)) }
     ensures shelf { LeavesAlone file.now (shelf_at S.Shelf shelf.old) (shelf_at S.Shelf shelf.new) }
     ensures unwritten { IfErr result (λ fault. Unwritten file.now fault (shelf_at S.Shelf shelf.old) (shelf_at S.Shelf shelf.new)) }
+    ensures input { KeepsInput (shelf_at S.Shelf shelf.old) (shelf_at S.Shelf shelf.new) }
 {
     let Some(file) = file else {
         return Ok(());
@@ -90,6 +95,7 @@ fn deliver<'f, S: Shelf, O: Sink, E: Sink>(
 ) -> Status
     ensures end { (end : End) × IsDelivery answer.now (moment_of S.Shelf O.Sink E.Sink outside.old) (moment_of S.Shelf O.Sink E.Sink outside.new) result end }
     ensures shelf { LeavesAlone answer.now.file (moment_of S.Shelf O.Sink E.Sink outside.old).shelf (moment_of S.Shelf O.Sink E.Sink outside.new).shelf }
+    ensures input { KeepsInput (moment_of S.Shelf O.Sink E.Sink outside.old).shelf (moment_of S.Shelf O.Sink E.Sink outside.new).shelf }
     ensures same { BorrowsSame outside.old outside.new }
 {
     if let Err(fault) = write_answer_file(&answer.file, outside.shelf) {
@@ -101,7 +107,7 @@ fn deliver<'f, S: Shelf, O: Sink, E: Sink>(
     }
 }
 
-/// Gives what a question comes to: its answer, or want of memory.
+/// Gives what a question comes to: its answer, or want of memory. An answer in hand takes no memory to give.
 pub fn give<'f, S: Shelf, O: Sink, E: Sink>(
     answer: Result<Answer<'f>, Memory>,
     outside: &mut Outside<S, O, E>,
@@ -110,6 +116,8 @@ pub fn give<'f, S: Shelf, O: Sink, E: Sink>(
         → (end : End) × IsEndOf question (moment_of S.Shelf O.Sink E.Sink outside.old) (moment_of S.Shelf O.Sink E.Sink outside.new) result end }
     ensures shelf { (question : questions.Question) → IfOk answer.entry (IsAnswer question)
         → LeavesPrinting question (moment_of S.Shelf O.Sink E.Sink outside.old).shelf (moment_of S.Shelf O.Sink E.Sink outside.new).shelf }
+    ensures in_hand { IfOk answer.entry (λ given. (end : End)
+        × IsDelivery given (moment_of S.Shelf O.Sink E.Sink outside.old) (moment_of S.Shelf O.Sink E.Sink outside.new) result end) }
     ensures same { BorrowsSame outside.old outside.new }
 {
     match answer {

@@ -5,7 +5,7 @@ ghost use Rattle.lls_problem.specs.Solution.{IsSolution};
 ghost use Rattle.lls_solver.specs.declared.solving.TheConstants.{MOST_BUDGET};
 ghost use Rattle.lls_cli.specs.Questions as questions;
 ghost use Rattle.lls_cli.specs.Answer.{IsAnswer};
-ghost use Rattle.lls_cli.specs.Ends.{End, Ends};
+ghost use Rattle.lls_cli.specs.Ends.{End, Ends, KeepsInput};
 ghost use Rattle.lls_cli.specs.Making.{IsSize, is_known, known_count, made_file, problem_lines, search_lines, summary_of};
 ghost use Rattle.lls_cli.specs.Outside.{BorrowsSame, moment_of};
 
@@ -129,6 +129,7 @@ pub fn give_making<S: Shelf, O: Sink, E: Sink>(
     requires size { IsSize size }
     requires budget { effort.budget ≤ MOST_BUDGET }
     ensures end { (end : End) × Ends (questions.Make seed size search effort) (moment_of S.Shelf O.Sink E.Sink outside.old) (moment_of S.Shelf O.Sink E.Sink outside.new) result end }
+    ensures input { KeepsInput (moment_of S.Shelf O.Sink E.Sink outside.old).shelf (moment_of S.Shelf O.Sink E.Sink outside.new).shelf }
     ensures same { BorrowsSame outside.old outside.new }
 {
     let (made, file) = match make_file(alloc, seed, size, search) {

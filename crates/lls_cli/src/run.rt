@@ -1,5 +1,5 @@
 // The program: from words to a status.
-ghost use Rattle.std.specs.Prelude.{◌≡◌, ◌≤◌, ◌⊎◌, IsErr, Ok};
+ghost use Rattle.std.specs.Prelude.{◌≡◌, ◌≢◌, ◌≤◌, ◌⊎◌, IsErr, Ok};
 ghost use Rattle.std.specs.Option.{ForSome};
 ghost use Rattle.lls_hensel.specs.Isotropy.{IsIsotropic};
 ghost use Rattle.lls_solver.specs.declared.solving.TheConstants.{MOST_BUDGET};
@@ -7,7 +7,7 @@ ghost use Rattle.lls_words.specs.Job.{AreOpen, AreWithinLimits, IsCrew, KeepsLim
 ghost use Rattle.lls_words.specs.declared.job.Job as jobs;
 ghost use Rattle.lls_words.specs.declared.job.Job.TheVariants as all_jobs;
 ghost use Rattle.lls_cli.specs.Answer.{HasShortBudget, NoHolds, NoneHolds, SomeHolds, YesHolds};
-ghost use Rattle.lls_cli.specs.Claims.{ChangesOnly, CountsNeverFall, HasCause, IsAnswered, IsComplete, IsFaultStatus, IsSilent, LeavesBegun, LeavesCertificate, LeavesLog, LeavesProof, LeavesTrimmed, NothingFailed, OfQuestion, Publishes, PublishesFewest, SaysWhy, HasWhole, outputs_of_words};
+ghost use Rattle.lls_cli.specs.Claims.{ChangesOnly, CountsNeverFall, HasCause, IsAnswered, IsComplete, IsFaultStatus, IsSilent, LeavesBegun, LeavesCertificate, LeavesLog, LeavesProof, LeavesTrimmed, NoCallFailed, NothingFailed, OfQuestion, Publishes, PublishesFewest, SaysWhy, HasWhole, outputs_of_words};
 ghost use Rattle.lls_cli.specs.CommandLine.{job_in};
 ghost use Rattle.lls_cli.specs.Ends.{End, HasInputs, IsEnd, ahead_of};
 ghost use Rattle.lls_cli.specs.Making.{IsSize};
@@ -401,9 +401,11 @@ pub fn run<S: Shelf, O: Sink, E: Sink>(
     ensures words { result ≡ Status.Words → IsErr (job_in words.now) }
     ensures all_words { IsErr (job_in words.now) → (result ≡ Status.Words) ⊎ (result ≡ Status.Memory) }
 
-    // A failure of the outside comes only where a count of faults rose, or where an input isn't there. An answer's status
-    // comes only where nothing failed.
+    // A failure of the outside comes only where a count of faults rose, or where an input isn't there. Any other status comes only
+    // where no call of the shelf or of the standard output failed, and an answer's where nothing failed.
     ensures outside { result ≡ Status.Outside → HasCause (job_in words.now)
+        (moment_at S.Shelf O.Sink E.Sink shelf.old out.old err.old) (moment_at S.Shelf O.Sink E.Sink shelf.new out.new err.new) }
+    ensures no_call_failed { result ≢ Status.Outside → NoCallFailed
         (moment_at S.Shelf O.Sink E.Sink shelf.old out.old err.old) (moment_at S.Shelf O.Sink E.Sink shelf.new out.new err.new) }
     ensures nothing_failed { IsAnswered result → NothingFailed
         (moment_at S.Shelf O.Sink E.Sink shelf.old out.old err.old) (moment_at S.Shelf O.Sink E.Sink shelf.new out.new err.new) }

@@ -9,7 +9,10 @@ returns-in-Ok-clause-end g c =
 
 pub returns-in-Ok-clause-shelf : goal.returns-in-Ok-clause-shelf
 returns-in-Ok-clause-shelf g c =
-    λ question right. leaves_printing question c.in-Ok.answer _ _ (rw c.in-Ok.is at right) c.deliver.ensures.shelf
+    λ question right. leaves_printing question c.in-Ok.answer _ _ (rw c.in-Ok.is at right) c.deliver.ensures.shelf c.deliver.ensures.input
+
+pub returns-in-Ok-clause-in_hand : goal.returns-in-Ok-clause-in_hand
+returns-in-Ok-clause-in_hand g c = rw c.in-Ok.is c.deliver.ensures.end
 
 pub returns-in-Err-clause-end : goal.returns-in-Err-clause-end
 returns-in-Err-clause-end g c =

@@ -5,7 +5,7 @@ use Rattle.lls_cli.specs.Questions as questions
 use Rattle.lls_cli.specs.Ends.{lacked, ahead_failed}
 use Rattle.lls_cli.specs.Making.{made_file}
 use Rattle.lls_cli.proofs.Deliveries.{failed}
-use Rattle.lls_cli.proofs.Ending.{behind_file, lacks}
+use Rattle.lls_cli.proofs.Ending.{KeepsInput-trans, behind_file, lacks}
 use Rattle.lls_cli.proofs.making.give_making.Goals as goal
 
 pub returns-in-Err-clause-end : goal.returns-in-Err-clause-end
@@ -17,6 +17,11 @@ returns-in-Ok-write_answer_file-clause-end g c =
     let pair = c.in-Ok.ensures in
     behind_file (made_file c.args.seed c.args.size c.args.search) question _ _ _ _ _ _ _ _ (rw pair.file at c.in-Ok-write_answer_file.ensures.written)
     (c.give.ensures.end question (c.solve_made.ensures c.args.seed c.args.size c.args.search pair.made))
+
+pub returns-in-Ok-write_answer_file-clause-input : goal.returns-in-Ok-write_answer_file-clause-input
+returns-in-Ok-write_answer_file-clause-input g c =
+    let question = questions.Make c.args.seed c.args.size c.args.search c.args.effort in
+    KeepsInput-trans c.in-Ok-write_answer_file.ensures.input (c.give.ensures.shelf question (c.solve_made.ensures c.args.seed c.args.size c.args.search c.in-Ok.ensures.made))
 
 pub returns-in-Err-write_answer_file-clause-end : goal.returns-in-Err-write_answer_file-clause-end
 returns-in-Err-write_answer_file-clause-end g c = (

@@ -1,7 +1,7 @@
 use Rattle.std.proofs.Common.{ap, refl}
 use Rattle.std.specs.Prelude.{map, string_bytes}
 use Rattle.lls_cli.specs.Moment.{SinkMoment}
-use Rattle.lls_cli.proofs.Consequences.{yes_means, no_means, found_means, none_means, short_means, words_alone, words_all, caused, meant, stays_silent, counts_stay}
+use Rattle.lls_cli.proofs.Consequences.{yes_means, no_means, found_means, none_means, short_means, words_alone, words_all, caused, meant, no_call_failed, stays_silent, counts_stay}
 use Rattle.lls_cli.proofs.Files.{changes_only}
 use Rattle.lls_cli.proofs.Lefts.{leaves_proof, leaves_log, leaves_certificate, leaves_trimmed}
 use Rattle.lls_cli.proofs.Stands.{stands}
@@ -29,6 +29,9 @@ returns-clause-all_words g c = words_all _ _ _ _ c.run_words.ensures
 
 pub returns-clause-outside : goal.returns-clause-outside
 returns-clause-outside g c = caused _ _ _ _ c.run_words.ensures
+
+pub returns-clause-no_call_failed : goal.returns-clause-no_call_failed
+returns-clause-no_call_failed g c = no_call_failed _ _ _ _ c.run_words.ensures
 
 pub returns-clause-nothing_failed : goal.returns-clause-nothing_failed
 returns-clause-nothing_failed g c = λ is. (meant _ _ _ _ c.run_words.ensures is).nothing_failed
