@@ -12,17 +12,20 @@ use Rattle.lls_drat.specs.declared.form.Form.{Form}
 use Rattle.lls_drat.specs.Lemma.{NumberedLemma}
 use Rattle.lls_drat.specs.Proof.{Proof, no_more}
 use Rattle.lls_drat.specs.Reading.{begun, to_come}
-use Rattle.lls_lemmas.specs.Lemmas.{AddsUnits, IsNotImplied, LemmasState}
+use Rattle.lls_lemmas.specs.Lemmas.{AddsUnits, EndsEmpty, IsNotImplied}
 use Rattle.lls_hinting.specs.declared.fault.Fault.{Fault}
 use Rattle.lls_hinting.specs.declared.fault.Fault.TheVariants as faults
 use Rattle.lls_hinting.specs.declared.fault.OutsideFault.TheVariants as outside
+use Rattle.lls_hinting.specs.declared.outcome.Hints.{Hints}
 use Rattle.lls_hinting.specs.declared.outcome.Outcome.{Outcome}
-use Rattle.lls_hinting.specs.declared.outcome.Outcome.TheVariants.{Refused as Refusal}
+use Rattle.lls_hinting.specs.declared.outcome.Outcome.TheVariants.{Hinted, Refused as Refusal}
 use Rattle.lls_hinting.specs.declared.judging.Stand.{Stand}
 use Rattle.lls_hinting.specs.declared.judging.Stand.TheVariants.{Going, Refuted, NotImplied}
+use Rattle.lls_hinting.specs.declared.tally.Tally.{Tally}
 use Rattle.lls_hinting.specs.Asked.{proof_limit}
-use Rattle.lls_hinting.specs.Behind.{Grows, TakesAll}
-use Rattle.lls_hinting.specs.Judging.{HasGreater, IsJudged, IsProved, IsResting, JudgeSays, StandSays, Surveyed, are_within}
+use Rattle.lls_hinting.specs.Behind.{Grows, IsBehind, Progress, TakesAll, progress_start}
+use Rattle.lls_hinting.specs.Hinted.{AreHints, IsHinted}
+use Rattle.lls_hinting.specs.Judging.{HasGreater, IsJudged, IsProved, JudgeSays, StandSays, Surveyed, are_within, progress}
 use Rattle.lls_hinting.specs.Place.{Ended, EndsBehind, FaultBehind, Faulty, IsTooLong, Passed, Passes, Place, with_front}
 use Rattle.lls_hinting.specs.Refusal.{IsRefusal, addition, no_empty_text, not_implied_text}
 use Rattle.lls_hinting.specs.Steps.{IsOpened}
@@ -90,17 +93,19 @@ not_greater form bytes before after vars fresh surveyed has =
     absurd cc
 
 -- what the lemmas came to, by what they are
-pub stands : (formula : Cnf) (vars : ℕ) (form : Form) (bytes : List ℕ) (old new : List Step) (before after : Place) (stand : Stand) → Fresh form bytes before → (surveyed : Surveyed vars form bytes)
+pub stands : (formula : Cnf) (vars : ℕ) (form : Form) (bytes : List ℕ) (old new : Progress) (before after : Place) (stand : Stand) → Fresh form bytes before → (surveyed : Surveyed vars form bytes)
     → JudgeSays formula vars old new before after (Ok stand) → StandSays formula surveyed.lemmas old new stand
 stands formula vars form bytes old new before after Going fresh surveyed says =
     subst (λ (ls : List NumberedLemma). TakesAll formula ls old new) (ends_so form bytes before vars says.0 fresh surveyed says.1) says.2
-stands formula vars form bytes old new before after Refuted fresh surveyed says = tt
+stands formula vars form bytes old new before after Refuted fresh surveyed says =
+    let so = passed_so form bytes before after vars says.0 fresh surveyed says.1 in
+    (says.0, so.0, so.1, says.2)
 stands formula vars form bytes old new before after (NotImplied number) fresh surveyed says =
     let so = passed_so form bytes before after vars (says.front ++ addition number says.lits ∷ []) fresh surveyed says.passes in
     (says.front, says.lits, so.0, so.1 ∙ append_one says.front so.0 (addition number says.lits), says.taken, says.not_implied, says.not_addable)
 
 -- nothing stops them
-pub no_stop : (formula : Cnf) (vars : ℕ) (form : Form) (bytes : List ℕ) (old new : List Step) (before after : Place) (fault : Fault) → Fresh form bytes before → Surveyed vars form bytes
+pub no_stop : (formula : Cnf) (vars : ℕ) (form : Form) (bytes : List ℕ) (old new : Progress) (before after : Place) (fault : Fault) → Fresh form bytes before → Surveyed vars form bytes
     → JudgeSays formula vars old new before after (Err fault) → ⊥
 no_stop formula vars form bytes old new before after (faults.Outside outside.Changed) fresh surveyed says = not_greater form bytes before after vars fresh surveyed says
 no_stop formula vars form bytes old new before after (faults.Outside outside.NoFile) fresh surveyed says = says.1
@@ -115,7 +120,7 @@ no_stop formula vars form bytes old new before after (faults.Dimacs fault) fresh
 no_stop formula vars form bytes old new before after faults.Memory fresh surveyed says = says.1
 
 -- the lemmas of a file that was opened
-pub file_judged : (formula : Cnf) (vars : ℕ) (files : Option Files) (name : List ℕ) (form : Form) (old new : List Step) (place after : Place) (result : Result Stand Fault) → IsOpened files name place.rest (Ok tt)
+pub file_judged : (formula : Cnf) (vars : ℕ) (files : Option Files) (name : List ℕ) (form : Form) (old new : Progress) (place after : Place) (result : Result Stand Fault) → IsOpened files name place.rest (Ok tt)
     → place.reading ≡ begun form → place.taken ≡ 0 → JudgeSays formula vars old new place after result → IsJudged formula vars files name form old new result
 file_judged formula vars None name form old new place after result opened reading taken says = tt
 file_judged formula vars (Some files) name form old new place after (Ok stand) opened reading taken says = λ bytes found surveyed.
@@ -123,41 +128,62 @@ file_judged formula vars (Some files) name form old new place after (Ok stand) o
 file_judged formula vars (Some files) name form old new place after (Err fault) opened reading taken says = λ bytes found surveyed.
     no_stop formula vars form bytes old new place after fault (fresh form bytes place reading taken (opened.2 ∙ sym opened.1 ∙ found)) surveyed says
 
--- a refusal of a surveyed proof
-pub stand_refused : (formula : Cnf) (lemmas : List NumberedLemma) (old new : List Step) (number : ℕ) (text : List ℕ) → Grows formula [] old → AddsUnits formula [] old → StandSays formula lemmas old new (NotImplied number)
-    → text ≡ not_implied_text number → IsRefusal (record { formula = formula; lemmas = lemmas }) text
-stand_refused formula lemmas old new number text grown units says is = inl (
-  number,
-  record {
-    before = says.0;
-    lits = says.1;
-    behind = says.2;
-    lemmas_are = says.3;
-    steps = new;
-    is_behind = record { start = old; grown = grown; units = units; taken = says.4 };
-    not_implied = says.5;
-    not_addable = says.6;
-  },
-  is,
-)
+-- the same by other names of its parts, where nothing was passed over before
+pub judged_from : (formula formula' : Cnf) (vars : ℕ) (files : Option Files) (name : List ℕ) (form : Form) (start : List Step) (tally : Tally) (new : Progress) (stand stand' : Stand) → formula ≡ formula'
+    → tally ≡ record { reasons = 0; unknown = 0 } → stand ≡ stand' → IsJudged formula vars files name form (progress start tally) new (Ok stand) → IsJudged formula' vars files name form (progress_start start) new (Ok stand')
+judged_from formula formula' vars files name form start tally new stand stand' same_formula none same judged =
+    subst (λ (f : Cnf). IsJudged f vars files name form (progress_start start) new (Ok stand')) same_formula
+    (subst (λ (t : Tally). IsJudged formula vars files name form (progress start t) new (Ok stand')) none
+    (subst (λ (s : Stand). IsJudged formula vars files name form (progress start tally) new (Ok s)) same judged))
 
-pub stand_open : (formula : Cnf) (lemmas : List NumberedLemma) (old new : List Step) (text : List ℕ) → Grows formula [] old → AddsUnits formula [] old → StandSays formula lemmas old new Going
-    → IsNotImplied formula new [] → text ≡ no_empty_text → IsRefusal (record { formula = formula; lemmas = lemmas }) text
-stand_open formula lemmas old new text grown units says open_ is =
-    inr (record { steps = new; is_behind = record { start = old; grown = grown; units = units; taken = says }; not_implied = open_ }, is)
+-- what a surveyed proof comes to, by what its lemmas came to
+module _ (formula : Cnf) (start : List Step) (new : Progress) (grown : Grows formula [] start) (units : AddsUnits formula [] start) where
+  behind : (lemmas : List NumberedLemma) → TakesAll formula lemmas (progress_start start) new → IsBehind formula lemmas new
+  behind lemmas taken = record { start = start; grown = grown; units = units; taken = taken }
 
--- what was judged is proved, or refused
-pub proved_refused : (formula : Cnf) (vars : ℕ) (files : Option Files) (name : List ℕ) (form : Form) (old new : List Step) (number : ℕ) (text : Vec ℕ Global) → Grows formula [] old → AddsUnits formula [] old
-    → text.items ≡ not_implied_text number → IsJudged formula vars files name form old new (Ok (NotImplied number)) → IsProved formula vars files name form (Ok (Refusal text))
-proved_refused formula vars None name form old new number text grown units is judged = tt
-proved_refused formula vars (Some files) name form old new number text grown units is judged = λ bytes found surveyed.
-    stand_refused formula surveyed.lemmas old new number text.items grown units (judged bytes found surveyed) is
+  stand_refused : (lemmas : List NumberedLemma) (number : ℕ) (text : List ℕ) → StandSays formula lemmas (progress_start start) new (NotImplied number) → text ≡ not_implied_text number
+      → IsRefusal (record { formula = formula; lemmas = lemmas }) text
+  stand_refused lemmas number text says is = inl (
+    number,
+    record {
+      before = says.0;
+      lits = says.1;
+      behind = says.2;
+      lemmas_are = says.3;
+      now = new;
+      is_behind = behind says.0 says.4;
+      not_implied = says.5;
+      not_addable = says.6;
+    },
+    is,
+  )
 
-pub proved_open : (formula : Cnf) (vars : ℕ) (files : Option Files) (name : List ℕ) (form : Form) (old new : List Step) (text : Vec ℕ Global) → Grows formula [] old → AddsUnits formula [] old
-    → IsNotImplied formula new [] → text.items ≡ no_empty_text → IsJudged formula vars files name form old new (Ok Going) → IsProved formula vars files name form (Ok (Refusal text))
-proved_open formula vars None name form old new text grown units open_ is judged = tt
-proved_open formula vars (Some files) name form old new text grown units open_ is judged = λ bytes found surveyed.
-    stand_open formula surveyed.lemmas old new text.items grown units (judged bytes found surveyed) open_ is
+  stand_open : (lemmas : List NumberedLemma) (text : List ℕ) → StandSays formula lemmas (progress_start start) new Going → IsNotImplied formula new.steps [] → text ≡ no_empty_text
+      → IsRefusal (record { formula = formula; lemmas = lemmas }) text
+  stand_open lemmas text says open_ is = inr (record { now = new; is_behind = behind lemmas says; not_implied = open_ }, is)
+
+  stand_hinted : (lemmas : List NumberedLemma) (bytes text : List ℕ) → StandSays formula lemmas (progress_start start) new Refuted → EndsEmpty new.steps → AreHints formula new bytes text
+      → IsHinted (record { formula = formula; lemmas = lemmas }) bytes text
+  stand_hinted lemmas bytes text says ends hints = record {
+    now = new;
+    reaches = record { before = says.0; behind = says.1; lemmas_are = says.2; is_behind = behind says.0 says.3; ends = ends };
+    hints = hints;
+  }
+
+  pub proved_refused : (vars : ℕ) (files : Option Files) (name : List ℕ) (form : Form) (number : ℕ) (text : Vec ℕ Global) → text.items ≡ not_implied_text number
+      → IsJudged formula vars files name form (progress_start start) new (Ok (NotImplied number)) → IsProved formula vars files name form (Ok (Refusal text))
+  proved_refused vars None name form number text is judged = tt
+  proved_refused vars (Some files) name form number text is judged = λ bytes found surveyed. stand_refused surveyed.lemmas number text.items (judged bytes found surveyed) is
+
+  pub proved_open : (vars : ℕ) (files : Option Files) (name : List ℕ) (form : Form) (text : Vec ℕ Global) → IsNotImplied formula new.steps [] → text.items ≡ no_empty_text
+      → IsJudged formula vars files name form (progress_start start) new (Ok Going) → IsProved formula vars files name form (Ok (Refusal text))
+  proved_open vars None name form text open_ is judged = tt
+  proved_open vars (Some files) name form text open_ is judged = λ bytes found surveyed. stand_open surveyed.lemmas text.items (judged bytes found surveyed) open_ is
+
+  pub proved_hinted : (vars : ℕ) (files : Option Files) (name : List ℕ) (form : Form) (hints : Hints) → EndsEmpty new.steps → AreHints formula new hints.bytes.items hints.text.items
+      → IsJudged formula vars files name form (progress_start start) new (Ok Refuted) → IsProved formula vars files name form (Ok (Hinted hints))
+  proved_hinted vars None name form hints ends are judged = tt
+  proved_hinted vars (Some files) name form hints ends are judged = λ bytes found surveyed. stand_hinted surveyed.lemmas hints.bytes.items hints.text.items (judged bytes found surveyed) ends are
 
 within_vars : (few vars : ℕ) (lemmas : List NumberedLemma) → few ≤ vars → are_within few lemmas ≡ true → are_within vars lemmas ≡ true
 within_vars few vars [] le all = refl
@@ -174,13 +200,3 @@ pub proved_fewer : (formula : Cnf) (few vars : ℕ) (files : Option Files) (name
 proved_fewer formula few vars None name form result le proved = tt
 proved_fewer formula few vars (Some files) name form (Ok outcome) le proved = λ bytes found s. proved bytes found (surveyed_more few vars form bytes le s)
 proved_fewer formula few vars (Some files) name form (Err fault) le proved = λ bytes found s. proved bytes found (surveyed_more few vars form bytes le s)
-
--- a stand that is neither of the others
-pub going_left : (stand : Stand) → ((number : ℕ) → stand ≡ NotImplied number → ⊥) → (stand ≡ Refuted → ⊥) → stand ≡ Going
-going_left Going refused ended = refl
-going_left Refuted refused ended = absurd (ended refl)
-going_left (NotImplied number) refused ended = absurd (refused number refl)
-
-pub settled_of : (state : LemmasState) → IsResting state → state.refuted ≡ false → state.settled ≡ true
-settled_of state (inl refuted) going = let clash : true ≡ false = sym refuted ∙ going in absurd cc
-settled_of state (inr settled) going = settled

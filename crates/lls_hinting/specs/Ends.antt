@@ -43,13 +43,13 @@ abbrev pub KeepsBut : List ℕ → Option Files → Option Files → Type 0
 KeepsBut name before after = (after ≡ before) ⊎ ((bytes : List ℕ) × (after ≡ option_map (λ files. map.insert files name bytes) before))
 
 -- what was asked was done: the formula that is asked about has a proof with hints, which stands in the third file, and the standard output says how many
--- additions it has. No other file has changed
+-- additions it has, and how many deletions of the proof that was given were passed over. No other file has changed
 pub record HasHints (out_before out_after : SinkMoment) (request : Request) (before after : Files) : Type 0 where
   pub asked : Asked
   pub asked_is : asked_in request before ≡ Ok asked
   pub bytes : List ℕ
   pub text : List ℕ
-  pub hinted : IsHinted asked.formula bytes text
+  pub hinted : IsHinted asked bytes text
   pub files : after ≡ map.insert before request.output bytes
   pub said : out_after.written ≡ append_known out_before.written text
 

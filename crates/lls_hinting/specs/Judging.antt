@@ -18,9 +18,10 @@ use Rattle.lls_hinting.specs.declared.fault.OutsideFault.TheVariants as outside
 use Rattle.lls_hinting.specs.declared.judging.Stand.{Stand}
 use Rattle.lls_hinting.specs.declared.judging.Stand.TheVariants.{Going, Refuted, NotImplied}
 use Rattle.lls_hinting.specs.declared.outcome.Outcome.{Outcome}
+use Rattle.lls_hinting.specs.declared.tally.Tally.{Tally}
 use Rattle.lls_hinting.specs.Outcome.{ComesTo}
 use Rattle.lls_hinting.specs.Asked.{input_of, lemmas_in, proof_limit}
-use Rattle.lls_hinting.specs.Behind.{Takes, TakesAll}
+use Rattle.lls_hinting.specs.Behind.{Progress, Takes, TakesAll}
 use Rattle.lls_hinting.specs.Place.{EndsBehind, Passes, Place, StopsBehind, with_front}
 use Rattle.lls_hinting.specs.Refusal.{addition}
 
@@ -50,24 +51,27 @@ IsSurveyed (Some files) name form (Err fault) = and_then (input_of files name pr
 abbrev pub IsResting : LemmasState → Type 0
 IsResting state = (state.refuted ≡ true) ⊎ (state.settled ≡ true)
 
--- what a lemma came to
-abbrev pub LemmaSays : Cnf → ℕ → ℕ → Kind → Clause → List Step → List Step → Result Stand Fault → Type 0
-LemmaSays formula vars number kind lits old new (Ok Going) = Takes formula kind lits old new
-LemmaSays formula vars number kind lits old new (Ok Refuted) = Unit {0}
-LemmaSays formula vars number kind lits old new (Ok (NotImplied n)) =
-    (n ≡ number) × (kind ≡ Addition) × (new ≡ old) × IsNotImplied formula new lits × (IsNotAddable formula new lits ⊎ MeetsTautology formula new lits)
-LemmaSays formula vars number kind lits old new (Err faults.Memory) = Unit {0}
-LemmaSays formula vars number kind lits old new (Err (faults.Outside outside.Changed)) = is_within vars lits ≡ false
-LemmaSays formula vars number kind lits old new (Err fault) = ⊥
+-- the steps of a log, and a tally of what was passed over
+abbrev pub progress : List Step → Tally → Progress
+progress steps tally = record { steps = steps; reasons = tally.reasons; unknown = tally.unknown }
+
+-- what a lemma came to: it was taken, or isn't implied
+abbrev pub LemmaSays : Cnf → ℕ → Kind → Clause → Progress → Progress → Result Bool Fault → Type 0
+LemmaSays formula vars kind lits old new (Ok true) = Takes formula kind lits old new
+LemmaSays formula vars kind lits old new (Ok false) =
+    (kind ≡ Addition) × (new ≡ old) × IsNotImplied formula new.steps lits × (IsNotAddable formula new.steps lits ⊎ MeetsTautology formula new.steps lits)
+LemmaSays formula vars kind lits old new (Err faults.Memory) = Unit {0}
+LemmaSays formula vars kind lits old new (Err (faults.Outside outside.Changed)) = is_within vars lits ≡ false
+LemmaSays formula vars kind lits old new (Err fault) = ⊥
 
 -- the lemma of that number isn't implied behind those before it
-pub record StopsAfter (formula : Cnf) (number : ℕ) (old new : List Step) (before after : Place) : Type 0 where
+pub record StopsAfter (formula : Cnf) (number : ℕ) (old new : Progress) (before after : Place) : Type 0 where
   pub front : List NumberedLemma
   pub lits : Clause
   pub passes : Passes (front ++ addition number lits ∷ []) before after
   pub taken : TakesAll formula front old new
-  pub not_implied : IsNotImplied formula new lits
-  pub not_addable : IsNotAddable formula new lits ⊎ MeetsTautology formula new lits
+  pub not_implied : IsNotImplied formula new.steps lits
+  pub not_addable : IsNotAddable formula new.steps lits ⊎ MeetsTautology formula new.steps lits
 
 -- a lemma has a greater variable
 pub record HasGreater (vars : ℕ) (before after : Place) : Type 0 where
@@ -77,23 +81,23 @@ pub record HasGreater (vars : ℕ) (before after : Place) : Type 0 where
   pub greater : is_within vars lemma.lemma.lits ≡ false
 
 -- what the lemmas that are left came to
-abbrev pub JudgeSays : Cnf → ℕ → List Step → List Step → Place → Place → Result Stand Fault → Type 0
+abbrev pub JudgeSays : Cnf → ℕ → Progress → Progress → Place → Place → Result Stand Fault → Type 0
 JudgeSays formula vars old new before after (Ok Going) = (front : List NumberedLemma) × EndsBehind front before × TakesAll formula front old new
-JudgeSays formula vars old new before after (Ok Refuted) = Unit {0}
+JudgeSays formula vars old new before after (Ok Refuted) = (front : List NumberedLemma) × Passes front before after × TakesAll formula front old new
 JudgeSays formula vars old new before after (Ok (NotImplied number)) = StopsAfter formula number old new before after
 JudgeSays formula vars old new before after (Err (faults.Outside outside.Changed)) = HasGreater vars before after
 JudgeSays formula vars old new before after (Err fault) = (front : List NumberedLemma) × StopsBehind front before after fault
 
 -- what a proof that was surveyed came to
-abbrev pub StandSays : Cnf → List NumberedLemma → List Step → List Step → Stand → Type 0
+abbrev pub StandSays : Cnf → List NumberedLemma → Progress → Progress → Stand → Type 0
 StandSays formula lemmas old new Going = TakesAll formula lemmas old new
-StandSays formula lemmas old new Refuted = Unit {0}
+StandSays formula lemmas old new Refuted = (front : List NumberedLemma) × (behind : List NumberedLemma) × (lemmas ≡ front ++ behind) × TakesAll formula front old new
 StandSays formula lemmas old new (NotImplied number) =
     (front : List NumberedLemma) × (lits : Clause) × (behind : List NumberedLemma) × (lemmas ≡ front ++ addition number lits ∷ behind)
-    × TakesAll formula front old new × IsNotImplied formula new lits × (IsNotAddable formula new lits ⊎ MeetsTautology formula new lits)
+    × TakesAll formula front old new × IsNotImplied formula new.steps lits × (IsNotAddable formula new.steps lits ⊎ MeetsTautology formula new.steps lits)
 
 -- where the file is as it was when it was surveyed, that is all it comes to
-abbrev pub IsJudged : Cnf → ℕ → Option Files → List ℕ → Form → List Step → List Step → Result Stand Fault → Type 0
+abbrev pub IsJudged : Cnf → ℕ → Option Files → List ℕ → Form → Progress → Progress → Result Stand Fault → Type 0
 IsJudged formula vars None name form old new result = Unit {0}
 IsJudged formula vars (Some files) name form old new (Ok stand) =
     (bytes : List ℕ) → map.get files name ≡ Some bytes → (surveyed : Surveyed vars form bytes) → StandSays formula surveyed.lemmas old new stand

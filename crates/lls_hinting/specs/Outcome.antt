@@ -11,7 +11,7 @@ use Rattle.lls_hinting.specs.Refusal.{IsRefusal}
 
 -- what the lemmas of a formula's proof come to
 abbrev pub ComesTo : Asked → Outcome → Type 0
-ComesTo asked (Hinted hints) = IsHinted asked.formula hints.bytes.items hints.text.items
+ComesTo asked (Hinted hints) = IsHinted asked hints.bytes.items hints.text.items
 ComesTo asked (Refused text) = IsRefusal asked text.items
 
 -- what a request comes to over these files, where the shelf tells them

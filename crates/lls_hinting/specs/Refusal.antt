@@ -1,12 +1,11 @@
 -- A proof that doesn't go through, and what is said of it.
 use Rattle.std.specs.Prelude.{◌≡◌, ◌⊎◌, ℕ, List, [], ◌∷◌, ◌++◌, codes, decimal}
 use Rattle.lls_lit.specs.Formula.{Clause}
-use Rattle.lls_prooflog.specs.declared.step.Step.{Step}
 use Rattle.lls_drat.specs.declared.kind.Kind.TheVariants.{Addition}
 use Rattle.lls_drat.specs.Lemma.{NumberedLemma}
 use Rattle.lls_lemmas.specs.Lemmas.{IsNotAddable, IsNotImplied, MeetsTautology}
 use Rattle.lls_hinting.specs.Asked.{Asked}
-use Rattle.lls_hinting.specs.Behind.{IsBehind}
+use Rattle.lls_hinting.specs.Behind.{IsBehind, Progress}
 
 -- the lemma of that number, with these literals
 abbrev pub addition : ℕ → Clause → NumberedLemma
@@ -19,16 +18,16 @@ pub record StopsAt (asked : Asked) (number : ℕ) : Type 0 where
   pub lits : Clause
   pub behind : List NumberedLemma
   pub lemmas_are : asked.lemmas ≡ before ++ addition number lits ∷ behind
-  pub steps : List Step
-  pub is_behind : IsBehind asked.formula before steps
-  pub not_implied : IsNotImplied asked.formula steps lits
-  pub not_addable : IsNotAddable asked.formula steps lits ⊎ MeetsTautology asked.formula steps lits
+  pub now : Progress
+  pub is_behind : IsBehind asked.formula before now
+  pub not_implied : IsNotImplied asked.formula now.steps lits
+  pub not_addable : IsNotAddable asked.formula now.steps lits ⊎ MeetsTautology asked.formula now.steps lits
 
 -- all lemmas were taken, and no hints lead from what is live then to the empty clause
 pub record EndsOpen (asked : Asked) : Type 0 where
-  pub steps : List Step
-  pub is_behind : IsBehind asked.formula asked.lemmas steps
-  pub not_implied : IsNotImplied asked.formula steps []
+  pub now : Progress
+  pub is_behind : IsBehind asked.formula asked.lemmas now
+  pub not_implied : IsNotImplied asked.formula now.steps []
 
 abbrev pub not_implied_text : ℕ → List ℕ
 not_implied_text number = codes "refused: NotImplied " ++ decimal number ++ codes "\n"

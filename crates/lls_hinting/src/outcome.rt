@@ -1,11 +1,11 @@
 // What the proof of a formula comes to: a proof with hints, or why there is none.
-ghost use Rattle.std.specs.Prelude.{◌≡◌, ◌≤◌, [], IfOk};
+ghost use Rattle.std.specs.Prelude.{◌≡◌, ◌≤◌, [], IfOk, count_by};
 ghost use Rattle.lls_lit.specs.Formula.{IsUnsatisfiable};
 ghost use Rattle.lls_prooflog.specs.Log.{ReadsAs, log_text};
-ghost use Rattle.lls_prooflog.specs.Spent.{EachStep, IsGood, log_start};
+ghost use Rattle.lls_prooflog.specs.Spent.{EachStep, IsGood, is_addition, log_start};
 ghost use Rattle.lls_lemmas.specs.Lemmas.{AddsUnits, EndsEmpty, GoesOnWell, HasNoFault, KeepsLive};
-ghost use Rattle.lls_hinting.specs.Hinted.{IsHinted, IsHintsText, hints_text};
-ghost use Rattle.lls_hinting.specs.Judging.{IsProved, IsResting};
+ghost use Rattle.lls_hinting.specs.Hinted.{AreHints, hints_text};
+ghost use Rattle.lls_hinting.specs.Judging.{IsProved, IsResting, progress};
 ghost use Rattle.lls_hinting.specs.Moment.{files_at, shelf_at};
 ghost use Rattle.lls_hinting.specs.Outcome.{RequestComesTo};
 ghost use Rattle.lls_hinting.specs.Refusal.{no_empty_text, not_implied_text};
@@ -95,14 +95,11 @@ fn judged<S: Shelf>(
 {
     let mut tally = Tally::new();
     let stand = judge_file(alloc, shelf, name, form, vars, &mut lemmas, &mut tally)?;
-    if let Stand::NotImplied(number) = stand {
-        return Ok(Outcome::Refused(not_implied_text(alloc, number)?));
+    match stand {
+        Stand::Going => Ok(Outcome::Refused(no_empty_text(alloc)?)),
+        Stand::Refuted => Ok(Outcome::Hinted(hinted(alloc, formula, lemmas, tally)?)),
+        Stand::NotImplied(number) => Ok(Outcome::Refused(not_implied_text(alloc, number)?)),
     }
-    if !lemmas.is_refuted() {
-        return Ok(Outcome::Refused(no_empty_text(alloc)?));
-    }
-    let hints = hinted(alloc, formula, lemmas, tally)?;
-    Ok(Outcome::Hinted(hints))
 }
 
 // What lemmas that end with the empty clause come to. Their clauses are let go before their log is trimmed.
@@ -115,7 +112,7 @@ fn hinted(
     requires formula { lemmas.formula ≡ formula.now }
     requires ends { EndsEmpty lemmas.steps }
     requires unsatisfiable { IsUnsatisfiable formula.now }
-    ensures { IfOk result (λ hints. IsHinted formula.now hints.bytes.items hints.text.items) }
+    ensures { IfOk result (λ hints. AreHints formula.now (progress lemmas.entry.steps tally) hints.bytes.items hints.text.items) }
 {
     let has_redundant = lemmas.has_redundant();
     let log = lemmas.into_log();
@@ -159,8 +156,9 @@ fn trimmed(alloc: Global, formula: &Formula, log: Log, tally: Tally) -> Result<H
     requires good { EachStep IsGood (log_start formula.now) log.steps }
     requires ends { EndsEmpty log.steps }
     requires unsatisfiable { IsUnsatisfiable formula.now }
-    ensures { IfOk result (λ hints. IsHinted formula.now hints.bytes.items hints.text.items) }
+    ensures { IfOk result (λ hints. AreHints formula.now (progress log.steps tally) hints.bytes.items hints.text.items) }
 {
+    let given = log.additions();
     let recorded = match Recorded::of_log(alloc, formula, &log) {
         Ok(recorded) => recorded,
         Err(CheckError::Memory) => return Err(Memory),
@@ -168,7 +166,7 @@ fn trimmed(alloc: Global, formula: &Formula, log: Log, tally: Tally) -> Result<H
     };
     drop(log);
     match recorded.trim(alloc) {
-        Ok(trimming) => printed(alloc, &trimming.log, trimming.additions as u64, tally),
+        Ok(trimming) => printed(alloc, &trimming.log, given, tally),
         Err(TrimError::Memory) => Err(Memory),
         Err(_) => unreachable!(),
     }
@@ -179,13 +177,14 @@ fn hints_of(alloc: Global, formula: &Formula, log: &Log, tally: Tally) -> Result
     requires well { EachStep HasNoFault (log_start formula.now) log.now.steps }
     requires ends { EndsEmpty log.now.steps }
     requires unsatisfiable { IsUnsatisfiable formula.now }
-    ensures { IfOk result (λ hints. IsHinted formula.now hints.bytes.items hints.text.items) }
+    ensures { IfOk result (λ hints. AreHints formula.now (progress log.now.steps tally) hints.bytes.items hints.text.items) }
 {
+    let given = log.additions();
     match trim(alloc, formula, log) {
-        Ok(trimming) => printed(alloc, &trimming.log, trimming.additions as u64, tally),
+        Ok(trimming) => printed(alloc, &trimming.log, given, tally),
         Err(TrimError::Memory) => Err(Memory),
         Err(TrimError::Refused(_)) => unreachable!(),
-        Err(TrimError::RatStep(_)) => printed(alloc, log, log.additions(), tally),
+        Err(TrimError::RatStep(_)) => printed(alloc, log, given, tally),
     }
 }
 
@@ -193,7 +192,7 @@ fn hints_of(alloc: Global, formula: &Formula, log: &Log, tally: Tally) -> Result
 fn printed(alloc: Global, log: &Log, given: u64, tally: Tally) -> Result<Hints, Memory>
     ensures text { IfOk result (λ hints. hints.bytes.items ≡ log_text log.now.steps) }
     ensures read_again { IfOk result (λ hints. ReadsAs hints.bytes.items log.now.steps) }
-    ensures said { IfOk result (λ hints. IsHintsText log.now.steps hints.text.items) }
+    ensures said { IfOk result (λ hints. hints.text.items ≡ hints_text (count_by is_addition log.now.steps) given tally.reasons tally.unknown) }
 {
     let kept = log.additions();
     let text = hints_text(alloc, kept, given, tally.reasons, tally.unknown)?;

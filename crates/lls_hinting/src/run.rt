@@ -46,7 +46,8 @@ pub fn run<S: Shelf, O: Sink, E: Sink>(
     out: &mut O,
     err: &mut E,
 ) -> Status
-    // A proof with hints was written: that of the formula of the first file, in the third one. The standard output says how many additions it has.
+    // A proof with hints was written: that of the formula of the first file, in the third one. The standard output says how many additions it has, of how
+    // many, and how many deletions of the second file's proof were passed over, and why.
     ensures done { result ≡ Status.Done →
         LeavesHints (sink_at O.Sink out.old) (sink_at O.Sink out.new) (request_in (map string_bytes words.now)) (known_files (S.told shelf.old)) (known_files (S.told shelf.new)) }
 

@@ -1,5 +1,6 @@
-use Rattle.std.proofs.Common.{Err, ap, ◌∙◌, inl, inr}
-use Rattle.lls_hinting.proofs.Hinting.{accepted_at_end, is_hinted}
+use Rattle.std.proofs.Common.{Err, refl, ap, ◌∙◌, inl, inr, arith}
+use Rattle.lls_hinting.proofs.Hinting.{accepted_at_end, additions_fewer, are_hints}
+use Rattle.lls_hinting.specs.Judging.{progress}
 use Rattle.lls_hinting.proofs.outcome.hints_of.Goals as goal
 
 pub unreachable-requires : goal.unreachable-requires
@@ -10,13 +11,16 @@ unreachable-requires c =
 pub returns-in-Ok : goal.returns-in-Ok
 returns-in-Ok c =
     let trimmed = c.in-Ok.ensures in
-    is_hinted c.args.formula.now c.in-Ok.trimming.log.steps c.printed.result c.printed.ensures.text c.printed.ensures.read_again trimmed.accepted_again c.requires.unsatisfiable
-    (inl (record { additions = trimmed.additions; again = trimmed.again })) c.printed.ensures.said
+    let steps = c.args.log.now.steps in
+    let kept = c.in-Ok.trimming.log.steps in
+    are_hints c.args.formula.now (progress steps c.args.tally) kept c.additions-given.result c.printed.result c.additions-given.ensures (additions_fewer kept steps trimmed.fewer)
+    c.printed.ensures.text c.printed.ensures.read_again trimmed.accepted_again c.requires.unsatisfiable (inl (record { left = trimmed.trimmed; additions = trimmed.additions; again = trimmed.again })) c.printed.ensures.said
 
 pub returns-in-Err-RatStep : goal.returns-in-Err-RatStep
 returns-in-Err-RatStep c =
     let line = c.in-Err-RatStep.field-0-0 in
     let is = c.in-Err-RatStep.is ∙ ap Err c.in-Err-RatStep.field-0-is in
     let printed = c.printed-in-Err-RatStep in
-    is_hinted c.args.formula.now c.args.log.now.steps printed.result printed.ensures.text printed.ensures.read_again (c.trim.ensures.rat_accepted line is) c.requires.unsatisfiable
-    (inr (line, c.trim.ensures.rat line is)) printed.ensures.said
+    let steps = c.args.log.now.steps in
+    are_hints c.args.formula.now (progress steps c.args.tally) steps c.additions-given.result printed.result c.additions-given.ensures (omega arith)
+    printed.ensures.text printed.ensures.read_again (c.trim.ensures.rat_accepted line is) c.requires.unsatisfiable (inr (refl, (line, c.trim.ensures.rat line is))) printed.ensures.said

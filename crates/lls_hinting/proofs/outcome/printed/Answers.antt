@@ -5,9 +5,4 @@ use Rattle.lls_hinting.proofs.outcome.printed.Goals as goal
 pub returns-clause-said : goal.returns-clause-said
 returns-clause-said c =
     let t = c.args.tally in
-    record {
-      given = c.args.given;
-      reasons = t.reasons;
-      unknown = t.unknown;
-      text_is = subst (λ (kept : ℕ). c.in_ok-text.text.items ≡ hints_text kept c.args.given t.reasons t.unknown) c.additions-kept.ensures c.in_ok-text.ensures;
-    }
+    subst (λ (kept : ℕ). c.in_ok-text.text.items ≡ hints_text kept c.args.given t.reasons t.unknown) c.additions-kept.ensures c.in_ok-text.ensures
