@@ -1,4 +1,4 @@
-use Rattle.std.proofs.Common.{◌∙◌, [], ◌∷◌, ◌++◌, ◌≡◌, ℕ, Ok, Err, true, false, refl, sym, ap, subst, arith}
+use Rattle.std.proofs.Common.{◌∙◌, [], ◌∷◌, ◌++◌, ℕ, Ok, Err, true, false, refl, sym, ap, subst, arith}
 use Rattle.std.proofs.lemmas.Result.{err_from_is_err_and}
 use Rattle.lls_base.specs.Shelf.{known_rest}
 use Rattle.lls_base.proofs.Faults.{Counts-refl, Counts-trans}
