@@ -12,20 +12,32 @@ fn name(alloc: Global, text: &str) -> Result<Name, AllocError> {
     Ok(Name::new(String::from_str(alloc, text)?))
 }
 
-// A shelf whose one file `seed` holds `glider`, and that takes three bytes at a call.
-fn shelf(alloc: Global, plan: Plan) -> Result<MemShelf, AllocError> {
-    let mut files = Vec::new(alloc);
-    files.push((name(alloc, "seed")?, b"glider".to_vec(alloc)?))?;
-    Ok(MemShelf::new(alloc, files, plan, 3))
+// The calls that fail, each counted from 1: one of a kind, or none where it says 0.
+#[derive(Clone, Copy)]
+struct Failing {
+    open: u64,
+    read: u64,
+    create: u64,
+    write: u64,
 }
 
-fn no_faults(alloc: Global) -> Plan {
-    Plan {
-        opens: Vec::new(alloc),
-        reads: Vec::new(alloc),
-        creates: Vec::new(alloc),
-        writes: Vec::new(alloc),
-    }
+const NONE: Failing = Failing {
+    open: 0,
+    read: 0,
+    create: 0,
+    write: 0,
+};
+
+// A shelf whose one file `seed` holds `glider`, and that takes three bytes at a call.
+fn shelf(alloc: Global, failing: Failing) -> Result<MemShelf, AllocError> {
+    let plan = Plan {
+        opens: vec![in alloc; failing.open]?,
+        reads: vec![in alloc; failing.read]?,
+        creates: vec![in alloc; failing.create]?,
+        writes: vec![in alloc; failing.write]?,
+    };
+    let files = vec![in alloc; (name(alloc, "seed")?, b"glider".to_vec(alloc)?)]?;
+    Ok(MemShelf::new(alloc, files, plan, 3))
 }
 
 #[test]
@@ -55,10 +67,12 @@ fn a_file_is_written_whole_or_in_front(rt: HostRuntime) -> Result<(), Fail> {
         (0, 2, Err(FileFault::WriteFailed), b"blo"),
     ];
     for (create, write, answer, bytes) in rows {
-        let mut plan = no_faults(alloc);
-        plan.creates.push(create)?;
-        plan.writes.push(write)?;
-        let mut shelf = shelf(alloc, plan)?;
+        let failing = Failing {
+            create,
+            write,
+            ..NONE
+        };
+        let mut shelf = shelf(alloc, failing)?;
         let found = write_file(&mut shelf, &name(alloc, "seed")?, b"block");
         let file = shelf.file("seed").ok_or("no file")?;
         let other = shelf.file("see").is_some();
@@ -73,7 +87,7 @@ fn a_file_is_written_whole_or_in_front(rt: HostRuntime) -> Result<(), Fail> {
 #[test]
 fn a_file_is_made(rt: HostRuntime) -> Result<(), Fail> {
     let alloc = rt.alloc();
-    let mut shelf = shelf(alloc, no_faults(alloc))?;
+    let mut shelf = shelf(alloc, NONE)?;
     let found = write_file(&mut shelf, &name(alloc, "proof")?, b"5 0 1");
     let files = (shelf.file("proof"), shelf.file("seed"));
     let wanted = (Some(b"5 0 1".as_slice()), Some(b"glider".as_slice()));
@@ -94,10 +108,8 @@ fn a_file_is_read_up_to_its_limit(rt: HostRuntime) -> Result<(), Fail> {
         ("proof", 0, 0, 6, Err(ReadError::NoFile), b"> "),
     ];
     for (file, open, read, limit, answer, bytes) in rows {
-        let mut plan = no_faults(alloc);
-        plan.opens.push(open)?;
-        plan.reads.push(read)?;
-        let mut shelf = shelf(alloc, plan)?;
+        let failing = Failing { open, read, ..NONE };
+        let mut shelf = shelf(alloc, failing)?;
         let mut into = b"> ".to_vec(alloc)?;
         let found = read_all(&mut shelf, &name(alloc, file)?, limit, &mut into);
         assert_eq!(rt;

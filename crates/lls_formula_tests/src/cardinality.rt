@@ -1,31 +1,9 @@
 // Counters worked out by hand, as DIMACS writes clauses.
-ghost use Rattle.std.specs.Prelude.{◌≡◌};
-ghost use Rattle.lls_lit.specs.Formula.{is_within};
-
+use crate::formulas::{are_within, clauses};
 use lls_cardinality::{CounterVars, push_counter};
 use lls_cnf::Formula;
 use lls_lit::Lit;
-use std::alloc::{AllocError, Global};
 use std::test::Fail;
-
-// The clauses in their order, each ended by 0.
-fn clauses(alloc: Global, formula: &Formula) -> Result<String, AllocError> {
-    let mut text = String::new(alloc);
-    for k in 0..formula.len() {
-        for literal in formula.clause(k) {
-            write!(text, "{} ", literal.number())?;
-        }
-        text.push_str("0\n")?;
-    }
-    Ok(text)
-}
-
-// Whether each literal's variable is at most `vars`.
-fn are_within(cells: &[Lit], vars: u32) -> bool
-    ensures { result ≡ is_within vars cells.now }
-{
-    cells.iter().all(|cell| cell.is_of(vars))
-}
 
 #[test]
 fn clauses_of_counters(rt: HostRuntime) -> Result<(), Fail> {

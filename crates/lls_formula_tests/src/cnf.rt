@@ -1,70 +1,26 @@
 // A formula's clauses are read back.
-ghost use Rattle.std.specs.Prelude.{◌≡◌};
-ghost use Rattle.lls_lit.specs.Formula.{is_within};
-
+use crate::formulas::{are_within, assert_clauses, formula_of, literals, put};
 use lls_cnf::{Assignment, Formula, holds};
-use lls_lit::Lit;
-use std::alloc::Global;
-use std::process::Abort;
 use std::test::Fail;
-
-fn are_within(lits: &[Lit], vars: u32) -> bool
-    ensures { result ≡ is_within vars lits.now }
-{
-    lits.iter().all(|lit| lit.is_of(vars))
-}
-
-fn put(rt: &impl Abort, formula: &mut Formula, clause: &[Lit]) {
-    assert!(rt; formula.len() < Formula::MOST_CLAUSES);
-    assert!(rt; are_within(clause, formula.vars()));
-    assert_eq!(rt; formula.push(clause), Ok(()));
-}
 
 #[test]
 fn clauses_are_read_back(rt: HostRuntime) -> Result<(), Fail> {
-    let one = Lit::from_number(1).ok_or("a literal")?;
-    let two = Lit::from_number(-2).ok_or("a literal")?;
-    let both = [one, two];
-    let last = [two];
-    let mut formula = Formula::new(rt.alloc(), 2);
-    assert!(rt; formula.is_empty());
-    put(&rt, &mut formula, &both);
-    put(&rt, &mut formula, &[]);
-    put(&rt, &mut formula, &last);
-    assert_eq!(rt; formula.vars(), 2);
-    assert_eq!(rt; formula.len(), 3);
-    assert_eq!(rt; formula.clause(0), both.as_slice());
-    assert!(rt; formula.clause(1).is_empty());
-    assert_eq!(rt; formula.clause(2), last.as_slice());
-    Ok(())
+    let alloc = rt.alloc();
+    assert!(rt; Formula::new(alloc, 2).is_empty());
+    let formula = formula_of(&rt, alloc, 2, &[&[1, -2], &[], &[-2]])?;
+    assert_clauses(&rt, alloc, &formula, 2, "1 -2 0\n0\n-2 0\n")
 }
 
-fn literals(alloc: Global, numbers: &[i32]) -> Result<Vec<Lit>, Fail> {
-    let mut lits = Vec::new(alloc);
-    for number in numbers {
-        lits.push(Lit::from_number(*number).ok_or("a literal")?)?;
-    }
-    Ok(lits)
-}
-
-// 1 -2, 2 3 and -3 over three variables.
-fn worked(rt: &impl Abort, alloc: Global) -> Result<Formula, Fail> {
-    let mut formula = Formula::new(alloc, 3);
-    for clause in [[1, -2].as_slice(), &[2, 3], &[-3]] {
-        put(rt, &mut formula, &literals(alloc, clause)?);
-    }
-    Ok(formula)
-}
+// Over three variables.
+const WORKED: [&[i32]; 3] = [&[1, -2], &[2, 3], &[-3]];
 
 #[test]
 fn variables_are_added(rt: HostRuntime) -> Result<(), Fail> {
-    let mut formula = worked(&rt, rt.alloc())?;
+    let mut formula = formula_of(&rt, rt.alloc(), 3, &WORKED)?;
     assert_eq!(rt; formula.vars(), 3);
     assert_eq!(rt; formula.more_vars(4), 3);
-    assert_eq!(rt; formula.vars(), 7);
     put(&rt, &mut formula, &literals(rt.alloc(), &[7])?);
-    assert_eq!(rt; formula.len(), 4);
-    Ok(())
+    assert_clauses(&rt, rt.alloc(), &formula, 7, "1 -2 0\n2 3 0\n-3 0\n7 0\n")
 }
 
 #[test]
@@ -78,15 +34,12 @@ fn later_clauses_are_cut_off(rt: HostRuntime) -> Result<(), Fail> {
     assert!(rt; are_within(&more, 3));
     formula.push(&more)?;
     formula.cut(1, 2);
-    assert_eq!(rt; formula.vars(), 2);
-    assert_eq!(rt; formula.len(), 1);
-    assert_eq!(rt; formula.clause(0), both.as_slice());
-    Ok(())
+    assert_clauses(&rt, rt.alloc(), &formula, 2, "1 -2 0\n")
 }
 
 #[test]
 fn assignments_hold_or_fail(rt: HostRuntime) -> Result<(), Fail> {
-    let formula = worked(&rt, rt.alloc())?;
+    let formula = formula_of(&rt, rt.alloc(), 3, &WORKED)?;
     let rows = [
         ([true, true, false], true),
         ([true, false, false], false),

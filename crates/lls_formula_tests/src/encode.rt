@@ -6,6 +6,7 @@ ghost use Rattle.lls_problem.specs.Problem.{IsPeriod};
 
 mod parts;
 
+use crate::formulas::assert_clauses;
 use lls_cnf::{Assignment, Formula};
 use lls_encode::{decode, encode};
 use lls_grid::print_history;
@@ -16,31 +17,6 @@ use lls_symmetry::Symmetry;
 use std::alloc::{AllocError, Global};
 use std::process::Abort;
 use std::test::Fail;
-
-// The clauses in their order, each ended by 0.
-fn clauses(alloc: Global, formula: &Formula) -> Result<String, AllocError> {
-    let mut text = String::new(alloc);
-    for k in 0..formula.len() {
-        for literal in formula.clause(k) {
-            write!(text, "{} ", literal.number())?;
-        }
-        text.push_str("0\n")?;
-    }
-    Ok(text)
-}
-
-// Whether the formula has so many variables and these clauses.
-fn assert_clauses(
-    rt: &impl Abort,
-    alloc: Global,
-    formula: &Formula,
-    vars: u32,
-    text: &str,
-) -> Result<(), Fail> {
-    let found = clauses(alloc, formula)?;
-    assert_eq!(rt; (formula.vars(), found.as_str()), (vars, text));
-    Ok(())
-}
 
 // The formula of a search file under a rule and demands.
 fn encoded(

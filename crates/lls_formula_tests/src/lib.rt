@@ -17,6 +17,8 @@ mod dimacs;
 #[cfg(test)]
 mod encode;
 #[cfg(test)]
+mod formulas;
+#[cfg(test)]
 mod least;
 #[cfg(test)]
 mod lrat;

@@ -1,47 +1,22 @@
 // Proofs against the formula 1, 2, 1 -2, -1 -2, worked by hand.
-ghost use Rattle.std.specs.Prelude.{◌≡◌};
-ghost use Rattle.lls_lit.specs.Formula.{is_within};
-
+use crate::formulas::{formula_of, literals};
 use lls_cnf::Formula;
-use lls_lit::Lit;
-use lls_lrat::{Checker, Progress, Refusal, check_bytes};
+use lls_lrat::{CheckError, Checked, Checker, Progress, Refusal, check_bytes};
 use lls_prooflog::{Hints, Ids, Lits, Step, StepFault};
 use std::alloc::Global;
 use std::process::Abort;
 use std::test::Fail;
 
-fn are_within(lits: &[Lit], vars: u32) -> bool
-    ensures { result ≡ is_within vars lits.now }
-{
-    lits.iter().all(|lit| lit.is_of(vars))
-}
-
-pub(crate) fn literals(alloc: Global, numbers: &[i32]) -> Result<Vec<Lit>, Fail> {
-    let mut lits = Vec::new(alloc);
-    for number in numbers {
-        lits.push(Lit::from_number(*number).ok_or("a literal")?)?;
-    }
-    Ok(lits)
-}
-
 pub(crate) fn formula(rt: &impl Abort, alloc: Global) -> Result<Formula, Fail> {
-    formula_of(rt, alloc, &[&[1], &[2], &[1, -2], &[-1, -2]])
+    formula_of(rt, alloc, 2, &[&[1], &[2], &[1, -2], &[-1, -2]])
 }
 
-// A formula over two variables.
-pub(crate) fn formula_of(
-    rt: &impl Abort,
-    alloc: Global,
-    clauses: &[&[i32]],
-) -> Result<Formula, Fail> {
-    let mut formula = Formula::new(alloc, 2);
-    for clause in clauses {
-        let lits = literals(alloc, clause)?;
-        assert!(rt; formula.len() < Formula::MOST_CLAUSES);
-        assert!(rt; are_within(&lits, formula.vars()));
-        formula.push(&lits)?;
-    }
-    Ok(formula)
+// What a check came to, as text.
+pub(crate) fn outcome(alloc: Global, found: Result<Checked, CheckError>) -> Result<String, Fail> {
+    Ok(match found {
+        Ok(_) => String::from_str(alloc, "accepted")?,
+        Err(fault) => format!(in alloc; "{fault}")?,
+    })
 }
 
 fn compare(rt: &impl Abort, alloc: Global, text: &[u8], want: &str) -> Result<(), Fail> {
@@ -56,10 +31,7 @@ fn compare_over(
     text: &[u8],
     want: &str,
 ) -> Result<(), Fail> {
-    let found = match check_bytes(alloc, formula, text) {
-        Ok(_) => String::from_str(alloc, "accepted")?,
-        Err(fault) => format!(in alloc; "{fault}")?,
-    };
+    let found = outcome(alloc, check_bytes(alloc, formula, text))?;
     assert_eq!(rt; found.as_str(), want, "at {text:?}");
     Ok(())
 }
@@ -120,7 +92,7 @@ const PIVOTS: [(&str, &str); 17] = [
 #[test]
 fn pivots_are_shown_by_groups(rt: HostRuntime) -> Result<(), Fail> {
     let clauses: [&[i32]; 4] = [&[1, 2], &[1, -2], &[-1, 2], &[-1, -2]];
-    let formula = formula_of(&rt, rt.alloc(), &clauses)?;
+    let formula = formula_of(&rt, rt.alloc(), 2, &clauses)?;
     for (text, want) in PIVOTS {
         compare_over(&rt, rt.alloc(), &formula, text.as_bytes(), want)?;
     }
@@ -268,15 +240,20 @@ const STEPS: [(Row, Result<Progress, Refusal>); 10] = [
     (Row::Add(6, &[], &[]), Ok(Progress::Done)),
 ];
 
+fn compare_steps(rt: &impl Abort, alloc: Global, checker: &mut Checker) -> Result<(), Fail> {
+    for (row, want) in &STEPS {
+        let step = step_of(alloc, *row)?;
+        assert!(rt; step.is_in_range());
+        assert_eq!(rt; checker.step(&step), *want, "at {row:?}");
+    }
+    Ok(())
+}
+
 #[test]
 fn steps_in_turn(rt: HostRuntime) -> Result<(), Fail> {
     let formula = formula(&rt, rt.alloc())?;
     let mut checker = Checker::new(rt.alloc(), &formula)?;
-    for (row, want) in &STEPS {
-        let step = step_of(rt.alloc(), *row)?;
-        assert!(rt; step.is_in_range());
-        assert_eq!(rt; checker.step(&step), *want, "at {row:?}");
-    }
+    compare_steps(&rt, rt.alloc(), &mut checker)?;
     assert!(rt; checker.finish().is_some());
     Ok(())
 }

@@ -42,34 +42,48 @@ fn compare(rt: &impl Abort, checker: &Checker, live: usize) {
     assert!(rt; held / 2 <= live.saturating_add(2048), "{held} for {live}");
 }
 
-#[test]
-fn the_buffer_follows_the_live_clauses(rt: HostRuntime) -> Result<(), Fail> {
-    let alloc = rt.alloc();
-    let formula = formula(&rt, alloc)?;
-    let mut checker = Checker::new(alloc, &formula)?;
-    compare(&rt, &checker, 0);
-    // clauses that are deleted before the next is added
+// Clauses that are deleted before the next is added.
+fn add_and_delete(rt: &impl Abort, alloc: Global, checker: &mut Checker) -> Result<(), Fail> {
     for id in 5..1005 {
-        add(&rt, alloc, &mut checker, id, 100)?;
-        compare(&rt, &checker, 100);
-        delete(&rt, alloc, &mut checker, &[id])?;
-        compare(&rt, &checker, 0);
+        add(rt, alloc, checker, id, 100)?;
+        compare(rt, checker, 100);
+        delete(rt, alloc, checker, &[id])?;
+        compare(rt, checker, 0);
     }
-    // those that stay, and one under an id of the formula
-    for k in 0..200_u32 {
-        add(&rt, alloc, &mut checker, 1005 + k as u64, 100)?;
-        compare(&rt, &checker, 100 * k as usize + 100);
+    Ok(())
+}
+
+// Clauses that stay.
+fn add_more(rt: &impl Abort, alloc: Global, checker: &mut Checker) -> Result<(), Fail> {
+    for k in 1..=200_u32 {
+        add(rt, alloc, checker, 1004 + u64::from(k), 100)?;
+        compare(rt, checker, 100 * k as usize);
     }
-    delete(&rt, alloc, &mut checker, &[1])?;
-    add(&rt, alloc, &mut checker, 1, 9000)?;
-    compare(&rt, &checker, 29_000);
+    Ok(())
+}
+
+// One under an id of the formula, and what is left after deletions.
+fn delete_more(rt: &impl Abort, alloc: Global, checker: &mut Checker) -> Result<(), Fail> {
+    delete(rt, alloc, checker, &[1])?;
+    add(rt, alloc, checker, 1, 9000)?;
+    compare(rt, checker, 29_000);
     for (ids, left) in [
         ([1005, 1006], 28_800),
         ([1, 1007], 19_700),
         ([3, 9], 19_700),
     ] {
-        delete(&rt, alloc, &mut checker, &ids)?;
-        compare(&rt, &checker, left);
+        delete(rt, alloc, checker, &ids)?;
+        compare(rt, checker, left);
     }
     Ok(())
+}
+
+#[test]
+fn the_buffer_follows_the_live_clauses(rt: HostRuntime) -> Result<(), Fail> {
+    let formula = formula(&rt, rt.alloc())?;
+    let mut checker = Checker::new(rt.alloc(), &formula)?;
+    compare(&rt, &checker, 0);
+    add_and_delete(&rt, rt.alloc(), &mut checker)?;
+    add_more(&rt, rt.alloc(), &mut checker)?;
+    delete_more(&rt, rt.alloc(), &mut checker)
 }

@@ -1,7 +1,8 @@
 // Logs against the formula 1, 2, 1 -2, -1 -2: what they amount to, and their texts.
-use crate::lrat::{Row, formula, literals};
-use lls_lrat::{CheckError, Checked, check, check_bytes};
-use lls_prooflog::{Hints, Ids, Lits, Log, Step, print_log};
+use crate::formulas::push_add;
+use crate::lrat::{Row, formula, outcome};
+use lls_lrat::{check, check_bytes};
+use lls_prooflog::{Ids, Log, Step, print_log};
 use std::alloc::Global;
 use std::process::Abort;
 use std::test::Fail;
@@ -11,26 +12,6 @@ fn push(rt: &impl Abort, alloc: Global, log: &mut Log, row: Row) -> Result<(), F
         Row::Add(id, lits, hints) => push_add(rt, alloc, log, id, lits, hints),
         Row::Del(ids) => push_del(rt, alloc, log, ids),
     }
-}
-
-fn push_add(
-    rt: &impl Abort,
-    alloc: Global,
-    log: &mut Log,
-    id: u64,
-    lits: &[i32],
-    hints: &[i64],
-) -> Result<(), Fail> {
-    let clause = literals(alloc, lits)?;
-    log.reserve(1, clause.len(), hints.len())?;
-    let step = Step::Add {
-        id,
-        lits: Lits::new(literals(alloc, lits)?),
-        hints: Hints::new(Vec::from_slice(alloc, hints)?),
-    };
-    assert!(rt; step.is_in_range());
-    log.push_add(id, &clause, hints);
-    Ok(())
 }
 
 fn push_del(rt: &impl Abort, alloc: Global, log: &mut Log, ids: &[u64]) -> Result<(), Fail> {
@@ -49,14 +30,6 @@ fn log_of(rt: &impl Abort, alloc: Global, rows: &[Row]) -> Result<Log, Fail> {
         push(rt, alloc, &mut log, *row)?;
     }
     Ok(log)
-}
-
-// What a check came to, as text.
-fn outcome(alloc: Global, found: Result<Checked, CheckError>) -> Result<String, Fail> {
-    Ok(match found {
-        Ok(_) => String::from_str(alloc, "accepted")?,
-        Err(fault) => format!(in alloc; "{fault}")?,
-    })
 }
 
 fn compare(

@@ -1,16 +1,9 @@
 // Proofs that come in pieces, against the formula 1, 2, 1 -2, -1 -2.
-use crate::lrat::formula;
-use lls_lrat::{CheckError, Checked, Feed, Progress, check_bytes};
+use crate::lrat::{formula, outcome};
+use lls_lrat::{Feed, Progress, check_bytes};
 use std::alloc::Global;
 use std::process::Abort;
 use std::test::Fail;
-
-fn outcome(alloc: Global, found: Result<Checked, CheckError>) -> Result<String, Fail> {
-    match found {
-        Ok(_) => Ok(String::from_str(alloc, "accepted")?),
-        Err(fault) => Ok(format!(in alloc; "{fault}")?),
-    }
-}
 
 // What the pieces come to.
 fn fed(rt: &impl Abort, alloc: Global, pieces: &[&[u8]]) -> Result<String, Fail> {

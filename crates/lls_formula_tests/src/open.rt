@@ -1,4 +1,5 @@
 // Formulas of problems whose rule is left open, worked out by hand and by an independent script, and what assignments say.
+use crate::formulas::clauses;
 use lls_cnf::{Assignment, Formula};
 use lls_grid::print_history;
 use lls_hensel::{print_rule, read_rule};
@@ -6,7 +7,7 @@ use lls_open::{MOST_OPEN_CELLS, are_ends, decode_open, encode_open, open_classes
 use lls_problem::{Demands, Edge, Form, Problem, make_problem};
 use lls_rule::Rule;
 use lls_search_file::read_posed;
-use std::alloc::{AllocError, Global};
+use std::alloc::Global;
 use std::test::Fail;
 
 // The rule of a text.
@@ -15,18 +16,6 @@ fn rule(text: &str) -> Result<Rule, Fail> {
         Ok(rule) => Ok(rule),
         Err(_) => Err(Fail::from("a rule's text")),
     }
-}
-
-// The clauses in their order, each ended by 0.
-fn clauses(alloc: Global, formula: &Formula) -> Result<String, AllocError> {
-    let mut text = String::new(alloc);
-    for k in 0..formula.len() {
-        for literal in formula.clause(k) {
-            write!(text, "{} ", literal.number())?;
-        }
-        text.push_str("0\n")?;
-    }
-    Ok(text)
 }
 
 // The problem of a search file.

@@ -3,25 +3,13 @@ ghost use Rattle.std.specs.Prelude.{◌≡◌};
 ghost use Rattle.std.specs.List.{list_all};
 ghost use Rattle.lls_transition.specs.Place.{place_within};
 
+use crate::formulas::clauses;
 use lls_cnf::Formula;
 use lls_cube::cover;
 use lls_lit::Lit;
 use lls_rule::Rule;
 use lls_transition::{INPUTS, Place, push_cubes_once, push_transition, table_of};
-use std::alloc::{AllocError, Global};
 use std::test::Fail;
-
-// The clauses in their order, each ended by 0.
-fn clauses(alloc: Global, formula: &Formula) -> Result<String, AllocError> {
-    let mut text = String::new(alloc);
-    for k in 0..formula.len() {
-        for literal in formula.clause(k) {
-            write!(text, "{} ", literal.number())?;
-        }
-        text.push_str("0\n")?;
-    }
-    Ok(text)
-}
 
 // Ten inputs: 0 and 100 are the constants dead and live, and any other number is a literal.
 fn inputs(numbers: [i32; INPUTS]) -> [Place; INPUTS] {

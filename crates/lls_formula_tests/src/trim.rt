@@ -1,11 +1,10 @@
 // Proofs over the clauses 1 2, 1 -2, -1 2 and -1 -2, with the number of their additions and what is left of them once they are trimmed,
 // worked by hand.
-use crate::lrat::{formula_of, literals};
+use crate::formulas::{formula_of, push_add};
 use lls_lrat::check;
-use lls_prooflog::{Hints, Lits, Log, Step, print_log};
+use lls_prooflog::{Log, print_log};
 use lls_trim::{TrimError, Trimming, trim, trim_bytes};
 use std::alloc::Global;
-use std::process::Abort;
 use std::test::Fail;
 
 const CLAUSES: [&[i32]; 4] = [&[1, 2], &[1, -2], &[-1, 2], &[-1, -2]];
@@ -90,7 +89,7 @@ fn outcome(alloc: Global, found: Result<Trimming, TrimError>) -> Result<Vec<u8>,
 
 #[test]
 fn needed_additions_are_kept(rt: HostRuntime) -> Result<(), Fail> {
-    let formula = formula_of(&rt, rt.alloc(), &CLAUSES)?;
+    let formula = formula_of(&rt, rt.alloc(), 2, &CLAUSES)?;
     for (text, additions, want) in KEPT {
         let Ok(trimming) = trim_bytes(rt.alloc(), &formula, text.as_bytes()) else {
             return Err("trimmed")?;
@@ -107,7 +106,7 @@ fn needed_additions_are_kept(rt: HostRuntime) -> Result<(), Fail> {
 
 #[test]
 fn refusals_are_told(rt: HostRuntime) -> Result<(), Fail> {
-    let formula = formula_of(&rt, rt.alloc(), &CLAUSES)?;
+    let formula = formula_of(&rt, rt.alloc(), 2, &CLAUSES)?;
     for (text, want) in REFUSED {
         let found = outcome(
             rt.alloc(),
@@ -118,35 +117,15 @@ fn refusals_are_told(rt: HostRuntime) -> Result<(), Fail> {
     Ok(())
 }
 
-fn push(
-    rt: &impl Abort,
-    alloc: Global,
-    log: &mut Log,
-    id: u64,
-    lits: &[i32],
-    hints: &[i64],
-) -> Result<(), Fail> {
-    let clause = literals(alloc, lits)?;
-    log.reserve(1, clause.len(), hints.len())?;
-    let step = Step::Add {
-        id,
-        lits: Lits::new(literals(alloc, lits)?),
-        hints: Hints::new(Vec::from_slice(alloc, hints)?),
-    };
-    assert!(rt; step.is_in_range());
-    log.push_add(id, &clause, hints);
-    Ok(())
-}
-
 #[test]
 fn steps_of_a_log_are_its_lines(rt: HostRuntime) -> Result<(), Fail> {
-    let formula = formula_of(&rt, rt.alloc(), &CLAUSES)?;
+    let formula = formula_of(&rt, rt.alloc(), 2, &CLAUSES)?;
     let mut log = Log::new(rt.alloc());
     let empty = outcome(rt.alloc(), trim(rt.alloc(), &formula, &log))?;
     assert_eq!(rt; empty.as_slice(), b"NoEmpty".as_slice());
-    push(&rt, rt.alloc(), &mut log, 9, &[1], &[1, 2])?;
-    push(&rt, rt.alloc(), &mut log, 7, &[3], &[])?;
-    push(&rt, rt.alloc(), &mut log, 8, &[], &[7, 9, 3, 4])?;
+    push_add(&rt, rt.alloc(), &mut log, 9, &[1], &[1, 2])?;
+    push_add(&rt, rt.alloc(), &mut log, 7, &[3], &[])?;
+    push_add(&rt, rt.alloc(), &mut log, 8, &[], &[7, 9, 3, 4])?;
     let found = outcome(rt.alloc(), trim(rt.alloc(), &formula, &log))?;
     assert_eq!(rt; found.as_slice(), b"RatStep 2".as_slice());
     Ok(())

@@ -2,7 +2,8 @@
 ghost use Rattle.std.specs.Prelude.{IsTrue};
 ghost use Rattle.lls_problem.specs.Solution.{IsFramed};
 
-use super::{assert_clauses, bound, bounded, has_ends};
+use super::{bound, bounded, has_ends};
+use crate::formulas::assert_clauses;
 use lls_cnf::Formula;
 use lls_encode::{inputs, push_after, push_before};
 use lls_problem::{Demands, Edge, Problem, make_problem};
