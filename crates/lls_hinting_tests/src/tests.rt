@@ -70,7 +70,7 @@ fn run_over(alloc: Global, words: &str, mut shelf: MemShelf) -> Result<Ended, Al
 // A proof, the status, the text, and the file that is left, if one is written.
 type Row = (&'static [u8], Status, &'static str, Option<&'static str>);
 
-const ROWS: [Row; 10] = [
+const ROWS: [Row; 11] = [
     (b"1 0\n0\n", Status::Done, KEPT, Some(HINTED)),
     // The same in bytes.
     (b"a\x02\x00a\x00", Status::Done, KEPT, Some(HINTED)),
@@ -85,6 +85,13 @@ const ROWS: [Row; 10] = [
         b"3 0\n1 0\n0\n",
         Status::Done,
         "kept 3 of 4\npassed over 0 deletions of reasons and 0 of unknown clauses\n",
+        Some(HINTED),
+    ),
+    // The clause 3 0 has a literal that holds for good, by itself, and there is no clause 3 1.
+    (
+        b"3 0\nd 3 0\nd 3 1 0\n1 0\n0\n",
+        Status::Done,
+        "kept 3 of 4\npassed over 1 deletions of reasons and 1 of unknown clauses\n",
         Some(HINTED),
     ),
     (b"3 0\n", Status::Refused, "refused: NoEmpty\n", None),
