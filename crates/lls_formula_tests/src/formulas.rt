@@ -3,7 +3,7 @@ ghost use Rattle.std.specs.Prelude.{◌≡◌};
 ghost use Rattle.lls_lit.specs.Formula.{is_within};
 
 use lls_cnf::Formula;
-use lls_lit::Lit;
+use lls_lit::{Lit, Var};
 use lls_prooflog::{Hints, Lits, Log, Step};
 use std::alloc::{AllocError, Global};
 use std::process::Abort;
@@ -38,6 +38,7 @@ pub(crate) fn formula_of(
     vars: u32,
     clauses: &[&[i32]],
 ) -> Result<Formula, Fail> {
+    assert!(rt; vars <= Var::MOST);
     let mut formula = Formula::new(alloc, vars);
     for clause in clauses {
         put(rt, &mut formula, &literals(alloc, clause)?);

@@ -5,6 +5,7 @@ use lls_lrat::check;
 use lls_prooflog::{Log, print_log};
 use lls_trim::{TrimError, Trimming, trim, trim_bytes};
 use std::alloc::Global;
+use std::process::Abort;
 use std::test::Fail;
 
 const CLAUSES: [&[i32]; 4] = [&[1, 2], &[1, -2], &[-1, 2], &[-1, -2]];
@@ -117,16 +118,25 @@ fn refusals_are_told(rt: HostRuntime) -> Result<(), Fail> {
     Ok(())
 }
 
+// A log whose empty clause rests on an addition by its pivot.
+fn worked_log(rt: &impl Abort, alloc: Global) -> Result<Log, Fail> {
+    let mut log = Log::new(alloc);
+    push_add(rt, alloc, &mut log, 9, &[1], &[1, 2])?;
+    push_add(rt, alloc, &mut log, 7, &[3], &[])?;
+    push_add(rt, alloc, &mut log, 8, &[], &[7, 9, 3, 4])?;
+    Ok(log)
+}
+
+fn compare_log(rt: &impl Abort, alloc: Global, log: &Log, want: &[u8]) -> Result<(), Fail> {
+    let formula = formula_of(rt, alloc, 2, &CLAUSES)?;
+    let found = outcome(alloc, trim(alloc, &formula, log))?;
+    assert_eq!(rt; found.as_slice(), want);
+    Ok(())
+}
+
 #[test]
 fn steps_of_a_log_are_its_lines(rt: HostRuntime) -> Result<(), Fail> {
-    let formula = formula_of(&rt, rt.alloc(), 2, &CLAUSES)?;
-    let mut log = Log::new(rt.alloc());
-    let empty = outcome(rt.alloc(), trim(rt.alloc(), &formula, &log))?;
-    assert_eq!(rt; empty.as_slice(), b"NoEmpty".as_slice());
-    push_add(&rt, rt.alloc(), &mut log, 9, &[1], &[1, 2])?;
-    push_add(&rt, rt.alloc(), &mut log, 7, &[3], &[])?;
-    push_add(&rt, rt.alloc(), &mut log, 8, &[], &[7, 9, 3, 4])?;
-    let found = outcome(rt.alloc(), trim(rt.alloc(), &formula, &log))?;
-    assert_eq!(rt; found.as_slice(), b"RatStep 2".as_slice());
-    Ok(())
+    compare_log(&rt, rt.alloc(), &Log::new(rt.alloc()), b"NoEmpty")?;
+    let log = worked_log(&rt, rt.alloc())?;
+    compare_log(&rt, rt.alloc(), &log, b"RatStep 2")
 }
