@@ -52,7 +52,7 @@ literal_clause v (l ∷ ls) e =
     let both = and_parts (is_literal_of v l) (is_within v ls) e in
     rw ((and_parts (nat_le 1 (variable_of l)) (nat_le (variable_of l) v) both.0).0, literal_clause v ls both.1) refl
 
-literals_within : (v : ℕ) (clauses : List Clause) → list_all (is_within v) clauses ≡ true → list_all are_literals clauses ≡ true
+pub literals_within : (v : ℕ) (clauses : List Clause) → list_all (is_within v) clauses ≡ true → list_all are_literals clauses ≡ true
 literals_within v [] e = refl
 literals_within v (c ∷ cs) e =
     let both = and_parts (is_within v c) (list_all (is_within v) cs) e in

@@ -13,6 +13,7 @@ pub mod Within
 pub mod Checks
 pub mod Verdicts
 pub mod Logs
+pub mod Accepting
 pub mod Feedings
 pub mod LineChecks
 pub mod Emptied

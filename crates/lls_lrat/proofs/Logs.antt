@@ -73,7 +73,7 @@ accepted-only (step ∷ steps) live lines e =
           ] good
     ] refl e
 
-closes : (end : Option Verdict) → closing end ≡ Accepted → end ≡ Some Accepted
+pub closes : (end : Option Verdict) → closing end ≡ Accepted → end ≡ Some Accepted
 closes None e = absurd cc
 closes (Some verdict) e = ap Some e
 

@@ -2,7 +2,7 @@
 ghost use Rattle.std.specs.Prelude.{◌≡◌, OnOk, IfOk};
 ghost use Rattle.lls_base.specs.Results.{Gives};
 ghost use Rattle.lls_lit.specs.Formula.{IsUnsatisfiable};
-ghost use Rattle.lls_lrat.specs.Verdict.{verdict, answer_of};
+ghost use Rattle.lls_lrat.specs.Verdict.{Accepted, verdict, answer_of};
 
 use crate::checked::Checked;
 use crate::error::CheckError;
@@ -23,6 +23,9 @@ pub fn check_bytes<'f>(
     ensures exact { Gives CheckError.Memory (λ _. tt) result (answer_of (verdict formula.now text.now)) }
     ensures formula { IfOk result (λ checked. checked ≡ formula.now) }
     ensures sound { OnOk result (IsUnsatisfiable formula.now) }
+
+    // An accepted text refutes the formula, whether or not there was memory to see that.
+    ensures refutes { verdict formula.now text.now ≡ Accepted → IsUnsatisfiable formula.now }
 {
     let mut feed = Feed::new(alloc, formula)?;
     match feed.feed(text) {

@@ -3,7 +3,7 @@ ghost use Rattle.std.specs.Prelude.{◌≡◌, ◌≤◌, ◌+◌, ◌*◌, [], 
 ghost use Rattle.std.specs.Option.{option_map};
 ghost use Rattle.lls_lit.specs.Formula.{is_within, IsUnsatisfiable};
 ghost use Rattle.lls_prooflog.specs.Range.{IsInRange};
-ghost use Rattle.lls_prooflog.specs.Steps.{numbered};
+ghost use Rattle.lls_prooflog.specs.Steps.{numbered, KeepsSatisfiable};
 ghost use Rattle.lls_prooflog.specs.Lent.{hints_of};
 ghost use Rattle.lls_prooflog.specs.Log.{step_of_ref};
 ghost use Rattle.lls_base.specs.Results.{GivesWrapped};
@@ -86,6 +86,9 @@ impl<'f> Checker<'f> {
         ensures progress { IfOk result (λ p. p ≡ progress_of self.new.done) }
         ensures err { OnErr result (self.new ≡ self.old) }
         ensures sound { result ≡ Ok Progress.Done → IsUnsatisfiable self.new.formula }
+
+        // Where the formula is satisfiable, so is what is live.
+        ensures keeps { KeepsSatisfiable self.new.formula self.new.live }
     {
         self.take(step.lend())
     }
@@ -97,6 +100,9 @@ impl<'f> Checker<'f> {
         ensures progress { IfOk result (λ p. p ≡ progress_of self.new.done) }
         ensures err { OnErr result (self.new ≡ self.old) }
         ensures sound { result ≡ Ok Progress.Done → IsUnsatisfiable self.new.formula }
+
+        // Where the formula is satisfiable, so is what is live.
+        ensures keeps { KeepsSatisfiable self.new.formula self.new.live }
     {
         if self.done {
             return Ok(Progress::Done);

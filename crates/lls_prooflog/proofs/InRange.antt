@@ -1,6 +1,6 @@
 -- What a line writes is in range.
 use Rattle.std.proofs.Common.{◌≡◌, ℕ, zero, suc, ◌+◌, Bool, true, false, not, cond, ◌&&◌, leb, leb-true, List, [], ◌∷◌, map, drop, Some, None, refl, w64, arith}
-use Rattle.std.specs.Prelude.{ℤ, pos, negsuc, Result, Ok, Err}
+use Rattle.std.specs.Prelude.{ℤ, pos, negsuc, nat_le, Result, Ok, Err}
 use Rattle.std.specs.List.{list_all, list_any}
 use Rattle.std.proofs.lemmas.Bool.{and_parts}
 use Rattle.std.proofs.lemmas.Int.{ints, to_z_pos, to_z-of_z}
@@ -15,7 +15,9 @@ use Rattle.lls_prooflog.specs.declared.number.Number.{Number}
 use Rattle.lls_prooflog.specs.declared.step.Step.{Step}
 use Rattle.lls_prooflog.specs.declared.step.Step.TheVariants.{Add, Del}
 use Rattle.lls_prooflog.specs.Number.{number_in, value_of, id_in, hint_in, leading_in, literal_in, in_range, ranged, item}
+use Rattle.lls_lit.specs.declared.var.TheConstants.Var.{MOST}
 use Rattle.lls_prooflog.specs.Range.{is_id, is_hint, is_in_range}
+use Rattle.lls_prooflog.specs.Steps.{has_literals}
 use Rattle.lls_prooflog.specs.Line.{comment, is_end, before_end, behind_end, all_of, if_ended, listed, step_alone, addition, deletion, begins_d, step_of_words, step_of_line}
 
 -- a value that follows from a part: the part has a value
@@ -94,19 +96,54 @@ deletion_in_range first words step e =
     let same : Del ids.0 ≡ step = alone (Del ids.0) step (behind_end words) ids.1.1 in
     rw (← same) (listed_pass (item id_in) is_id id_item words ids.0 ids.1.0)
 
+literal_within : (number : Number) (column : ℕ) (z : ℤ) → in_range column (literal_in number) ≡ Ok z → nat_le 1 (variable_of z) ≡ true
+literal_within number column z e =
+    let size = number.size in
+    elim (nat_le 1 size && nat_le size MOST) as (λ b. (nat_le 1 size && nat_le size MOST) ≡ b → in_range column (cond b (Some (value_of number)) None) ≡ Ok z → nat_le 1 (variable_of z) ≡ true) [
+      | true ↦ λ is k. let same : value_of number ≡ z = cc in rw (← same, variable_of-value number) (and_parts (nat_le 1 size) (nat_le size MOST) is).0
+      | false ↦ λ _ k. absurd cc
+    ] refl e
+
+literal_item : (word : PlacedWord) (z : ℤ) → item literal_in word ≡ Ok z → nat_le 1 (variable_of z) ≡ true
+literal_item word z e = elim (number_in word.text) as (λ o. ranged literal_in word.column o ≡ Ok z → nat_le 1 (variable_of z) ≡ true) [ None ↦ λ h. absurd cc | Some number ↦ λ h. literal_within number word.column z h ] e
+
+addition_has_literals : (first : PlacedWord) (words : List PlacedWord) (step : Step) → addition first words ≡ Ok (Some step) → has_literals step ≡ true
+addition_has_literals first words step e =
+    let id = and_then-Ok (item id_in first) _ (Some step) e in
+    let lits = and_then-Ok (listed (item literal_in) words) _ (Some step) id.1.1 in
+    let hints = and_then-Ok (listed (item hint_in) (behind_end words)) _ (Some step) lits.1.1 in
+    let same : Add id.0 lits.0 hints.0 ≡ step = alone (Add id.0 lits.0 hints.0) step (behind_end (behind_end words)) hints.1.1 in
+    rw (← same) (listed_pass (item literal_in) (λ l. nat_le 1 (variable_of l)) literal_item words lits.0 lits.1.0)
+
+deletion_has_literals : (first : PlacedWord) (words : List PlacedWord) (step : Step) → deletion first words ≡ Ok (Some step) → has_literals step ≡ true
+deletion_has_literals first words step e =
+    let leading = and_then-Ok (item leading_in first) _ (Some step) e in
+    let ids = and_then-Ok (listed (item id_in) words) _ (Some step) leading.1.1 in
+    let same : Del ids.0 ≡ step = alone (Del ids.0) step (behind_end words) ids.1.1 in
+    rw (← same) refl
+
+-- what additions and deletions pass, each step that a line writes passes
+module _ (test : Step → Bool) (added : (first : PlacedWord) (words : List PlacedWord) (step : Step) → addition first words ≡ Ok (Some step) → test step ≡ true) (deleted : (first : PlacedWord) (words : List PlacedWord) (step : Step) → deletion first words ≡ Ok (Some step) → test step ≡ true) where
+  words_pass : (words : List PlacedWord) (step : Step) → step_of_words words ≡ Ok (Some step) → test step ≡ true
+  words_pass [] step h = absurd cc
+  words_pass (first ∷ words) step h = elim (begins_d words) as (λ b. cond b (deletion first (drop 1 words)) (addition first words) ≡ Ok (Some step) → test step ≡ true) [
+    | true ↦ λ k. deleted first (drop 1 words) step k
+    | false ↦ λ k. added first words step k
+  ] h
+
+  line_passes : (line : List ℕ) (step : Step) → step_of_line line ≡ Ok (Some step) → test step ≡ true
+  line_passes line step e = elim (begins_with comment line) as (λ b. cond b (Ok None) (step_of_words (words_of line)) ≡ Ok (Some step) → test step ≡ true) [
+    | true ↦ λ h. absurd cc
+    | false ↦ λ h. words_pass (words_of line) step h
+  ] e
+
 -- what a line writes is in range
 pub line_in_range : (line : List ℕ) (step : Step) → step_of_line line ≡ Ok (Some step) → is_in_range step ≡ true
-line_in_range line step e = elim (begins_with comment line) as (λ b. cond b (Ok None) (step_of_words (words_of line)) ≡ Ok (Some step) → is_in_range step ≡ true) [
-  | true ↦ λ h. absurd cc
-  | false ↦ λ h. words_in_range (words_of line) h
-] e
-  where
-    words_in_range : (words : List PlacedWord) → step_of_words words ≡ Ok (Some step) → is_in_range step ≡ true
-    words_in_range [] h = absurd cc
-    words_in_range (first ∷ words) h = elim (begins_d words) as (λ b. cond b (deletion first (drop 1 words)) (addition first words) ≡ Ok (Some step) → is_in_range step ≡ true) [
-      | true ↦ λ k. deletion_in_range first (drop 1 words) step k
-      | false ↦ λ k. addition_in_range first words step k
-    ] h
+line_in_range line step e = line_passes is_in_range addition_in_range deletion_in_range line step e
+
+-- and none of its literals is 0
+pub line_has_literals : (line : List ℕ) (step : Step) → step_of_line line ≡ Ok (Some step) → has_literals step ≡ true
+line_has_literals line step e = line_passes has_literals addition_has_literals deletion_has_literals line step e
 
 -- a hint of 64 bits is passed on as it is
 pub passed : (hint : ℤ) → is_hint hint ≡ true → to_z w64 (of_z w64 hint) ≡ hint

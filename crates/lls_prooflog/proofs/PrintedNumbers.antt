@@ -1,5 +1,5 @@
 -- Printed numbers are words, and are read again.
-use Rattle.std.proofs.Common.{◌≡◌, ℕ, w64, suc, ◌+◌, ◌^◌, ◌<◌, Bool, true, false, not, ◌&&◌, eqb, leb, leb-true, List, [], ◌∷◌, length, get_or, Some, refl, ◌∙◌, arith}
+use Rattle.std.proofs.Common.{◌≡◌, ℕ, w64, suc, ◌+◌, ◌^◌, ◌<◌, ◌≤◌, Bool, true, false, not, ◌&&◌, eqb, leb, leb-true, List, [], ◌∷◌, length, get_or, Some, refl, ◌∙◌, arith}
 use Rattle.std.specs.Prelude.{ℤ, pos, negsuc, Ok, codes}
 use Rattle.std.specs.List.{list_all}
 use Rattle.std.specs.Char.{is_ascii_digit}
@@ -16,7 +16,7 @@ use Rattle.lls_text.proofs.NumberBytes.{is_number_byte, digits_are_digits, digit
 use Rattle.lls_lit.specs.Literal.{variable_of}
 use Rattle.lls_lit.specs.declared.var.TheConstants.Var.{MOST}
 use Rattle.lls_prooflog.specs.declared.step.TheConstants.Step.{MOST_ID}
-use Rattle.lls_prooflog.specs.Number.{is_zeros, number_in, signed_digits, id_in, hint_in, literal_in, item}
+use Rattle.lls_prooflog.specs.Number.{is_zeros, number_in, signed_digits, id_in, leading_in, hint_in, literal_in, item}
 use Rattle.lls_prooflog.specs.Range.{is_id, is_hint}
 
 some_length : (n : ℕ) → 0 < n → eqb n 0 ≡ false
@@ -70,6 +70,11 @@ id_bounds n e =
 
 pub id_word : (column n : ℕ) → is_id n ≡ true → item id_in (record { column = column; text = decimal n }) ≡ Ok n
 id_word column n e = rw (number_in-decimal n (id_bounds n e).1, e) refl
+
+pub leading_word : (column n : ℕ) → n ≤ MOST_ID → item leading_in (record { column = column; text = decimal n }) ≡ Ok n
+leading_word column n fits =
+    let most : leb n MOST_ID ≡ true = grind (arith, nat_tests) in
+    rw (number_in-decimal n (omega (arith, fits)), most) refl
 
 pub hint_word : (column : ℕ) (z : ℤ) → is_hint z ≡ true → item hint_in (record { column = column; text = signed_decimal z }) ≡ Ok z
 hint_word column (pos n) e = rw (number_in-decimal n (id_bounds n e).1, e) refl

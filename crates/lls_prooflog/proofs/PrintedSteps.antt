@@ -1,23 +1,24 @@
 -- Printed steps are read again.
-use Rattle.std.proofs.Common.{◌≡◌, ℕ, ◌+◌, true, false, List, [], ◌∷◌, ◌++◌, length, Some, refl, sym, ap, ◌∙◌, append_assoc}
+use Rattle.std.proofs.Common.{◌≡◌, ◌≤◌, ◌^◌, ◌<◌, ℕ, ◌+◌, true, false, List, [], ◌∷◌, ◌++◌, length, Some, refl, sym, ap, ◌∙◌, append_assoc, arith}
 use Rattle.std.specs.Prelude.{ℤ, Ok}
 use Rattle.std.specs.List.{list_all}
 use Rattle.std.specs.Fmt.{decimal, signed_decimal}
 use Rattle.std.proofs.lemmas.Bool.{and_parts}
 use Rattle.std.proofs.lemmas.List.{append-nil}
 use Rattle.lls_text.specs.Lines.{begins_with}
-use Rattle.lls_text.specs.Words.{PlacedWord, words_from, words_of}
+use Rattle.lls_text.specs.Words.{PlacedWord, is_solid, words_from, words_of}
 use Rattle.lls_text.proofs.Printed.{words_from-front, words_from-blank}
 use Rattle.lls_text.proofs.NumberBytes.{natural_bytes, solid_bytes, begins_with-number}
 use Rattle.lls_lit.specs.Formula.{is_within}
 use Rattle.lls_lit.specs.declared.var.TheConstants.Var.{MOST}
 use Rattle.lls_prooflog.specs.declared.step.Step.{Step}
+use Rattle.lls_prooflog.specs.declared.step.TheConstants.Step.{MOST_ID}
 use Rattle.lls_prooflog.specs.declared.step.Step.TheVariants.{Add, Del}
 use Rattle.lls_prooflog.specs.Number.{id_in, leading_in, literal_in, hint_in, item}
 use Rattle.lls_prooflog.specs.Range.{is_id, is_hint, IsInRange}
 use Rattle.lls_prooflog.specs.Line.{behind_end, listed, addition, deletion, begins_d, step_of_words, step_of_line, comment}
 use Rattle.lls_prooflog.specs.StepText.{step_line, AreLiterals}
-use Rattle.lls_prooflog.proofs.PrintedNumbers.{signed_bytes, is_zeros-decimal, is_zeros-signed, is_lit, id_bounds, lit_bounds, hint_bounds, id_word, lit_word, hint_word, no_d}
+use Rattle.lls_prooflog.proofs.PrintedNumbers.{signed_bytes, is_zeros-decimal, is_zeros-signed, is_lit, id_bounds, lit_bounds, hint_bounds, id_word, leading_word, lit_word, hint_word, no_d}
 use Rattle.lls_prooflog.proofs.PrintedLists.{list_text, IsPrinted, read_list}
 
 printed_id : (n : ℕ) → is_id n ≡ true → IsPrinted (item id_in) (decimal n) n
@@ -54,8 +55,8 @@ line-shape : (a b c : List ℕ) → (((a ++ 32 ∷ []) ++ b) ++ 32 ∷ []) ++ c 
 line-shape a b c = simp append_assoc
 
 -- the step that the line of an addition writes
-printed_addition : (id : ℕ) (lits hints : List ℤ) → is_within MOST lits ≡ true → is_id id ≡ true → list_all is_hint hints ≡ true → step_of_line (step_line (Add id lits hints)) ≡ Ok (Some (Add id lits hints))
-printed_addition id lits hints within is all =
+printed_addition : (greatest id : ℕ) (lits hints : List ℤ) → is_within MOST lits ≡ true → is_id id ≡ true → list_all is_hint hints ≡ true → step_of_line (step_line greatest (Add id lits hints)) ≡ Ok (Some (Add id lits hints))
+printed_addition greatest id lits hints within is all =
     let printed = printed_id id is in
     let bytes = natural_bytes id (id_bounds id is).1 in
     let last = list_text signed_decimal hints in
@@ -76,14 +77,37 @@ printed_addition id lits hints within is all =
     ∙ addition-words first words front.no_d
     ∙ addition-parts first words id lits hints (printed.read 1) front.listed (ap (listed (item hint_in)) behind ∙ back.listed) (ap behind_end behind ∙ back.behind)
 
--- and that of a deletion
-printed_deletion : (ids : List ℕ) → list_all is_id ids ≡ true → step_of_line (step_line (Del ids)) ≡ Ok (Some (Del ids))
-printed_deletion ids all =
-    let text = list_text decimal ids in
-    let back = read_list (item id_in) decimal is_id printed_id 5 ids [] all refl in
-    let whole : words_from 5 text ≡ words_from 5 (text ++ []) = ap (words_from 5) (sym (append-nil text)) in
-    deletion-parts (record { column = 1; text = 48 ∷ [] }) (words_from 5 text) 0 ids refl (ap (listed (item id_in)) whole ∙ back.listed) (ap behind_end whole ∙ back.behind)
+deletion-shape : (a b : List ℕ) → (a ++ 32 ∷ 100 ∷ 32 ∷ []) ++ b ≡ a ++ 32 ∷ 100 ∷ 32 ∷ b
+deletion-shape a b = append_assoc a (32 ∷ 100 ∷ 32 ∷ []) b
 
-pub step_of_line-step_line : (step : Step) → AreLiterals step → IsInRange step → step_of_line (step_line step) ≡ Ok (Some step)
-step_of_line-step_line (Add id lits hints) within range = let parts = and_parts (is_id id) (list_all is_hint hints) range in printed_addition id lits hints within parts.0 parts.1
-step_of_line-step_line (Del ids) within range = printed_deletion ids range
+-- a word, the d behind it, and what follows
+words-by-d : (a rest : List ℕ) → 0 < length a → list_all is_solid a ≡ true
+    → words_of (a ++ 32 ∷ 100 ∷ 32 ∷ rest) ≡ record { column = 1; text = a } ∷ record { column = 1 + length a + 1; text = 100 ∷ [] } ∷ words_from (1 + length a + 1 + 1 + 1) rest
+words-by-d a rest some solid =
+    let column = 1 + length a in
+    let first : PlacedWord = record { column = 1; text = a } in
+    let d : PlacedWord = record { column = column + 1; text = 100 ∷ [] } in
+    let one : words_of (a ++ 32 ∷ 100 ∷ 32 ∷ rest) ≡ first ∷ words_from column (32 ∷ 100 ∷ 32 ∷ rest) = words_from-front 1 a (32 ∷ 100 ∷ 32 ∷ rest) some solid refl in
+    let two : words_from column (32 ∷ 100 ∷ 32 ∷ rest) ≡ words_from (column + 1) (100 ∷ 32 ∷ rest) = words_from-blank column 32 (100 ∷ 32 ∷ rest) refl in
+    let three : words_from (column + 1) (100 ∷ 32 ∷ rest) ≡ d ∷ words_from (column + 1 + 1) (32 ∷ rest) = words_from-front (column + 1) (100 ∷ []) (32 ∷ rest) (omega arith) refl refl in
+    let four : words_from (column + 1 + 1) (32 ∷ rest) ≡ words_from (column + 1 + 1 + 1) rest = words_from-blank (column + 1 + 1) 32 rest refl in
+    one ∙ ap (λ (ws : List PlacedWord). first ∷ ws) (two ∙ three ∙ ap (λ (ws : List PlacedWord). d ∷ ws) four)
+
+-- and that of a deletion
+printed_deletion : (greatest : ℕ) (ids : List ℕ) → greatest ≤ MOST_ID → list_all is_id ids ≡ true → step_of_line (step_line greatest (Del ids)) ≡ Ok (Some (Del ids))
+printed_deletion greatest ids fits all =
+    let number = decimal greatest in
+    let bytes = natural_bytes greatest (omega (arith, fits)) in
+    let text = list_text decimal ids in
+    let rest = 32 ∷ 100 ∷ 32 ∷ text in
+    let from = 1 + length number + 1 + 1 + 1 in
+    let back = read_list (item id_in) decimal is_id printed_id from ids [] all refl in
+    let whole : words_from from text ≡ words_from from (text ++ []) = ap (words_from from) (sym (append-nil text)) in
+    ap step_of_line (deletion-shape number text)
+    ∙ step_of_line-words (number ++ rest) (begins_with-number comment number rest refl bytes.0 bytes.1)
+    ∙ ap step_of_words (words-by-d number text bytes.0 (solid_bytes number bytes.1))
+    ∙ deletion-parts (record { column = 1; text = number }) (words_from from text) greatest ids (leading_word 1 greatest fits) (ap (listed (item id_in)) whole ∙ back.listed) (ap behind_end whole ∙ back.behind)
+
+pub step_of_line-step_line : (greatest : ℕ) (step : Step) → greatest ≤ MOST_ID → AreLiterals step → IsInRange step → step_of_line (step_line greatest step) ≡ Ok (Some step)
+step_of_line-step_line greatest (Add id lits hints) fits within range = let parts = and_parts (is_id id) (list_all is_hint hints) range in printed_addition greatest id lits hints within parts.0 parts.1
+step_of_line-step_line greatest (Del ids) fits within range = printed_deletion greatest ids fits range

@@ -1,5 +1,5 @@
 -- The text of a step is one line.
-use Rattle.std.proofs.Common.{◌≡◌, ℕ, Bool, true, List, [], ◌∷◌, ◌++◌, refl}
+use Rattle.std.proofs.Common.{◌≡◌, ◌≤◌, ℕ, Bool, true, List, [], ◌∷◌, ◌++◌, refl, arith}
 use Rattle.std.specs.Prelude.{ℤ, codes}
 use Rattle.std.specs.List.{list_all, flat_map}
 use Rattle.std.specs.Fmt.{decimal, signed_decimal}
@@ -9,6 +9,7 @@ use Rattle.lls_text.specs.Lines.{lines_of}
 use Rattle.lls_text.proofs.Printed.{is_printed, lines_of-printed}
 use Rattle.lls_text.proofs.NumberBytes.{natural_bytes, printed_bytes}
 use Rattle.lls_prooflog.specs.declared.step.Step.{Step}
+use Rattle.lls_prooflog.specs.declared.step.TheConstants.Step.{MOST_ID}
 use Rattle.lls_prooflog.specs.declared.step.Step.TheVariants.{Add, Del}
 use Rattle.lls_prooflog.specs.Range.{is_id, is_hint, IsInRange}
 use Rattle.lls_prooflog.specs.StepText.{step_line, step_text, AreLiterals}
@@ -35,14 +36,16 @@ module _ {X : Type 0} (text_of : X → List ℕ) (test : X → Bool) (each : (x 
   list_printed xs all =
       rw (list_all-append is_printed (flat_map (λ x. text_of x ++ codes " ") xs) (codes "0"), items_printed xs all) refl
 
-pub step_printed : (step : Step) → AreLiterals step → IsInRange step → list_all is_printed (step_line step) ≡ true
-step_printed (Add id lits hints) within range =
+pub step_printed : (greatest : ℕ) (step : Step) → greatest ≤ MOST_ID → AreLiterals step → IsInRange step → list_all is_printed (step_line greatest step) ≡ true
+step_printed greatest (Add id lits hints) fits within range =
     let parts = and_parts (is_id id) (list_all is_hint hints) range in
     let front = decimal id ++ codes " " in
     let middle = list_text signed_decimal lits in
     let last = list_text signed_decimal hints in
     rw (list_all-append is_printed ((front ++ middle) ++ codes " ") last, list_all-append is_printed (front ++ middle) (codes " "), list_all-append is_printed front middle, list_all-append is_printed (decimal id) (codes " "), id_printed id parts.0, list_printed signed_decimal is_lit lit_printed lits within, list_printed signed_decimal is_hint hint_printed hints parts.1) refl
-step_printed (Del ids) within range = rw (list_all-append is_printed (codes "0 d ") (list_text decimal ids), list_printed decimal is_id id_printed ids range) refl
+step_printed greatest (Del ids) fits within range =
+    let first = printed_bytes (decimal greatest) (natural_bytes greatest (omega (arith, fits))).1 in
+    rw (list_all-append is_printed (decimal greatest ++ codes " d ") (list_text decimal ids), list_all-append is_printed (decimal greatest) (codes " d "), first, list_printed decimal is_id id_printed ids range) refl
 
-pub lines_of-step_text : (step : Step) → AreLiterals step → IsInRange step → lines_of (step_text step) ≡ step_line step ∷ []
-lines_of-step_text step within range = lines_of-printed (step_line step) [] (step_printed step within range)
+pub lines_of-step_text : (greatest : ℕ) (step : Step) → greatest ≤ MOST_ID → AreLiterals step → IsInRange step → lines_of (step_text greatest step) ≡ step_line greatest step ∷ []
+lines_of-step_text greatest step fits within range = lines_of-printed (step_line greatest step) [] (step_printed greatest step fits within range)

@@ -1,6 +1,5 @@
 -- A log as its callers see it, and its text.
-use Rattle.std.specs.Prelude.{◌≡◌, ◌≤◌, ℕ, List, map, Result, Ok, Option, Some}
-use Rattle.std.specs.List.{flat_map}
+use Rattle.std.specs.Prelude.{◌≡◌, ◌≤◌, ℕ, List, [], ◌∷◌, ◌++◌, map, Result, Ok, Option, Some}
 use Rattle.lls_text.specs.Lines.{lines_of}
 use Rattle.lls_prooflog.specs.declared.step.Step.{Step}
 use Rattle.lls_prooflog.specs.declared.step.Step.TheVariants.{Add, Del}
@@ -10,7 +9,7 @@ use Rattle.lls_prooflog.specs.declared.step_ref.StepRef.{StepRef}
 use Rattle.lls_prooflog.specs.declared.step_ref.StepRef.TheVariants as lent
 use Rattle.lls_prooflog.specs.Lent.{hints_of, ids_of}
 use Rattle.lls_prooflog.specs.Line.{step_of_line}
-use Rattle.lls_prooflog.specs.StepText.{step_text}
+use Rattle.lls_prooflog.specs.StepText.{step_text, greatest_with}
 
 -- the steps, and for how many steps, literals and hints more there is room
 pub record Logged : Type 0 where
@@ -39,9 +38,14 @@ abbrev pub step_of_ref : StepRef → Step
 step_of_ref (lent.Add addition) = step_of_addition addition
 step_of_ref (lent.Del ids) = Del (ids_of ids)
 
--- a line for each step
+-- a line for each step, behind steps whose greatest id this is
+abbrev pub text_behind : ℕ → List Step → List ℕ
+text_behind greatest [] = []
+text_behind greatest (step ∷ steps) = step_text greatest step ++ text_behind (greatest_with greatest step) steps
+
+-- a line for each step. The greatest id so far is 0 where nothing was added
 abbrev pub log_text : List Step → List ℕ
-log_text steps = flat_map step_text steps
+log_text steps = text_behind 0 steps
 
 -- what the lines of a text write
 abbrev pub read_lines : List ℕ → List (Result (Option Step) LineFault)

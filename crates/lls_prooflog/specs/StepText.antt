@@ -1,5 +1,5 @@
 -- The line that writes a step: words with one blank between.
-use Rattle.std.specs.Prelude.{◌≡◌, ℕ, ℤ, true, List, ◌++◌, codes}
+use Rattle.std.specs.Prelude.{◌≡◌, ℕ, ℤ, true, List, ◌++◌, codes, nat_lt, if◌then◌else◌}
 use Rattle.std.specs.List.{flat_map}
 use Rattle.std.specs.Fmt.{decimal, signed_decimal}
 use Rattle.lls_lit.specs.Formula.{is_within}
@@ -14,14 +14,19 @@ signed_list_text numbers = flat_map (λ n. signed_decimal n ++ codes " ") number
 abbrev pub id_list_text : List ℕ → List ℕ
 id_list_text ids = flat_map (λ id. decimal id ++ codes " ") ids ++ codes "0"
 
--- the number before the d of a deletion isn't used, and is 0
-abbrev pub step_line : Step → List ℕ
-step_line (Add id lits hints) = decimal id ++ codes " " ++ signed_list_text lits ++ codes " " ++ signed_list_text hints
-step_line (Del ids) = codes "0 d " ++ id_list_text ids
+-- the line of a step, where this is the greatest id that was added before it. It stands before the d of a deletion
+abbrev pub step_line : ℕ → Step → List ℕ
+step_line greatest (Add id lits hints) = decimal id ++ codes " " ++ signed_list_text lits ++ codes " " ++ signed_list_text hints
+step_line greatest (Del ids) = decimal greatest ++ codes " d " ++ id_list_text ids
 
 -- the line and its LF
-abbrev pub step_text : Step → List ℕ
-step_text step = step_line step ++ codes "\n"
+abbrev pub step_text : ℕ → Step → List ℕ
+step_text greatest step = step_line greatest step ++ codes "\n"
+
+-- the greatest id that was added before the next step
+abbrev pub greatest_with : ℕ → Step → ℕ
+greatest_with greatest (Add id lits hints) = if nat_lt greatest id then id else greatest
+greatest_with greatest (Del ids) = greatest
 
 -- the literals of a step are numbers of literals
 abbrev pub AreLiterals : Step → Type 0
