@@ -27,6 +27,8 @@ pub fn check_bytes<'f>(
     // An accepted text refutes the formula, whether or not there was memory to see that.
     ensures refutes { verdict formula.now text.now ≡ Accepted → IsUnsatisfiable formula.now }
 {
+    // That no literal of the formula is 0, on which `refutes` rests.
+    let _vars = formula.vars();
     let mut feed = Feed::new(alloc, formula)?;
     match feed.feed(text) {
         Ok(_) => feed.end(),

@@ -172,6 +172,9 @@ impl<'f> Checker<'f> {
             option_map (λ n. take n (hints_of hints.entry)) count ≡ looked_at self.old.live lits.now (hints_of hints.entry)) }
         ensures within { IfOk result (λ count. IfSome count (λ n. n ≤ length (hints_of hints.entry))) }
         ensures err { OnErr result (self.new ≡ self.old) }
+
+        // Where the formula is satisfiable, so is what is live.
+        ensures keeps { KeepsSatisfiable self.new.formula self.new.live }
     {
         if self.live.find(id).is_some() {
             return Err(StepFault::IdLive(id).into());

@@ -45,3 +45,9 @@ invariant_of-self-else-is_empty c =
     let good = good_addition k.live.all c.args.id c.args.lits.now (hints_of c.args.hints) free c.in_ok-looked.ensures.exact in
     let empty = is_empty_addition-Add c.args.id c.args.lits.now (hints_of c.args.hints) ∙ sym c.if-is_empty.ensures in
     rw (c.check_hints.ensures.vars, c.in_ok-push.ensures.ok, c.check_hints.ensures.live, ap (λ (v : Checking). v.done) c.self.view_is ∙ c.requires) (IsChecking-add k.formula.now k.live.all c.assume.new.assumed.vars c.args.id c.args.lits.now (hints_of c.args.hints) false reached c.in_ok-assume.ensures.within good empty)
+
+pub returns-then-is_empty-clause-keeps : goal.returns-then-is_empty-clause-keeps
+returns-then-is_empty-clause-keeps c = (invariant_of-self-then-is_empty c).kept
+
+pub returns-else-is_empty-clause-keeps : goal.returns-else-is_empty-clause-keeps
+returns-else-is_empty-clause-keeps c = (invariant_of-self-else-is_empty c).kept
