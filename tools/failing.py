@@ -34,10 +34,9 @@ SAID = {
 CELL = "1\n\n1\n"
 BLOCK = "* *\n* *\n\n* *\n* *\n"
 FOUR = "p cnf 2 4\n1 2 0\n1 -2 0\n-1 2 0\n-1 -2 0\n"
-# The same behind two clauses of other variables, from which the search learns first: its log, and what is left of that when it is trimmed.
+# The same behind two clauses of other variables, from which the search learns first: its log, of which two additions are left when it is trimmed.
 APART = "p cnf 4 6\n1 2 0\n1 -2 0\n3 4 0\n3 -4 0\n-3 4 0\n-3 -4 0\n"
 LOG = "7 1 0 2 1 0\n8 3 0 4 3 0\n9 0 8 6 5 0\n"
-TRIMMED = "7 3 0 4 3 0\n8 0 7 6 5 0\n"
 # Words, the files f and p, the status and the two streams where nothing fails: worked out by hand. None stands for no such file.
 ROWS = (
     ("check f p", CELL, "5 0 1 2 4 0\n", 0, "accepted\n", ""),
@@ -114,12 +113,6 @@ def is_same(run, whole, may_say_less=False):
     return said and (run.status, run.out, run.files) == (whole.status, whole.out, whole.files)
 
 
-def keeps_log(row, run, whole):
-    """Whether a search ended as where nothing fails, but with the whole log in place of the trimmed proof."""
-    has_log = row[0].startswith("sat ") and row[1] == APART and run.files.get("q") == LOG
-    return has_log and is_same(Run(run.status, run.out, run.err, {**run.files, "q": TRIMMED}), whole)
-
-
 def lacks_memory(row, run, whole):
     ahead = {"s": whole.files["s"]} if "s" in whole.files and "s" in run.files else {}
     return (run.out, run.err, run.files) == ("", "lls: memory\n", {**inputs_of(row), **ahead})
@@ -138,7 +131,7 @@ def fails_outside(row, run, whole):
 
 def is_right(row, kind, run, whole):
     """Whether a run may end so where a call of this kind failed."""
-    if is_same(run, whole, kind == "WRITE") or kind == "ALLOCATION" and keeps_log(row, run, whole):
+    if is_same(run, whole, kind == "WRITE"):
         return True
     if not run.err.endswith("\n") or run.err[:-1] not in SAID[kind]:
         return False

@@ -1,6 +1,7 @@
 -- What follows from how a run ends.
 use Rattle.std.proofs.Common.{◌≡◌, ◌≢◌, ◌≤◌, ℕ, Option, None, Some, Result, Ok, Err, refl, ap, sym, subst, ◌∙◌, inl, inr, arith, ◌⊎◌}
 use Rattle.std.specs.Prelude.{IsErr}
+use Rattle.std.specs.Io.KnownBytes.{append_known}
 use Rattle.lls_base.specs.Faults.{Rose}
 use Rattle.lls_base.specs.Shelf.{Files}
 use Rattle.lls_search_file.specs.declared.posed_fault.PosedFault.{PosedFault}
@@ -24,9 +25,9 @@ use Rattle.lls_cli.specs.Fault.{status_of, words_status, posed_status, demand_st
 use Rattle.lls_cli.specs.Answer.{IsAnswer, Holds, YesHolds, NoHolds, SomeHolds, NoneHolds, HasShortBudget}
 use Rattle.lls_cli.specs.Question.{Asking, of_none, of_one, of_two, asking_of, question_by, question_of, AsksBy, Asks, input_of}
 use Rattle.lls_cli.specs.Moment.{ShelfMoment, SinkMoment, Moment, files_at}
-use Rattle.lls_cli.specs.Ends.{FileFailed, WroteFile, IsDecided, End, refused, lacked, input_failed, ahead_failed, answered, file_failed, output_failed, IsEndBehind, Ends, ahead_of, IsEnd}
+use Rattle.lls_cli.specs.Ends.{FileFailed, IsCurrent, KeepsOutput, WroteFile, IsDecided, End, refused, lacked, input_failed, ahead_failed, answered, file_failed, output_failed, IsEndBehind, Ends, ahead_of, IsEnd}
 use Rattle.lls_cli.proofs.Behind.{answer_of, WroteAhead, ahead_faults, lacking}
-use Rattle.lls_cli.specs.Claims.{OfQuestion, IsSilent, IsAnswered, IsFaultStatus, MissesFile, HasCause, NoCallFailed, NothingFailed, CountsNeverFall}
+use Rattle.lls_cli.specs.Claims.{OfQuestion, IsSilent, IsAnswered, IsFaultStatus, MissesFile, HasCause, NoCallFailed, NothingFailed, CountsNeverFall, SaysAnswer}
 
 words_status-is : (error : WordsError) → IsFaultStatus (words_status error)
 words_status-is words.Memory = tt
@@ -301,6 +302,7 @@ pub record Meant (job : Result Job WordsError) (before after : Moment) (status :
   pub mid : ShelfMoment
   pub ahead : WroteAhead (ahead_of question) before.shelf mid
   pub wrote : WroteFile answer.file mid after.shelf
+  pub said : after.out.written ≡ append_known before.out.written answer.text
   pub nothing_failed : NothingFailed before after
   pub asked : OfQuestion (λ q. question ≡ q) job (files_at before.shelf)
   pub asks : IsAsked job (files_at before.shelf) question
@@ -317,6 +319,7 @@ meant (Ok job) before after status (answered answer, ended) is =
       mid = behind_it.mid;
       ahead = behind_it.wrote;
       wrote = given.shelf;
+      said = given.out;
       nothing_failed = record {
         shelf = given.shelf.faults ∙ ahead_faults (ahead_of ended.1.0) before.shelf behind_it.mid behind_it.wrote;
         out = given.out_faults;
@@ -442,3 +445,19 @@ no_call_failed (Err error) before after status (ahead_failed fault, ended) other
 no_call_failed (Err error) before after status (answered answer, ended) other = absurd ended
 no_call_failed (Err error) before after status (file_failed answer fault, ended) other = absurd ended
 no_call_failed (Err error) before after status (output_failed answer, ended) other = absurd ended
+
+is_current : (written : Option AnswerFile) (before after : ShelfMoment) (file : AnswerFile) → WroteFile written before after → written ≡ Some file → IsCurrent file after
+is_current written before after file wrote is = subst (λ (o : Option AnswerFile). KeepsOutput o before after) is wrote.output
+
+-- what stands on the standard output is a right answer's text
+pub says_answer : (job : Result Job WordsError) (before after : Moment) (status : Status) → (end : End) × IsEnd job before after status end → IsAnswered status
+    → OfQuestion (SaysAnswer before after status) job (files_at before.shelf)
+says_answer job before after status ended is =
+    let given = meant job before after status ended is in
+    of_this (SaysAnswer before after status) given.question job (files_at before.shelf) given.asked (record {
+      answer = given.answer;
+      right = given.right;
+      status_is = given.status_is;
+      text = given.said;
+      output = λ file named. is_current given.answer.file given.mid after.shelf file given.wrote named;
+    })

@@ -205,7 +205,7 @@ WroteFile-after None before mid after kept same wrote = record {
 }
 WroteFile-after (Some file) before mid after kept same wrote = record {
   files = wrote.files ∙ ap (option_map (with_file (Some file))) kept.files;
-  output = tt;
+  output = wrote.output;
   faults = wrote.faults ∙ same;
 }
 

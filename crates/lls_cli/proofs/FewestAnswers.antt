@@ -26,7 +26,7 @@ use Rattle.lls_cli.specs.Evidence.{HasProof, IsEvidence}
 use Rattle.lls_cli.specs.Fewest.{asked_fewer, IsAbove, IsOfFewest, whole, below, least_text, at_most_text}
 use Rattle.lls_cli.specs.Answer.{IsAnswer, shown, shown_behind, said_behind, none_live, fewest, no_solution, at_most, unsettled}
 use Rattle.lls_cli.specs.Shown.{ShowsNone}
-use Rattle.lls_cli.proofs.Searches.{evidence_by, log_by, short_by}
+use Rattle.lls_cli.proofs.Searches.{evidence_of, log_by, short_by}
 
 pub of_fewest : (asked : Asked) (history : History) → IsSolution asked.problem history → HasFewest asked.problem history → IsOfFewest asked history
 of_fewest asked history solution least = record { solution = solution; law = plane_law asked.problem history solution; least = least }
@@ -48,7 +48,7 @@ above asked history n kept fitting room solution live = record {
 pub certified_by : (asked : Asked) (effort : Effort) (steps : List Step) (live n : ℕ) → live ≡ suc n → KeepsAll effort.keep_all steps
     → IsCertificate asked.problem asked.form effort.budget steps live → IsEvidence (formula_asked (asked_fewer asked n)) effort steps
 certified_by asked effort steps live n is kept certified =
-    evidence_by (formula_asked (asked_fewer asked n)) effort steps kept (subst (IsCertificate asked.problem asked.form effort.budget steps) is certified)
+    evidence_of (formula_asked (asked_fewer asked n)) effort steps kept (subst (IsCertificate asked.problem asked.form effort.budget steps) is certified)
 
 pub none_live_answer : (asked : Asked) (effort : Effort) (rle : Bool) (history : History) (answer : Answer) → IsOfFewest asked history → live_cells history ≡ 0
     → answer ≡ shown statuses.Pattern (least_text rle asked.problem.rule history) → IsAnswer (questions.Least asked effort rle) answer

@@ -8,6 +8,7 @@ use Rattle.lls_words.specs.Values.{most_budget, most_size}
 use Rattle.lls_cli.specs.declared.input.TheConstants.{SEARCH_LIMIT, PROOF_LIMIT}
 use Rattle.lls_cli.specs.declared.model.TheConstants.{NUMBERS_A_LINE}
 use Rattle.lls_cli.specs.ModelText.{numbers_a_line}
+use Rattle.lls_cli.specs.Limits.{AreLimits}
 use Rattle.lls_cli.specs.Question.{search_limit, proof_limit, formula_limit, most_open_cells}
 
 pub search_limit-is : SEARCH_LIMIT ≡ search_limit
@@ -32,3 +33,25 @@ most_budget-is = refl
 -- the greatest size of the words is the one that the maker of problems takes
 pub most_size-is : made.most_size ≡ most_size
 most_size-is = refl
+
+pub limits : AreLimits
+limits = record {
+  generations = refl;
+  height = refl;
+  width = refl;
+  cells = refl;
+  name = refl;
+  variables = refl;
+  clauses = refl;
+  digits = refl;
+  ids = refl;
+  shift = refl;
+  period = refl;
+  bound = refl;
+  counters = refl;
+  budget = refl;
+  search_file = refl;
+  proof = refl;
+  formula = refl;
+  rle_header = refl;
+}

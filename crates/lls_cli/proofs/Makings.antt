@@ -3,7 +3,6 @@ use Rattle.std.proofs.Common.{◌≡◌, ℕ, List, length, sym, ap, subst, ◌�
 use Rattle.std.specs.Prelude.{codes}
 use Rattle.lls_lit.specs.Formula.{Cnf}
 use Rattle.lls_problem.specs.Solution.{IsSolution}
-use Rattle.lls_problem.proofs.Plane.{plane_law}
 use Rattle.lls_gen.specs.declared.making.Made.{Made}
 use Rattle.lls_gen.specs.Made.{made, made_problem}
 use Rattle.lls_problem.specs.declared.form.Form.TheVariants.{Rows}
@@ -38,7 +37,7 @@ pub solved_answer : (seed size : ℕ) (name : List ℕ) (effort : Effort) (pair 
 solved_answer seed size name effort pair formula answer is made_of solution given =
     let made_solution : IsSolution (made seed size).problem (made seed size).history = subst (λ (m : Made). IsSolution m.problem m.history) is solution in
     subst (IsAnswer (questions.Make seed size name effort)) (sym (given ∙ ap (shown statuses.Pattern) (summary-made seed size pair formula (codes "pattern") is made_of)))
-    (record { answers = solved; holds = ((made seed size).history, made_solution, plane_law (made_problem seed size) (made seed size).history made_solution) })
+    (record { answers = solved; holds = ((made seed size).history, made_solution) })
 
 pub unsolved_answer : (seed size : ℕ) (name : List ℕ) (effort : Effort) (pair : Made) (formula : Cnf) (steps : List Step) (file : AnswerFile) (answer : Answer) → pair ≡ made seed size
     → formula ≡ formula_of pair.problem Rows → file ≡ record { name = effort.proof; bytes = log_text steps } → KeepsAll effort.keep_all steps → IsExhausted formula effort.budget steps

@@ -1,8 +1,6 @@
 -- What a search comes to is a right answer.
 use Rattle.std.proofs.Common.{◌≡◌, ◌≤◌, Bool, true, List, length, sym, subst, arith}
 use Rattle.std.specs.Prelude.{codes}
-use Rattle.std.proofs.lemmas.List.Sums.{count_by-le-length}
-use Rattle.std.specs.List.{list_all}
 use Rattle.lls_lit.specs.Formula.{Cnf, IsUnsatisfiable}
 use Rattle.lls_grid.specs.History.{History}
 use Rattle.lls_problem.specs.Solution.{IsSolution}
@@ -10,14 +8,10 @@ use Rattle.lls_problem.proofs.Plane.{plane_law}
 use Rattle.lls_encode.specs.Formula.{formula_of}
 use Rattle.lls_prooflog.specs.declared.step.Step.{Step}
 use Rattle.lls_prooflog.specs.Log.{log_text}
-use Rattle.lls_prooflog.specs.Spent.{EachStep, IsGood, IsSpent, is_addition, log_start}
-use Rattle.lls_prooflog.specs.Steps.{are_accepted}
-use Rattle.lls_prooflog.specs.UnitWalk.{numbered}
+use Rattle.lls_prooflog.specs.Spent.{IsSpent}
 use Rattle.lls_counting.proofs.Logs.{budgets_decide, kept_budgets_decide}
-use Rattle.lls_solver.specs.Searching.{IsModel, IsRefutation, IsExhausted, KeepsAll, additions}
+use Rattle.lls_solver.specs.Searching.{IsModel, IsRefutation, IsExhausted, KeepsAll}
 use Rattle.lls_lrat.specs.Verdict.{Accepted, verdict}
-use Rattle.lls_least.specs.Least.{IsProof}
-use Rattle.lls_least.proofs.Searched.{proof_from}
 use Rattle.lls_cli.specs.Questions as questions
 use Rattle.lls_cli.specs.declared.effort.Effort.{Effort}
 use Rattle.lls_cli.specs.declared.answer_file.AnswerFile.{AnswerFile}
@@ -31,22 +25,9 @@ use Rattle.lls_cli.specs.Shown.{ShowsNone}
 use Rattle.lls_cli.specs.PatternText.{pattern_text}
 use Rattle.lls_cli.specs.Answer.{IsAnswer, IsShort, shown, said_behind, satisfied, unsatisfied, unknown, found, absent, undecided}
 
--- a proof within the budget is what a search leaves evidence by
-pub evidence_by : (formula : Cnf) (effort : Effort) (steps : List Step) → KeepsAll effort.keep_all steps → IsProof formula effort.budget steps → IsEvidence formula effort steps
-evidence_by formula effort steps kept proof = record { accepted = proof.accepted; good = proof.good; within = proof.within; all_kept = kept }
-
+-- a log that refutes the formula is evidence
 pub evidence_of : (formula : Cnf) (effort : Effort) (steps : List Step) → KeepsAll effort.keep_all steps → IsRefutation formula effort.budget steps → IsEvidence formula effort steps
-evidence_of formula effort steps kept refutation = evidence_by formula effort steps kept (proof_from formula effort.budget steps refutation)
-
--- and so are fewer additions
-pub evidence_trimmed : (formula : Cnf) (effort : Effort) (steps trimmed : List Step) → are_accepted (numbered formula.clauses) trimmed ≡ true → EachStep IsGood (log_start formula) trimmed
-    → list_all is_addition trimmed ≡ true → length trimmed ≤ additions steps → IsEvidence formula effort steps → IsEvidence formula effort trimmed
-evidence_trimmed formula effort steps trimmed accepted good added fewer evidence = record {
-  accepted = accepted;
-  good = good;
-  within = omega (arith, count_by-le-length is_addition trimmed, fewer, evidence.within);
-  all_kept = λ keeps. added;
-}
+evidence_of formula effort steps kept refutation = record { refutes = refutation; all_kept = kept }
 
 -- a spent budget needn't decide
 pub short_by : (formula : Cnf) (effort : Effort) (steps : List Step) → KeepsAll effort.keep_all steps → IsSpent formula steps effort.budget → IsShort formula effort
@@ -64,7 +45,7 @@ pub proof_of : (formula : Cnf) (effort : Effort) (steps : List Step) (file : Ans
 proof_of formula effort steps file is evidence accepted = record {
   steps = steps;
   log = record { file_is = is; all_kept = evidence.all_kept };
-  within = evidence.within;
+  refutes = evidence.refutes;
   accepted = accepted;
 }
 

@@ -169,7 +169,7 @@ NoHolds (questions.Trim formula proof output) = verdict formula proof ≡ Accept
 abbrev pub SomeHolds : Question → Type 0
 SomeHolds (questions.Search asked effort rle) = (history : History) × IsSolution asked.problem history × PlaneLaw asked.problem history
 SomeHolds (questions.Decide formula effort) = (values : List Bool) × IsModel formula values
-SomeHolds (questions.Make seed size name effort) = (history : History) × IsSolution (made_problem seed size) history × PlaneLaw (made_problem seed size) history
+SomeHolds (questions.Make seed size name effort) = (history : History) × IsSolution (made_problem seed size) history
 SomeHolds (questions.Least asked effort rle) = (history : History) × IsOfFewest asked history
 SomeHolds (questions.Loose asked effort rle) = (history : History) × ((rule : List Bool) × IsFoundBetween asked history rule)
 SomeHolds question = ⊥

@@ -1,5 +1,6 @@
 -- What a run's end says in plain sentences. Each follows from how the run ends.
 use Rattle.std.specs.Prelude.{◌≡◌, ◌≢◌, ◌≤◌, ◌⊎◌, ℕ, suc, List, [], ◌∷◌, ◌++◌, length, take, All, Option, None, Some, Result, Ok, Err}
+use Rattle.std.specs.Io.KnownBytes.{append_known}
 use Rattle.std.specs.FinMap as map
 use Rattle.std.specs.Option.{option_map}
 use Rattle.lls_base.specs.Faults.{Rose}
@@ -27,7 +28,7 @@ use Rattle.lls_cli.specs.declared.status.Status.{Status}
 use Rattle.lls_cli.specs.declared.status.Status.TheVariants as statuses
 use Rattle.lls_cli.specs.Question.{formula_asked, formula_opened, proof_limit, question_of, Asks}
 use Rattle.lls_cli.specs.Fault.{fault_line, status_of}
-use Rattle.lls_cli.specs.Ends.{GrewBy, ahead_of, with_file}
+use Rattle.lls_cli.specs.Ends.{GrewBy, IsCurrent, ahead_of, with_file}
 use Rattle.lls_cli.specs.Evidence.{HasProof, HasSpentLog}
 use Rattle.lls_cli.specs.Fewest.{asked_fewer, IsAbove, IsLookedAt, IsOfFewest}
 use Rattle.lls_cli.specs.Trimming.{HasTrimmed}
@@ -66,6 +67,14 @@ IsFaultStatus statuses.Outside = Unit {0}
 IsFaultStatus statuses.Memory = Unit {0}
 IsFaultStatus statuses.Limit = Unit {0}
 IsFaultStatus status = ⊥
+
+-- the standard output grew by the text of a right answer of this status, and the answer's file, if it has one, is the current output
+pub record SaysAnswer (before after : Moment) (status : Status) (question : Question) : Type 0 where
+  pub answer : Answer
+  pub right : IsAnswer question answer
+  pub status_is : status ≡ answer.status
+  pub text : after.out.written ≡ append_known before.out.written answer.text
+  pub output : (file : AnswerFile) → answer.file ≡ Some file → IsCurrent file after.shelf
 
 -- the standard error says why: it grew by the line of a fault of this status, or by first bytes of it where it failed itself
 abbrev pub SaysWhy : Status → SinkMoment → SinkMoment → Type 0

@@ -7,6 +7,7 @@ pub mod Questions
 pub mod Absence
 pub mod Said
 pub mod Evidence
+pub mod Limits
 pub mod ModelText
 pub mod PatternText
 pub mod Making

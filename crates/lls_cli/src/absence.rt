@@ -52,9 +52,9 @@ impl<'f> Absence<'f> {
     }
 }
 
-// Says that a problem has no solution. Whoever calls it has a proof that no assignment satisfies the problem's formula of that
-// form.
-fn print_none<'f, O: Sink>(
+/// Says that a problem has no solution. Whoever calls it has a proof that no assignment satisfies the problem's formula of that
+/// form. After a failure the sink has taken some first bytes of the words.
+pub fn print_none<'f, O: Sink>(
     proof: &Checked<'f>,
     problem: &Problem,
     form: Form,
@@ -110,9 +110,9 @@ impl<'f> OpenAbsence<'f> {
     }
 }
 
-// Says that no rule between a problem's and a high one has a solution. Whoever calls it has a proof that no assignment satisfies the
-// formula of the open rule in that form.
-fn print_no_rule<'f, O: Sink>(
+/// Says that no rule between a problem's and a high one has a solution. Whoever calls it has a proof that no assignment satisfies the
+/// formula of the open rule in that form. After a failure the sink has taken some first bytes of the words.
+pub fn print_no_rule<'f, O: Sink>(
     proof: &Checked<'f>,
     problem: &Problem,
     high: &Rule,

@@ -31,7 +31,7 @@ pub fn decide(alloc: Global, formula: &Formula, effort: Effort) -> Result<Answer
             file: None,
         }),
         Outcome::Unsat => {
-            let (_checked, file) = proof_file(alloc, formula, log, effort)?;
+            let (_checked, file) = proof_file(alloc, formula, &log, effort)?;
             Answer::of_text(alloc, Status::NoPattern, b"s UNSATISFIABLE\n", Some(file))
         }
         Outcome::Undecided => {

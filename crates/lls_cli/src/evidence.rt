@@ -1,6 +1,5 @@
 // What a search leaves in its file, the check of a proof before it is told of, and the answers that there is nothing.
 ghost use Rattle.std.specs.Prelude.{◌≡◌, ℕ, List, true, IfOk, OnOk};
-ghost use Rattle.lls_prooflog.specs.Spent.{EachStep, IsGood, log_start};
 ghost use Rattle.lls_lit.specs.Formula.{IsUnsatisfiable};
 ghost use Rattle.lls_prooflog.specs.Log.{ReadsAs, log_text};
 ghost use Rattle.lls_prooflog.specs.UnitWalk.{numbered};
@@ -9,7 +8,6 @@ ghost use Rattle.lls_lrat.specs.Verdict.{Accepted, verdict};
 ghost use Rattle.lls_open.specs.Between.{AreEnds};
 ghost use Rattle.lls_cli.specs.Evidence.{HasProof, IsEvidence};
 ghost use Rattle.lls_cli.specs.Question.{formula_asked, formula_opened};
-ghost use Rattle.lls_cli.specs.declared.effort.Effort.{Effort};
 ghost use Rattle.lls_cli.specs.Shown.{ShowsNoRule, ShowsNone};
 
 use crate::absence::{Absence, OpenAbsence};
@@ -24,7 +22,6 @@ use lls_base::{Memory, Name};
 use lls_cnf::Formula;
 use lls_lrat::{CheckError, Checked, check};
 use lls_prooflog::{Log, print_log};
-use lls_trim::{Recorded, TrimError};
 use std::alloc::Global;
 
 /// The file of a log.
@@ -34,26 +31,6 @@ pub fn log_file(alloc: Global, log: &Log, name: Name) -> Result<AnswerFile, Memo
 {
     let bytes = Bytes::new(print_log(alloc, log)?);
     Ok(AnswerFile { name, bytes })
-}
-
-// What the empty clause of a search's log rests on, or the whole log where there is no memory to find that. The log is let go
-// before what is left of it is written down, so want of memory behind that is a fault.
-fn trimmed(alloc: Global, formula: &Formula, log: Log) -> Result<Log, Memory>
-    requires accepted { are_accepted (numbered formula.now.clauses) log.steps ≡ true }
-    requires good { EachStep IsGood (log_start formula.now) log.steps }
-    ensures { IfOk result (λ left. (effort : Effort) → IsEvidence formula.now effort log.steps → IsEvidence formula.now effort left.steps) }
-{
-    let recorded = match Recorded::of_log(alloc, formula, &log) {
-        Ok(recorded) => recorded,
-        Err(CheckError::Memory) => return Ok(log),
-        Err(_) => unreachable!(),
-    };
-    drop(log);
-    match recorded.trim(alloc) {
-        Ok(trimming) => Ok(trimming.log),
-        Err(TrimError::Memory) => Err(Memory),
-        Err(_) => unreachable!(),
-    }
 }
 
 // Checks a log that a search calls a proof. The checker refuses it for want of memory alone.
@@ -70,21 +47,20 @@ fn check_proof<'f>(alloc: Global, formula: &'f Formula, log: &Log) -> Result<Che
     }
 }
 
-/// The file of a proof that nothing satisfies a formula, by the log of a search: what its empty clause rests on, which is checked before.
+/// The file of a proof that nothing satisfies a formula: the log of a search, whole, which is checked before.
 pub fn proof_file<'f>(
     alloc: Global,
     formula: &'f Formula,
-    log: Log,
+    log: &Log,
     effort: Effort,
 ) -> Result<(Checked<'f>, AnswerFile), Memory>
-    requires { IsEvidence formula.now effort log.steps }
+    requires { IsEvidence formula.now effort log.now.steps }
     ensures formula { IfOk result (λ made. made.0 ≡ formula.now) }
     ensures unsatisfiable { OnOk result (IsUnsatisfiable formula.now) }
     ensures proof { IfOk result (λ made. HasProof formula.now effort made.1) }
 {
-    let log = trimmed(alloc, formula, log)?;
-    let checked = check_proof(alloc, formula, &log)?;
-    let file = log_file(alloc, &log, effort.proof)?;
+    let checked = check_proof(alloc, formula, log)?;
+    let file = log_file(alloc, log, effort.proof)?;
     Ok((checked, file))
 }
 
@@ -93,11 +69,11 @@ pub fn absence_of<'f>(
     alloc: Global,
     asked: &'f Asked,
     formula: &'f Formula,
-    log: Log,
+    log: &Log,
     effort: Effort,
 ) -> Result<Answer<'f>, Memory>
     requires formula { formula.now ≡ formula_asked asked.now }
-    requires evidence { IsEvidence formula.now effort log.steps }
+    requires evidence { IsEvidence formula.now effort log.now.steps }
     ensures { IfOk result (ShowsNone asked.now effort) }
 {
     // What the type of a problem keeps is known from here on.
@@ -117,12 +93,12 @@ pub fn no_rule_of<'f>(
     alloc: Global,
     asked: &'f OpenAsked,
     formula: &'f Formula,
-    log: Log,
+    log: &Log,
     effort: Effort,
 ) -> Result<Answer<'f>, Memory>
     requires formula { formula.now ≡ formula_opened asked.now }
     requires ends { AreEnds asked.now.problem.rule asked.now.high }
-    requires evidence { IsEvidence formula.now effort log.steps }
+    requires evidence { IsEvidence formula.now effort log.now.steps }
     ensures { IfOk result (ShowsNoRule asked.now effort) }
 {
     // What the type of a problem keeps is known from here on.

@@ -57,12 +57,12 @@ fn certificate(
     alloc: Global,
     asked: &Asked,
     k: u32,
-    log: Log,
+    log: &Log,
     effort: Effort,
 ) -> Result<AnswerFile, Memory>
     requires room { LeavesRoom asked.now.problem }
     requires below { k < grid_size asked.now.problem.posed }
-    requires evidence { IsEvidence (formula_asked (asked_fewer asked.now k)) effort log.steps }
+    requires evidence { IsEvidence (formula_asked (asked_fewer asked.now k)) effort log.now.steps }
     ensures { IfOk result (HasProof (formula_asked (asked_fewer asked.now k)) effort) }
 {
     let bounded = fewer(alloc, &asked.problem, k)?;
@@ -78,13 +78,13 @@ fn shown<'f>(
     effort: Effort,
     rle: bool,
     history: &History,
-    log: Log,
+    log: &Log,
 ) -> Result<Answer<'f>, Memory>
     requires room { LeavesRoom asked.now.problem }
     requires isotropic { IsIsotropic asked.now.problem.rule }
-    requires shown { IsShown asked.now.problem asked.now.form effort.budget history.now log.steps }
+    requires shown { IsShown asked.now.problem asked.now.form effort.budget history.now log.now.steps }
     requires fewest { HasFewest asked.now.problem history.now }
-    requires kept { KeepsAll effort.keep_all log.steps }
+    requires kept { KeepsAll effort.keep_all log.now.steps }
     ensures { IfOk result (IsAnswer (questions.Least asked.now effort rle)) }
 {
     // What the type of a problem keeps is known from here on.
@@ -124,8 +124,8 @@ fn fewest<'f>(
     let _posed = problem.posed();
     let _demands = problem.demands();
     match least(alloc, problem, asked.form, effort.budget, effort.keep_all)? {
-        Least::Shown { history, log } => shown(alloc, asked, effort, rle, &history, log),
-        Least::Absent { log } => absence_of(alloc, asked, formula, log, effort),
+        Least::Shown { history, log } => shown(alloc, asked, effort, rle, &history, &log),
+        Least::Absent { log } => absence_of(alloc, asked, formula, &log, effort),
         Least::AtMost { history, log } => {
             let text = counted(alloc, "at most", &history, problem.rule(), rle)?;
             let file = log_file(alloc, &log, effort.proof)?;

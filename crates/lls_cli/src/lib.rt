@@ -30,4 +30,5 @@ pub mod status;
 mod text;
 mod trim;
 
+pub use absence::{print_no_rule, print_none};
 pub use deliver::lack;

@@ -68,7 +68,7 @@ fn opened<'f>(
                 file: None,
             })
         }
-        Outcome::Unsat => no_rule_of(alloc, asked, formula, log, effort),
+        Outcome::Unsat => no_rule_of(alloc, asked, formula, &log, effort),
         Outcome::Undecided => {
             let file = log_file(alloc, &log, effort.proof)?;
             Answer::of_text(alloc, Status::Undecided, b"undecided\n", Some(file))

@@ -7,7 +7,8 @@ ghost use Rattle.lls_words.specs.Job.{AreOpen, AreWithinLimits, IsCrew, KeepsLim
 ghost use Rattle.lls_words.specs.declared.job.Job as jobs;
 ghost use Rattle.lls_words.specs.declared.job.Job.TheVariants as all_jobs;
 ghost use Rattle.lls_cli.specs.Answer.{HasShortBudget, NoHolds, NoneHolds, SomeHolds, YesHolds};
-ghost use Rattle.lls_cli.specs.Claims.{ChangesOnly, CountsNeverFall, HasCause, IsAnswered, IsComplete, IsFaultStatus, IsSilent, LeavesBegun, LeavesCertificate, LeavesLog, LeavesProof, LeavesTrimmed, NoCallFailed, NothingFailed, OfQuestion, Publishes, PublishesFewest, SaysWhy, HasWhole, outputs_of_words};
+ghost use Rattle.lls_cli.specs.Claims.{ChangesOnly, CountsNeverFall, HasCause, IsAnswered, IsComplete, IsFaultStatus, IsSilent, LeavesBegun, LeavesCertificate, LeavesLog, LeavesProof, LeavesTrimmed, NoCallFailed, NothingFailed, OfQuestion, Publishes, PublishesFewest, SaysAnswer, SaysWhy, HasWhole, outputs_of_words};
+ghost use Rattle.lls_cli.specs.Limits.{AreLimits};
 ghost use Rattle.lls_cli.specs.CommandLine.{job_in};
 ghost use Rattle.lls_cli.specs.Ends.{End, HasInputs, IsEnd, ahead_of};
 ghost use Rattle.lls_cli.specs.Making.{IsSize};
@@ -409,6 +410,14 @@ pub fn run<S: Shelf, O: Sink, E: Sink>(
         (moment_at S.Shelf O.Sink E.Sink shelf.old out.old err.old) (moment_at S.Shelf O.Sink E.Sink shelf.new out.new err.new) }
     ensures nothing_failed { IsAnswered result → NothingFailed
         (moment_at S.Shelf O.Sink E.Sink shelf.old out.old err.old) (moment_at S.Shelf O.Sink E.Sink shelf.new out.new err.new) }
+
+    // At an answer's status the standard output grew by the text of a right answer, whose file is the current output.
+    ensures said { IsAnswered result → OfQuestion (SaysAnswer
+        (moment_at S.Shelf O.Sink E.Sink shelf.old out.old err.old) (moment_at S.Shelf O.Sink E.Sink shelf.new out.new err.new) result)
+        (job_in words.now) (files_of S.Shelf shelf.old) }
+
+    // The limits of which the definitions speak by name.
+    ensures limits { AreLimits }
 
     // At the status of a fault the standard error says which: by its line, or by first bytes of it where that failed too.
     ensures error { IsFaultStatus result → SaysWhy result (sink_at E.Sink err.old) (sink_at E.Sink err.new) }

@@ -85,7 +85,7 @@ fn search<'f>(
                 file: None,
             })
         }
-        Outcome::Unsat => absence_of(alloc, asked, formula, log, effort),
+        Outcome::Unsat => absence_of(alloc, asked, formula, &log, effort),
         Outcome::Undecided => {
             let file = log_file(alloc, &log, effort.proof)?;
             Answer::of_text(alloc, Status::Undecided, b"undecided\n", Some(file))

@@ -1,11 +1,12 @@
 -- What a turn makes of searchers over one log.
-use Rattle.std.proofs.Common.{◌≡◌, ℕ, suc, ◌+◌, ◌<◌, ◌≤◌, Bool, true, List, [], ◌∷◌, ◌++◌, length, map, replicate, get_or, set, take, Ok, inl, inr, refl, sym, ap, subst, ◌∙◌, append_assoc, arith}
-use Rattle.std.specs.Prelude.{All, ◌||◌, ◌==◌}
+use Rattle.std.proofs.Common.{◌≡◌, ◌≢◌, ℕ, suc, ◌+◌, ◌<◌, ◌≤◌, Bool, true, List, [], ◌∷◌, ◌++◌, length, map, replicate, get_or, set, take, Ok, inl, inr, refl, sym, ap, subst, ◌∙◌, append_assoc, arith}
+use Rattle.std.specs.Prelude.{Result, All, ◌||◌, ◌==◌}
 use Rattle.std.specs.List.{list_all, list_any}
 use Rattle.std.proofs.lemmas.Bool.{and_from}
 use Rattle.std.proofs.lemmas.List.{append-nil, get_or-map, length-map, map-set, take-map}
 use Rattle.std.proofs.lemmas.List.Elements.{All-map, All-set}
 use Rattle.std.proofs.lemmas.List.Folds.{list_all-append}
+use Rattle.lls_base.specs.declared.memory.Memory.{Memory}
 use Rattle.lls_lit.specs.Formula.{Clause, Cnf}
 use Rattle.lls_prooflog.specs.declared.step.Step.{Step}
 use Rattle.lls_prooflog.specs.declared.step.Step.TheVariants.{Add}
@@ -22,9 +23,12 @@ use Rattle.lls_solver.proofs.Start.{good_none}
 use Rattle.lls_solver.proofs.Sharing.{behind_grown, behind_searching, first_grown, first_searching}
 use Rattle.lls_crew.specs.declared.stage.Stage.{Stage}
 use Rattle.lls_crew.specs.declared.stage.Stage.TheVariants.{Going, Ended, Failed}
-use Rattle.lls_crew.specs.Turns.{EndsBy, IsGrown}
+use Rattle.lls_numbers.specs.Numbers.{after}
+use Rattle.lls_crew.specs.Turns.{EndsBy, IsGrown, TurnsState, turn_of}
 use Rattle.lls_crew.specs.Forgetting.{Forgets, MayDelete, deletion_of, ids_in}
-use Rattle.lls_crew.specs.Crew.{AreFirst, IsCrew, IsCrewOf, Learns, Stops, crew_of, started}
+use Rattle.lls_crew.specs.declared.searchers.Turned.{Turned}
+use Rattle.lls_crew.specs.declared.searchers.Turned.TheVariants as turned
+use Rattle.lls_crew.specs.Crew.{CrewState, AreFirst, ArePlayed, IsCrew, IsCrewOf, IsTurn, Learns, Stops, answer_of, crew_of, played_more, started}
 use Rattle.lls_crew.proofs.Deletions.{additions-deletion_of, ids_left-live}
 
 ids_first : (formula : Cnf) (steps : List Step) (s : SearcherState) → HoldsFirst formula steps s.store.live → AreFirst formula (live_after formula steps) (ids_in s)
@@ -225,3 +229,26 @@ started_seen formula budget keep_all searchers many all is =
     let ids = ids_of (live_after formula []) in
     let each = all_weaker (λ s. IsSearching formula [] s.store s.trail) (λ s. ids_in s ≡ ids) searchers (λ s searching. spells_ids s.store.live (live_after formula []) searching.holds.spelled) all in
     ap (λ (held : List (List ℕ)). record (crew_of formula budget keep_all [] [] Going) { held = held }) (all_same searchers ids each ∙ ap (λ (n : ℕ). replicate n ids) is)
+
+-- a crew whose turn answers that it goes on is going
+pub goes_if : (stage : Stage) → answer_of stage ≡ Ok turned.Going → stage ≡ Going
+goes_if Going e = refl
+goes_if (Ended outcome) e = absurd cc
+goes_if Failed e = absurd cc
+
+-- what a turn answers says what it was
+pub turn_is : (old new : CrewState) (k : ℕ) (result : Result Turned Memory) → result ≡ answer_of new.stage → old.stage ≡ Going
+    → (result ≡ Ok turned.Going → Learns old new k) → (result ≢ Ok turned.Going → old.stage ≡ Going → Stops old new k) → IsTurn old new k
+turn_is old new k result answers going learns stops = record {
+  going = going;
+  learns = λ goes. learns (answers ∙ ap answer_of goes);
+  stops = λ ends. stops (λ is. ends (goes_if new.stage (sym answers ∙ is))) going;
+}
+
+-- one turn more, of the searcher that the next number says
+pub played_on : (start : CrewState) (seed many : ℕ) (old new : CrewState) (turns drawn : TurnsState) (k : ℕ) → ArePlayed start seed many old turns.last → turns.searchers ≡ many
+    → drawn ≡ record turns { last = after turns.last } → k ≡ turn_of drawn.last turns.searchers → IsTurn old new k → ArePlayed start seed many new drawn.last
+played_on start seed many old new turns drawn k played stays is turn taken =
+    let last : drawn.last ≡ after turns.last = ap (λ (t : TurnsState). t.last) is in
+    let same : k ≡ turn_of (after turns.last) many = turn ∙ ap (λ (n : ℕ). turn_of n turns.searchers) last ∙ ap (turn_of (after turns.last)) stays in
+    subst (ArePlayed start seed many new) (sym last) (played_more old new turns.last played (subst (IsTurn old new) same taken))

@@ -1,5 +1,5 @@
 -- Several searchers over one log.
-use Rattle.std.specs.Prelude.{◌⊎◌, ◌≡◌, ◌<◌, ◌≤◌, ℕ, ℤ, Bool, List, [], ◌∷◌, ◌++◌, All, Result, Ok, Err, length, map, replicate, slice_index_or, slice_set, take, ◌==◌}
+use Rattle.std.specs.Prelude.{◌⊎◌, ◌≡◌, ◌≢◌, ◌<◌, ◌≤◌, ℕ, ℤ, Bool, List, [], ◌∷◌, ◌++◌, All, Result, Ok, Err, length, map, replicate, slice_index_or, slice_set, take, ◌==◌}
 use Rattle.std.specs.List.{list_any}
 use Rattle.lls_lit.specs.Formula.{Clause, Cnf}
 use Rattle.lls_base.specs.declared.memory.Memory.{Memory}
@@ -13,7 +13,8 @@ use Rattle.lls_solver.specs.Deletion.{ids_left}
 use Rattle.lls_solver.specs.Searching.{SearcherState, additions, ids_of, IsLogWithin, IsOutcome, KeepsAll, LearnsOne}
 use Rattle.lls_solver.specs.Sharing.{AreLiveSteps, HoldsFirst, IsBehind}
 use Rattle.lls_crew.specs.Forgetting.{MayDelete, deletion_of, ids_in}
-use Rattle.lls_crew.specs.Turns.{EndsBy}
+use Rattle.lls_numbers.specs.Numbers.{after}
+use Rattle.lls_crew.specs.Turns.{EndsBy, turn_of}
 use Rattle.lls_crew.specs.declared.stage.Stage.{Stage}
 use Rattle.lls_crew.specs.declared.stage.Stage.TheVariants.{Going, Ended, Failed}
 use Rattle.lls_crew.specs.declared.searchers.Turned.{Turned}
@@ -111,3 +112,22 @@ pub record IsCrewOf (formula : Cnf) (budget : ℕ) (keep_all : Bool) (searchers 
   pub live_steps : stage ≡ Going → AreLiveSteps formula steps live
   pub budget_fits : budget ≤ MOST_BUDGET
   pub log : IsLogAt formula budget keep_all steps stage
+
+-- what a turn of searcher k may make of a crew: it learns, or it is the last
+pub record IsTurn (old new : CrewState) (k : ℕ) : Type 0 where
+  pub going : old.stage ≡ Going
+  pub learns : new.stage ≡ Going → Learns old new k
+  pub stops : new.stage ≢ Going → Stops old new k
+
+-- turn after turn since the crew started. Before each the generator makes the next number, which says whose turn it is
+pub data ArePlayed (start : CrewState) (seed searchers : ℕ) : CrewState → ℕ → Type 0 where
+  unplayed : ArePlayed start seed searchers start seed
+  played_more : (old new : CrewState) (last : ℕ) → ArePlayed start seed searchers old last → IsTurn old new (turn_of (after last) searchers) → ArePlayed start seed searchers new (after last)
+
+-- a crew of so many searchers played from the seed until this was its log, and the outcome was there
+pub record IsPlayed (formula : Cnf) (searchers budget : ℕ) (keep_all : Bool) (seed : ℕ) (steps : List Step) (outcome : Outcome) : Type 0 where
+  pub last : ℕ
+  pub crew : CrewState
+  pub played : ArePlayed (started formula budget keep_all searchers) seed searchers crew last
+  pub log : crew.steps ≡ steps
+  pub ended : crew.stage ≡ Ended outcome

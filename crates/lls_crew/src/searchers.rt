@@ -164,7 +164,9 @@ impl<'f> Crew<'f> {
     /// What the last turn came to, with its log in the place of another.
     pub(crate) fn into_outcome(self, log: &mut Log) -> Result<Outcome, Memory>
         requires { self.stage ≢ Stage.Going }
-        ensures { IsOutcome self.entry.formula self.entry.budget self.entry.keep_all log.new.steps result }
+        ensures right { IsOutcome self.entry.formula self.entry.budget self.entry.keep_all log.new.steps result }
+        ensures ended { IfOk result (λ outcome. self.entry.stage ≡ Stage.Ended outcome) }
+        ensures log { log.new.steps ≡ self.entry.steps }
     {
         let Crew {
             log: its,

@@ -1,7 +1,7 @@
 // A search by a crew.
-ghost use Rattle.std.specs.Prelude.{◌≡◌, ◌≢◌, ◌≤◌, [], length};
+ghost use Rattle.std.specs.Prelude.{◌≡◌, ◌≢◌, ◌≤◌, [], IfOk, length};
 ghost use Rattle.lls_solver.specs.Searching.{IsOutcome};
-ghost use Rattle.lls_crew.specs.Crew.{IsCrew};
+ghost use Rattle.lls_crew.specs.Crew.{ArePlayed, IsCrew, IsPlayed};
 
 use crate::searchers::{Crew, MOST_SEARCHERS, Turned};
 use crate::stage::Stage;
@@ -26,17 +26,20 @@ pub fn crew(
     requires searchers { (1 ≤ searchers) × (searchers ≤ MOST_SEARCHERS) }
     requires none { log.old.steps ≡ [] }
     requires budget { budget ≤ MOST_BUDGET }
-    ensures { IsOutcome formula.now budget keep_all log.new.steps result }
+    ensures right { IsOutcome formula.now budget keep_all log.new.steps result }
+    ensures turns { IfOk result (λ outcome. IsPlayed formula.now searchers budget keep_all seed log.new.steps outcome) }
 {
     let mut crew = Crew::new(alloc, formula, searchers, budget, keep_all)?;
-    take_turns(alloc, &mut crew, Turns::new(seed, searchers));
+    let mut turns = Turns::new(seed, searchers);
+    take_turns(alloc, &mut crew, &mut turns);
     crew.into_outcome(log)
 }
 
 // Lets the searchers take turns until one of them comes to an end.
-fn take_turns(alloc: Global, crew: &mut Crew, mut turns: Turns)
+fn take_turns(alloc: Global, crew: &mut Crew, turns: &mut Turns)
     requires going { crew.old.stage ≡ Stage.Going }
-    requires searchers { length crew.old.held ≡ turns.searchers }
+    requires searchers { length crew.old.held ≡ turns.old.searchers }
+    ensures played { ArePlayed crew.old turns.old.last turns.old.searchers crew.new turns.new.last }
     ensures stops { crew.new.stage ≢ Stage.Going }
     ensures formula { crew.new.formula ≡ crew.old.formula }
     ensures budget { crew.new.budget ≡ crew.old.budget }

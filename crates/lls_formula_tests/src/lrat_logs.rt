@@ -101,10 +101,11 @@ fn logs_with_deletions_amount_to_what_their_texts_do(rt: HostRuntime) -> Result<
                 Row::Add(7, &[-2], &[1, 4]),
                 Row::Del(&[1, 3]),
                 Row::Add(8, &[], &[2, 7]),
+                Row::Del(&[8]),
             ],
             2,
             "accepted",
-            "7 -2 0 1 4 0\n0 d 1 3 0\n8 0 2 7 0\n",
+            "7 -2 0 1 4 0\n7 d 1 3 0\n8 0 2 7 0\n8 d 8 0\n",
         ),
         (
             &[Row::Del(&[4]), Row::Add(6, &[], &[1, 2, 4])],
@@ -134,11 +135,12 @@ fn logs_with_deletions_amount_to_what_their_texts_do(rt: HostRuntime) -> Result<
                 Row::Add(4_294_967_296, &[-2], &[4_294_967_295]),
                 Row::Del(&[4_294_967_295]),
                 Row::Add(9, &[], &[2, 4_294_967_296]),
+                Row::Del(&[9]),
             ],
             3,
             "accepted",
-            "4294967295 -2 0 1 4 0\n4294967296 -2 0 4294967295 0\n0 d 4294967295 0\n\
-              9 0 2 4294967296 0\n",
+            "4294967295 -2 0 1 4 0\n4294967296 -2 0 4294967295 0\n4294967296 d 4294967295 0\n\
+              9 0 2 4294967296 0\n4294967296 d 9 0\n",
         ),
     ];
     for (steps, additions, want, text) in rows {

@@ -16,8 +16,9 @@ use Rattle.lls_problem.specs.declared.form.Form.{Form}
 use Rattle.lls_problem.specs.Problem.{PosedProblem}
 use Rattle.lls_encode.specs.Formula.{formula_of}
 use Rattle.lls_problem.specs.Solution.{Differs, IsSolution, IsAbsent}
+use Rattle.lls_solver.specs.Searching.{IsRefutation}
 use Rattle.lls_least.specs.Fewer.{at_most, fewer, live_cells}
-use Rattle.lls_least.specs.Least.{HasFewest, IsCertificate, IsProof, IsShown}
+use Rattle.lls_least.specs.Least.{HasFewest, IsCertificate, IsShown}
 
 abbrev IsKept : History → Bound → Type 0
 IsKept h bound = Allows bound (population h bound.generation)
@@ -66,8 +67,8 @@ fewest_where_none p h k is none other solution = elim (cases_lt (live_cells othe
   | inr least ↦ least
 ]
 
--- and a proof of that certifies it
-pub shown_where_none : (p : PosedProblem) (form : Form) (budget : ℕ) (h : History) (steps : List Step) (k : ℕ) → IsSolution p h → live_cells h ≡ k + 1 → IsProof (formula_of (fewer p k) form) budget steps → IsShown p form budget h steps
+-- and the log of a search that refuted that certifies it
+pub shown_where_none : (p : PosedProblem) (form : Form) (budget : ℕ) (h : History) (steps : List Step) (k : ℕ) → IsSolution p h → live_cells h ≡ k + 1 → IsRefutation (formula_of (fewer p k) form) budget steps → IsShown p form budget h steps
 shown_where_none p form budget h steps k solution is proof = record {
   solution = solution;
   certified = subst (IsCertificate p form budget steps) (sym next) proof;

@@ -5,15 +5,14 @@ use Rattle.lls_prooflog.specs.Spent.{IsSpent}
 use Rattle.lls_problem.specs.Problem.{PosedProblem}
 use Rattle.lls_problem.specs.Solution.{IsSolution, IsAbsent}
 use Rattle.lls_encode.specs.Formula.{formula_of}
-use Rattle.lls_solver.specs.Searching.{KeepsAll}
+use Rattle.lls_solver.specs.Searching.{IsRefutation, KeepsAll}
 use Rattle.lls_least.specs.declared.effort.Effort.{Effort}
 use Rattle.lls_least.specs.declared.looking.Finding.{Finding}
 use Rattle.lls_least.specs.declared.looking.Finding.TheVariants.{Found, Absent, Undecided}
-use Rattle.lls_least.specs.Least.{IsProof}
 
--- a proof, by which there is no solution
+-- the log of a search that refuted the formula, so there is no solution
 pub record ShowsAbsence (p : PosedProblem) (effort : Effort) (steps : List Step) : Type 0 where
-  pub proof : IsProof (formula_of p effort.form) effort.budget steps
+  pub proof : IsRefutation (formula_of p effort.form) effort.budget steps
   pub absent : IsAbsent p
   pub all_kept : KeepsAll effort.keep_all steps
 

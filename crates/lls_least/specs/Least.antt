@@ -1,16 +1,14 @@
 -- What each answer of a search for the fewest live cells says.
-use Rattle.std.specs.Prelude.{◌≡◌, ◌<◌, ◌≤◌, ℕ, zero, suc, ◌+◌, ◌-◌, true, List, []}
-use Rattle.lls_lit.specs.Formula.{Cnf}
+use Rattle.std.specs.Prelude.{◌≡◌, ◌<◌, ◌≤◌, ℕ, zero, suc, ◌-◌, List, []}
 use Rattle.lls_grid.specs.History.{History}
 use Rattle.lls_prooflog.specs.declared.step.Step.{Step}
 use Rattle.lls_prooflog.specs.Log.{Logged}
-use Rattle.lls_prooflog.specs.Steps.{are_accepted, numbered}
-use Rattle.lls_prooflog.specs.Spent.{EachStep, IsGood, IsSpent, log_start}
+use Rattle.lls_prooflog.specs.Spent.{IsSpent}
 use Rattle.lls_problem.specs.declared.form.Form.{Form}
 use Rattle.lls_problem.specs.Problem.{PosedProblem}
 use Rattle.lls_problem.specs.Solution.{IsSolution, IsAbsent}
 use Rattle.lls_encode.specs.Formula.{formula_of}
-use Rattle.lls_solver.specs.Searching.{additions}
+use Rattle.lls_solver.specs.Searching.{IsRefutation}
 use Rattle.lls_least.specs.declared.answer.Least.{Least}
 use Rattle.lls_least.specs.declared.answer.Least.TheVariants.{Shown, Absent, AtMost, Unsettled}
 use Rattle.lls_least.specs.Fewer.{fewer, live_cells}
@@ -19,17 +17,11 @@ use Rattle.lls_least.specs.Fewer.{fewer, live_cells}
 abbrev pub HasFewest : PosedProblem → History → Type 0
 HasFewest p history = (other : History) → IsSolution p other → live_cells history ≤ live_cells other
 
--- the steps are accepted against the formula, by unit propagation, and add the empty clause and as many others as the budget allows at the most
-pub record IsProof (formula : Cnf) (budget : ℕ) (steps : List Step) : Type 0 where
-  pub accepted : are_accepted (numbered formula.clauses) steps ≡ true
-  pub good : EachStep IsGood (log_start formula) steps
-  pub within : additions steps ≤ budget + 1
-
--- steps that show that no solution has fewer than so many live cells: none where that is 0, else a proof against the formula of
+-- steps that show that no solution has fewer than so many live cells: none where that is 0, else the log of a search that refuted the formula of
 -- the problem with at most one less
 abbrev pub IsCertificate : PosedProblem → Form → ℕ → List Step → ℕ → Type 0
 IsCertificate p form budget steps zero = steps ≡ []
-IsCertificate p form budget steps (suc n) = IsProof (formula_of (fewer p n) form) budget steps
+IsCertificate p form budget steps (suc n) = IsRefutation (formula_of (fewer p n) form) budget steps
 
 -- a solution, and steps that show that none has fewer live cells
 pub record IsShown (p : PosedProblem) (form : Form) (budget : ℕ) (history : History) (steps : List Step) : Type 0 where
@@ -44,7 +36,7 @@ pub record IsAtMost (p : PosedProblem) (form : Form) (budget : ℕ) (history : H
 
 abbrev pub IsLeast : PosedProblem → Form → ℕ → Least → Type 0
 IsLeast p form budget (Shown history log) = IsShown p form budget history log.steps
-IsLeast p form budget (Absent log) = IsProof (formula_of p form) budget log.steps
+IsLeast p form budget (Absent log) = IsRefutation (formula_of p form) budget log.steps
 IsLeast p form budget (AtMost history log) = IsAtMost p form budget history log.steps
 IsLeast p form budget (Unsettled log) = IsSpent (formula_of p form) log.steps budget
 

@@ -12,7 +12,7 @@ use Rattle.lls_cli.specs.Evidence.{IsEvidence}
 use Rattle.lls_cli.specs.Fewest.{counted_text}
 use Rattle.lls_cli.specs.Question.{formula_asked}
 use Rattle.lls_cli.proofs.FewestAnswers.{above, at_most_answer, no_solution_answer, unsettled_answer}
-use Rattle.lls_cli.proofs.Searches.{evidence_by}
+use Rattle.lls_cli.proofs.Searches.{evidence_of}
 use Rattle.lls_cli.proofs.fewest.fewest.Goals as goal
 
 pub absence_of-requires-clause-evidence : goal.absence_of-requires-clause-evidence
@@ -23,7 +23,7 @@ absence_of-requires-clause-evidence c =
     let Keeps : Least → Type 0 = λ l. KeepsAll effort.keep_all (log_of l).steps in
     let proof = subst Says c.in-Absent.is c.in_ok-history.ensures.answer in
     let kept = subst Keeps c.in-Absent.is c.in_ok-history.ensures.all_kept in
-    let evidence : IsEvidence (formula_asked asked) effort c.in-Absent.log.steps = evidence_by (formula_asked asked) effort c.in-Absent.log.steps kept proof in
+    let evidence : IsEvidence (formula_asked asked) effort c.in-Absent.log.steps = evidence_of (formula_asked asked) effort c.in-Absent.log.steps kept proof in
     subst (λ (f : Cnf). IsEvidence f effort c.in-Absent.log.steps) (sym c.requires.formula) evidence
 
 pub returns-in-Absent : goal.returns-in-Absent

@@ -18,7 +18,7 @@ certificate-requires-clause-below c =
 pub certificate-requires-clause-evidence : goal.certificate-requires-clause-evidence
 certificate-requires-clause-evidence c =
     let live : live_cells c.args.history.now ≡ suc (c.population-live.result - 1) = omega (arith, c.population-live.ensures, c.if-live-eq0.false) in
-    certified_by c.args.asked.now c.args.effort c.args.log.steps (live_cells c.args.history.now) (c.population-live.result - 1) live c.requires.kept c.requires.shown.certified
+    certified_by c.args.asked.now c.args.effort c.args.log.now.steps (live_cells c.args.history.now) (c.population-live.result - 1) live c.requires.kept c.requires.shown.certified
 
 pub returns-then-live-eq0 : goal.returns-then-live-eq0
 returns-then-live-eq0 c =

@@ -1,7 +1,8 @@
 use Rattle.std.proofs.Common.{ap, refl}
 use Rattle.std.specs.Prelude.{map, string_bytes}
 use Rattle.lls_cli.specs.Moment.{SinkMoment}
-use Rattle.lls_cli.proofs.Consequences.{yes_means, no_means, found_means, none_means, short_means, words_alone, words_all, caused, meant, no_call_failed, stays_silent, counts_stay}
+use Rattle.lls_cli.proofs.Consequences.{yes_means, no_means, found_means, none_means, short_means, words_alone, words_all, caused, meant, no_call_failed, says_answer, stays_silent, counts_stay}
+use Rattle.lls_cli.proofs.Limits.{limits}
 use Rattle.lls_cli.proofs.Files.{changes_only}
 use Rattle.lls_cli.proofs.Lefts.{leaves_proof, leaves_log, leaves_certificate, leaves_trimmed}
 use Rattle.lls_cli.proofs.Stands.{stands}
@@ -82,3 +83,9 @@ returns-clause-certified g c = leaves_certificate _ _ _ _ c.run_words.ensures
 pub returns-clause-published_fewest : goal.returns-clause-published_fewest
 returns-clause-published_fewest g c = λ is.
     publishes_fewest _ _ _ _ is (apart (map string_bytes c.args.words.now)) (leaves_certificate _ _ _ _ c.run_words.ensures is) (changes_only _ _ _ _ c.run_words.ensures)
+
+pub returns-clause-said : goal.returns-clause-said
+returns-clause-said g c = says_answer _ _ _ _ c.run_words.ensures
+
+pub returns-clause-limits : goal.returns-clause-limits
+returns-clause-limits g c = limits

@@ -4,7 +4,7 @@ use Rattle.lls_problem.specs.Solution.{IsAbsent, IsSolution}
 use Rattle.lls_encode.specs.Formula.{formula_of}
 use Rattle.lls_least.specs.Fewer.{fewer, live_cells}
 use Rattle.lls_least.specs.Finding.{IsFinding, ShowsAbsence}
-use Rattle.lls_least.specs.Least.{IsProof}
+use Rattle.lls_solver.specs.Searching.{IsRefutation}
 use Rattle.lls_least.proofs.Solutions.{fewest_where_none, live_cells-fewer, live_cells-le, shown_where_none, solution-fewer}
 use Rattle.lls_least.proofs.tightening.tighten.Goals as goal
 
@@ -19,8 +19,8 @@ returns-in-Absent-clause-answer c =
     let k = c.population-live.result - 1 in
     let one_more : live_cells c.tighter.history ≡ k + 1 = omega (arith, c.population-live.ensures, c.if-live-eq0.false) in
     let shows : ShowsAbsence c.in_ok-bounded.bounded c.args.effort c.in-Absent.log.steps = subst (IsFinding c.in_ok-bounded.bounded c.args.effort) c.in-Absent.is c.in_ok-next.ensures in
-    let proof : IsProof (formula_of (fewer p k) c.args.effort.form) c.args.effort.budget c.in-Absent.log.steps =
-    subst (λ (q : PosedProblem). IsProof (formula_of q c.args.effort.form) c.args.effort.budget c.in-Absent.log.steps) c.in_ok-bounded.ensures.fewer shows.proof in
+    let proof : IsRefutation (formula_of (fewer p k) c.args.effort.form) c.args.effort.budget c.in-Absent.log.steps =
+    subst (λ (q : PosedProblem). IsRefutation (formula_of q c.args.effort.form) c.args.effort.budget c.in-Absent.log.steps) c.in_ok-bounded.ensures.fewer shows.proof in
     shown_where_none p c.args.effort.form c.args.effort.budget c.tighter.history c.in-Absent.log.steps k c.tighter.invariant one_more proof
 
 pub returns-in-Absent-clause-settles : goal.returns-in-Absent-clause-settles

@@ -1,0 +1,136 @@
+#!/usr/bin/env python3
+"""Proves and builds a program, for the wrappers: the libraries that it stands on side by side, and then the program itself.
+
+    build.py CRATE LOG [WORD ..]
+
+The kit keeps to itself a copy of crates/ in which it proves, and takes what another copy on the machine has proved of the same files.
+So each worker has a copy of its own, with no more than the sources. It takes the next library whose own ones are done, first the one that
+most work waits for, and builds that there. What the kit says goes into LOG. There are as many workers as processors, and as memory
+holds. At last the kit builds CRATE in its place, over what it takes from these copies, and runs it on the words. Says on the standard error
+what is proved, and ends with the kit's status, or with 1 where a library isn't proved.
+"""
+import os
+import re
+import shutil
+import subprocess
+import sys
+import tempfile
+import threading
+
+TOP = os.path.dirname(os.path.dirname(os.path.abspath(__file__)))
+# What a proof may take of memory, in bytes, with one job.
+ROOM = 4_500_000_000
+PARTS = ("src", "specs", "proofs")
+
+
+def uses_of(text):
+    """Returns the crates of crates.txt, each with those of them that it uses."""
+    lines = re.findall(r"^([a-z0-9_]+)[^#:\n]*:([^#\n]*)", text, re.M)
+    names = {name for name, _ in lines}
+    return {name: [it for it in uses.split() if it in names] for name, uses in lines}
+
+
+def below(uses, crate):
+    """Returns the crates below one, each behind those that it uses."""
+    found = []
+    for it in uses[crate]:
+        found += [name for name in [*below(uses, it), it] if name not in found]
+    return found
+
+
+def lines_of(crate):
+    """Returns how many lines a crate has, by which its cost is guessed."""
+    files = [f"{at}/{name}" for part in PARTS for at, _, names in os.walk(f"{TOP}/crates/{crate}/{part}") for name in names]
+    return sum(open(it, "rb").read().count(b"\n") for it in files)
+
+
+def waiting(uses, crates):
+    """Returns for each crate how many lines the longest chain has that begins with it."""
+    chain = {}
+    for it in reversed(crates):
+        chain[it] = lines_of(it) + max((chain[other] for other in crates if it in uses[other]), default=0)
+    return chain
+
+
+def workers():
+    with open("/proc/meminfo", encoding="utf-8") as file:
+        free = 1024 * int(re.search(r"MemAvailable:\s+(\d+)", file.read())[1])
+    return max(1, min(len(os.sched_getaffinity(0)), free // ROOM))
+
+
+class Build:
+    """The libraries that are left, and how far the workers have come."""
+
+    def __init__(self, uses, crates, log):
+        self.uses, self.left, self.done, self.log = uses, list(crates), set(), log
+        self.left.sort(key=lambda it, chain=waiting(uses, crates): -chain[it])
+        self.at, self.failed, self.turn = 0, None, threading.Condition()
+
+    def next(self):
+        """Returns a library whose own ones are done, and how many processors are free for it; None where none is left."""
+        with self.turn:
+            while self.left and not self.failed:
+                ready = [it for it in self.left if all(below in self.done for below in self.uses[it])]
+                if ready:
+                    self.left.remove(ready[0])
+                    self.at += 1
+                    return ready[0], max(1, (len(os.sched_getaffinity(0)) - self.at + 1) // len(ready))
+                self.turn.wait()
+            return None
+
+    def end(self, crate, ran):
+        with self.turn:
+            self.at -= 1
+            self.log.write(f"== {crate}\n{ran.stdout}")
+            self.log.flush()
+            if ran.returncode:
+                self.failed = self.failed or crate
+            else:
+                self.done.add(crate)
+                print(f"lls: proved {crate}; libraries left: {len(self.left) + self.at}", file=sys.stderr, flush=True)
+            self.turn.notify_all()
+
+    def work(self, copy):
+        """Builds one library after another in a copy of the sources."""
+        while task := self.next():
+            crate, jobs = task
+            ran = subprocess.run(
+                ["rt", "lib", "--jobs", str(jobs)],
+                cwd=f"{copy}/crates/{crate}",
+                stdin=subprocess.DEVNULL,
+                stdout=subprocess.PIPE,
+                stderr=subprocess.STDOUT,
+                text=True,
+                errors="replace",
+                check=False,
+            )
+            self.end(crate, ran)
+
+
+def main():
+    crate, log, *words = sys.argv[1:]
+    with open(f"{TOP}/crates.txt", encoding="utf-8") as file:
+        uses = uses_of(file.read())
+    with open(log, "w", encoding="utf-8") as log, tempfile.TemporaryDirectory(prefix="lls-build-") as room:
+        build = Build(uses, below(uses, crate), log)
+        threads = []
+        for number in range(workers()):
+            copy = f"{room}/{number}"
+            shutil.copytree(f"{TOP}/crates", f"{copy}/crates", ignore=shutil.ignore_patterns("out"))
+            for name in ("crates.txt", "HANDLES"):
+                shutil.copy(f"{TOP}/{name}", copy)
+            threads.append(threading.Thread(target=build.work, args=[copy], daemon=True))
+        for it in threads:
+            it.start()
+        for it in threads:
+            it.join()
+        if build.failed:
+            print(f"lls: {build.failed} isn't proved", file=sys.stderr)
+            return 1
+        # The copies have to stand while the kit takes their work.
+        how = {"cwd": f"{TOP}/crates/{crate}", "stdin": subprocess.DEVNULL, "stdout": log, "stderr": subprocess.STDOUT}
+        return subprocess.run(["rt", "run", "--", *words], check=False, **how).returncode
+
+
+if __name__ == "__main__":
+    sys.exit(main())
