@@ -42,6 +42,7 @@ _lls() {
     local current=${COMP_WORDS[COMP_CWORD]} previous=${COMP_WORDS[COMP_CWORD - 1]} commands='check cnf judge least lrat make open opencheck rule sat search trim'
     local first=1 words=()
     [ "${COMP_WORDS[1]-}" != --quiet ] || first=2
+    [ "${COMP_WORDS[first]-}" != --trimmed ] || first=$((first + 1))
     [[ "${COMP_WORDS[first]-}" != --unproved && "${COMP_WORDS[first]-}" != --posed ]] || first=$((first + 1))
     # `--edge=open` comes as three words.
     if [ "$current" = = ]; then
@@ -51,8 +52,8 @@ _lls() {
     fi
     if [ "$COMP_CWORD" -eq "$first" ]; then
         case $first,${COMP_WORDS[1]} in
-        1,*) commands="$commands help --help --version --posed --quiet --unproved" ;;
-        2,--quiet) commands="$commands --posed --unproved" ;;
+        1,*) commands="$commands help --help --version --posed --quiet --trimmed --unproved" ;;
+        2,--quiet) commands="$commands --posed --trimmed --unproved" ;;
         esac
         read -ra words <<<"$commands"
     elif [[ $previous = --help || $previous = help && $COMP_CWORD -eq 2 ]]; then

@@ -8,6 +8,7 @@ Takes a few seconds and needs neither the proved program nor a package. What is 
 """
 import os
 import re
+import shutil
 import subprocess
 import sys
 import tempfile
@@ -251,9 +252,11 @@ class Building(unittest.TestCase):
         with open(f"{TOP}/lls", encoding="utf-8") as file:
             self.wrapper = scratch(self, "lls", file.read())
         self.top = os.path.dirname(self.wrapper)
-        os.makedirs(f"{self.top}/crates/lls/out")
-        os.makedirs(f"{self.top}/bin")
+        for folder in ("crates/low/src", "crates/mid/src", "crates/lls/out", "bin", "tools"):
+            os.makedirs(f"{self.top}/{folder}")
+        shutil.copy(f"{TOP}/tools/build.py", f"{self.top}/tools")
         self.write("crates.txt", "# crates\nlow:\nmid: low kit_crate\nother: low\nlls: mid\n")
+        self.write("HANDLES", "none\n")
         self.program = f"{self.top}/crates/lls/out/lls"
 
     def write(self, name, text):
@@ -268,14 +271,19 @@ class Building(unittest.TestCase):
         script = 'PATH=$1:$PATH; shift; exec bash "$@"'
         return ran("bash", "-c", script, "bash", f"{self.top}/bin", self.wrapper, *words, folder=self.top)
 
-    MAKES = "printf '#!/bin/bash\\necho new \"$@\"\\nexit 10\\n' > out/lls; chmod +x out/lls"
+    # Proves each library in a copy of the sources, at last in the place of the program, and makes that there.
+    MAKES = """
+    if [ "$1" = lib ]; then
+        [ "$PWD" != "$(dirname "$0")/../crates/${PWD##*/}" ] && [ -d src ]
+    else
+        [ "$*" = 'run -- rule B3/S23' ] && printf '#!/bin/bash\\necho new "$@"\\nexit 10\\n' > out/lls; chmod +x out/lls
+    fi"""
 
     def test_says_the_crates_and_runs_what_was_made(self):
-        says = "echo 'rt: chose --jobs 2 for low'; sleep 1.5; echo 'fn mid::a::b: proved'; echo 'library low: modules loaded=1'; sleep 1.5"
-        status, out, err = self.lls(f"{says}; {self.MAKES}", "search", "a b")
+        status, out, err = self.lls(self.MAKES, "search", "a b")
         self.assertEqual((status, out), (10, "new search a b\n"))
-        crates = [line for line in err.split("\n") if line.startswith("lls: at ")]
-        self.assertEqual(crates, ["lls: at low; crates left after it: 2", "lls: at mid; crates left after it: 1"])
+        crates = [line for line in err.split("\n") if line.startswith("lls: proved ")]
+        self.assertEqual(crates, ["lls: proved low; libraries left: 1", "lls: proved mid; libraries left: 0"])
         self.assertIn("--unproved", err)
         self.assertEqual(os.listdir(f"{self.top}/crates/lls"), ["out"])
 
@@ -285,14 +293,19 @@ class Building(unittest.TestCase):
         os.utime(self.program, (1, 1))
         status, out, err = self.lls("echo 'not proved'; exit 1", "rule", "B3/S23")
         self.assertEqual((status, out), (1, ""))
-        self.assertIn("the program wasn't built", err)
+        self.assertIn("lls: low isn't proved\nlls: the program wasn't built", err)
         with open(f"{self.top}/crates/lls/build.log", encoding="utf-8") as file:
-            self.assertEqual(file.read(), "not proved\n")
+            self.assertEqual(file.read(), "== low\nnot proved\n")
 
     def test_a_program_that_is_there_is_run_at_once(self):
         path = self.write("crates/lls/out/lls", "#!/bin/bash\necho there\nexit 3\n")
         os.utime(path, (2**31, 2**31))
         self.assertEqual(self.lls("echo built >&2", "judge"), (3, "there\n", ""))
+
+    def test_trimmed_refusal(self):
+        path = self.write("crates/lls/out/lls", "#!/bin/bash\nexit 3\n")
+        os.utime(path, (2**31, 2**31))
+        self.assertEqual(self.lls("exit 9", "--trimmed", "judge", "a", "b"), (2, "", "lls: --trimmed goes before search, sat or least\n"))
 
     def test_posed(self):
         path = self.write("crates/lls/out/lls", "#!/bin/bash\nprintf '%s\\n' \"$@\"\nexit 3\n")
@@ -359,7 +372,8 @@ class Completion(unittest.TestCase):
         self.assertEqual(self.replies("--posed", "ju"), ["judge"])
         self.assertEqual(self.replies("--quiet", "ju"), ["judge"])
         self.assertEqual(self.replies("--quiet", "--posed", "ju"), ["judge"])
-        self.assertEqual(self.replies("--quiet", "--"), ["--posed", "--unproved"])
+        self.assertEqual(self.replies("--quiet", "--"), ["--posed", "--trimmed", "--unproved"])
+        self.assertEqual(self.replies("--trimmed", "--posed", "ju"), ["judge"])
         self.assertEqual(self.replies("help", "ju"), ["judge"])
         self.assertEqual(self.replies("check", "a.lls", "--edge", "o"), ["open"])
         self.assertEqual(self.replies("check", "a.lls", "--edge", "="), ["closed", "open"])

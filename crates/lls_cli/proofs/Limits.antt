@@ -44,6 +44,7 @@ limits = record {
   variables = refl;
   clauses = refl;
   digits = refl;
+  digits_more = refl;
   ids = refl;
   shift = refl;
   period = refl;
@@ -53,5 +54,5 @@ limits = record {
   search_file = refl;
   proof = refl;
   formula = refl;
-  rle_header = refl;
+  rle_header = λ line. refl;
 }
