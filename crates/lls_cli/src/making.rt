@@ -1,5 +1,5 @@
 // The making of a problem: the search file that it is written to, and the search for its solution.
-ghost use Rattle.std.specs.Prelude.{◌≡◌, ◌≤◌, ℕ, List, length, string_bytes, IfOk};
+ghost use Rattle.std.specs.Prelude.{◌≡◌, ◌≤◌, ℕ, List, length, string_bytes, IfOk, count_by};
 ghost use Rattle.lls_gen.specs.Made.{made};
 ghost use Rattle.lls_problem.specs.Solution.{IsSolution};
 ghost use Rattle.lls_solver.specs.declared.solving.TheConstants.{MOST_BUDGET};
@@ -24,7 +24,7 @@ use lls_encode::encode;
 use lls_gen::{Made, make};
 use lls_problem::Form;
 use lls_prooflog::Log;
-use lls_search_file::{Kind, Posed, print_posed};
+use lls_search_file::{Cell, Kind, Posed, print_posed};
 use lls_solver::{Outcome, solve};
 use std::alloc::Global;
 
@@ -48,15 +48,25 @@ fn is_known(kind: Kind) -> bool
     matches!(kind, Kind::Dead | Kind::Live)
 }
 
+// How many of these cells are fixed.
+fn known_among(cells: &[Cell]) -> usize
+    ensures { result ≡ count_by (λ cell. is_known cell.kind) cells.now }
+{
+    let mut count = 0;
+    for cell in cells {
+        if is_known(cell.kind) {
+            count += 1;
+        }
+    }
+    count
+}
+
 // How many cells of generation 0 are fixed.
 fn known_count(posed: &Posed) -> usize
     ensures { result ≡ known_count posed.now }
 {
     let cells = (posed.width * posed.height) as usize;
-    posed.cells.items()[..cells]
-        .iter()
-        .filter(|cell| is_known(cell.kind))
-        .count()
+    known_among(&posed.cells.items()[..cells])
 }
 
 // The lines on a made problem: its size, its known cells, and the live cells of its solution.
