@@ -1,11 +1,8 @@
 // Command lines over a shelf and sinks in memory.
 mod checks;
-mod demands;
 mod faults;
-mod formulas;
 mod further;
 mod hostile;
-mod judging;
 mod long_shelf;
 mod making;
 mod outside;
