@@ -34,9 +34,10 @@ SAID = {
 CELL = "1\n\n1\n"
 BLOCK = "* *\n* *\n\n* *\n* *\n"
 FOUR = "p cnf 2 4\n1 2 0\n1 -2 0\n-1 2 0\n-1 -2 0\n"
-# The same behind two clauses of other variables, from which the search learns first: its log, of which two additions are left when it is trimmed.
+# The same behind two clauses of other variables, from which the search learns first: its log, and what is left of that when it is trimmed.
 APART = "p cnf 4 6\n1 2 0\n1 -2 0\n3 4 0\n3 -4 0\n-3 4 0\n-3 -4 0\n"
 LOG = "7 1 0 2 1 0\n8 3 0 4 3 0\n9 0 8 6 5 0\n"
+TRIMMED = "7 3 0 4 3 0\n8 0 7 6 5 0\n"
 # Words, the files f and p, the status and the two streams where nothing fails: worked out by hand. None stands for no such file.
 ROWS = (
     ("check f p", CELL, "5 0 1 2 4 0\n", 0, "accepted\n", ""),
@@ -142,7 +143,8 @@ def tried(room, row):
     """Tries a row with each call failing. Returns how many runs ended with each status, and those that ended wrongly."""
     ended, wrong = {}, []
     whole, counts = room.run(row)
-    if (whole.status, whole.out, whole.err) != row[3:] or row[1] == APART and whole.files.get("q") != TRIMMED:
+    left = TRIMMED if row[0].startswith("trim ") else LOG
+    if (whole.status, whole.out, whole.err) != row[3:] or row[1] == APART and whole.files.get("q") != left:
         wrong.append(f"{row[0]}: {whole}")
     for kind in KINDS:
         for number in range(1, counts[kind] + 1):
