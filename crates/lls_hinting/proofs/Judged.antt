@@ -12,7 +12,7 @@ use Rattle.lls_drat.specs.declared.form.Form.{Form}
 use Rattle.lls_drat.specs.Lemma.{NumberedLemma}
 use Rattle.lls_drat.specs.Proof.{Proof, no_more}
 use Rattle.lls_drat.specs.Reading.{begun, to_come}
-use Rattle.lls_lemmas.specs.Lemmas.{AddsUnits, EndsEmpty, IsNotImplied}
+use Rattle.lls_lemmas.specs.Lemmas.{Begins, EndsEmpty, GoesOnWell, IsNotImplied, KeepsPlain}
 use Rattle.lls_hinting.specs.declared.fault.Fault.{Fault}
 use Rattle.lls_hinting.specs.declared.fault.Fault.TheVariants as faults
 use Rattle.lls_hinting.specs.declared.fault.OutsideFault.TheVariants as outside
@@ -137,9 +137,9 @@ judged_from formula formula' vars files name form start tally new stand stand' s
     (subst (λ (s : Stand). IsJudged formula vars files name form (progress start tally) new (Ok s)) same judged))
 
 -- what a surveyed proof comes to, by what its lemmas came to
-module _ (formula : Cnf) (start : List Step) (new : Progress) (grown : Grows formula [] start) (units : AddsUnits formula [] start) where
+module _ (formula : Cnf) (start : List Step) (new : Progress) (well : GoesOnWell formula [] start) (keeps : KeepsPlain formula [] start) (begins : Begins formula start) where
   behind : (lemmas : List NumberedLemma) → TakesAll formula lemmas (progress_start start) new → IsBehind formula lemmas new
-  behind lemmas taken = record { start = start; grown = grown; units = units; taken = taken }
+  behind lemmas taken = record { start = start; well = well; keeps = keeps; begins = begins; taken = taken }
 
   stand_refused : (lemmas : List NumberedLemma) (number : ℕ) (text : List ℕ) → StandSays formula lemmas (progress_start start) new (NotImplied number) → text ≡ not_implied_text number
       → IsRefusal (record { formula = formula; lemmas = lemmas }) text

@@ -5,7 +5,7 @@ use Rattle.lls_prooflog.specs.declared.step.Step.{Step}
 use Rattle.lls_drat.specs.declared.kind.Kind.{Kind}
 use Rattle.lls_drat.specs.declared.kind.Kind.TheVariants.{Addition, Deletion}
 use Rattle.lls_drat.specs.Lemma.{NumberedLemma}
-use Rattle.lls_lemmas.specs.Lemmas.{is_tautology, AddsLemma, AddsUnits, DeletesOne, EndsEmpty, GoesOnWell, HasClause, HoldsForGood, IsLive, IsNotImplied, KeepsLive}
+use Rattle.lls_lemmas.specs.Lemmas.{is_tautology, AddsLemma, AddsUnits, Begins, DeletesOne, EndsEmpty, GoesOnWell, HasClause, HoldsForGood, IsLive, IsNotImplied, KeepsLive, KeepsPlain}
 
 -- a log goes on by steps with which nothing is wrong, and what was live stays so
 abbrev pub Grows : Cnf → List Step → List Step → Type 0
@@ -52,9 +52,10 @@ TakesAll formula [] old new = new ≡ old
 TakesAll formula (first ∷ lemmas) old new =
     (between : Progress) × IsNotImplied formula old.steps [] × Takes formula first.lemma.kind first.lemma.lits old between × TakesAll formula lemmas between new
 
--- how far a formula and lemmas of its proof lead
+-- how far a formula and lemmas of its proof lead. The log begins with the deletion of clauses that hold for any values
 pub record IsBehind (formula : Cnf) (lemmas : List NumberedLemma) (now : Progress) : Type 0 where
   pub start : List Step
-  pub grown : Grows formula [] start
-  pub units : AddsUnits formula [] start
+  pub well : GoesOnWell formula [] start
+  pub keeps : KeepsPlain formula [] start
+  pub begins : Begins formula start
   pub taken : TakesAll formula lemmas (progress_start start) now

@@ -11,7 +11,7 @@ use Rattle.lls_drat.specs.declared.kind.Kind.{Kind}
 use Rattle.lls_drat.specs.declared.kind.Kind.TheVariants.{Addition}
 use Rattle.lls_drat.specs.Lemma.{NumberedLemma}
 use Rattle.lls_drat.specs.Proof.{no_more, proof_of}
-use Rattle.lls_lemmas.specs.Lemmas.{IsNotAddable, IsNotImplied, LemmasState, MeetsTautology}
+use Rattle.lls_lemmas.specs.Lemmas.{IsNotAddable, IsNotImplied, LemmasState}
 use Rattle.lls_hinting.specs.declared.fault.Fault.{Fault}
 use Rattle.lls_hinting.specs.declared.fault.Fault.TheVariants as faults
 use Rattle.lls_hinting.specs.declared.fault.OutsideFault.TheVariants as outside
@@ -59,7 +59,7 @@ progress steps tally = record { steps = steps; reasons = tally.reasons; unknown 
 abbrev pub LemmaSays : Cnf → ℕ → Kind → Clause → Progress → Progress → Result Bool Fault → Type 0
 LemmaSays formula vars kind lits old new (Ok true) = Takes formula kind lits old new
 LemmaSays formula vars kind lits old new (Ok false) =
-    (kind ≡ Addition) × (new ≡ old) × IsNotImplied formula new.steps lits × (IsNotAddable formula new.steps lits ⊎ MeetsTautology formula new.steps lits)
+    (kind ≡ Addition) × (new ≡ old) × IsNotImplied formula new.steps lits × IsNotAddable formula new.steps lits
 LemmaSays formula vars kind lits old new (Err faults.Memory) = Unit {0}
 LemmaSays formula vars kind lits old new (Err (faults.Outside outside.Changed)) = is_within vars lits ≡ false
 LemmaSays formula vars kind lits old new (Err fault) = ⊥
@@ -71,7 +71,7 @@ pub record StopsAfter (formula : Cnf) (number : ℕ) (old new : Progress) (befor
   pub passes : Passes (front ++ addition number lits ∷ []) before after
   pub taken : TakesAll formula front old new
   pub not_implied : IsNotImplied formula new.steps lits
-  pub not_addable : IsNotAddable formula new.steps lits ⊎ MeetsTautology formula new.steps lits
+  pub not_addable : IsNotAddable formula new.steps lits
 
 -- a lemma has a greater variable
 pub record HasGreater (vars : ℕ) (before after : Place) : Type 0 where
@@ -94,7 +94,7 @@ StandSays formula lemmas old new Going = TakesAll formula lemmas old new
 StandSays formula lemmas old new Refuted = (front : List NumberedLemma) × (behind : List NumberedLemma) × (lemmas ≡ front ++ behind) × TakesAll formula front old new
 StandSays formula lemmas old new (NotImplied number) =
     (front : List NumberedLemma) × (lits : Clause) × (behind : List NumberedLemma) × (lemmas ≡ front ++ addition number lits ∷ behind)
-    × TakesAll formula front old new × IsNotImplied formula new.steps lits × (IsNotAddable formula new.steps lits ⊎ MeetsTautology formula new.steps lits)
+    × TakesAll formula front old new × IsNotImplied formula new.steps lits × IsNotAddable formula new.steps lits
 
 -- where the file is as it was when it was surveyed, that is all it comes to
 abbrev pub IsJudged : Cnf → ℕ → Option Files → List ℕ → Form → Progress → Progress → Result Stand Fault → Type 0

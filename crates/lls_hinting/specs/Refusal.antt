@@ -3,7 +3,7 @@ use Rattle.std.specs.Prelude.{◌≡◌, ◌⊎◌, ℕ, List, [], ◌∷◌, �
 use Rattle.lls_lit.specs.Formula.{Clause}
 use Rattle.lls_drat.specs.declared.kind.Kind.TheVariants.{Addition}
 use Rattle.lls_drat.specs.Lemma.{NumberedLemma}
-use Rattle.lls_lemmas.specs.Lemmas.{IsNotAddable, IsNotImplied, MeetsTautology}
+use Rattle.lls_lemmas.specs.Lemmas.{IsNotAddable, IsNotImplied}
 use Rattle.lls_hinting.specs.Asked.{Asked}
 use Rattle.lls_hinting.specs.Behind.{IsBehind, Progress}
 
@@ -12,7 +12,7 @@ abbrev pub addition : ℕ → Clause → NumberedLemma
 addition number lits = record { number = number; lemma = record { kind = Addition; lits = lits } }
 
 -- the lemma of that number is one that no hints lead to, from the clauses that are live behind the lemmas before it, and that no hints add by its
--- first literal, unless one of these clauses holds that literal's negation and has a literal beside its own negation
+-- first literal
 pub record StopsAt (asked : Asked) (number : ℕ) : Type 0 where
   pub before : List NumberedLemma
   pub lits : Clause
@@ -21,7 +21,7 @@ pub record StopsAt (asked : Asked) (number : ℕ) : Type 0 where
   pub now : Progress
   pub is_behind : IsBehind asked.formula before now
   pub not_implied : IsNotImplied asked.formula now.steps lits
-  pub not_addable : IsNotAddable asked.formula now.steps lits ⊎ MeetsTautology asked.formula now.steps lits
+  pub not_addable : IsNotAddable asked.formula now.steps lits
 
 -- all lemmas were taken, and no hints lead from what is live then to the empty clause
 pub record EndsOpen (asked : Asked) : Type 0 where

@@ -3,7 +3,7 @@ ghost use Rattle.std.specs.Prelude.{◌≡◌, ◌≤◌, [], IfOk, count_by};
 ghost use Rattle.lls_lit.specs.Formula.{IsUnsatisfiable};
 ghost use Rattle.lls_prooflog.specs.Log.{ReadsAs, log_text};
 ghost use Rattle.lls_prooflog.specs.Spent.{EachStep, IsGood, is_addition, log_start};
-ghost use Rattle.lls_lemmas.specs.Lemmas.{AddsUnits, EndsEmpty, GoesOnWell, HasNoFault, KeepsLive};
+ghost use Rattle.lls_lemmas.specs.Lemmas.{Begins, EndsEmpty, GoesOnWell, HasNoFault, KeepsPlain};
 ghost use Rattle.lls_hinting.specs.Hinted.{AreHints, hints_text};
 ghost use Rattle.lls_hinting.specs.Judging.{IsProved, IsResting, progress};
 ghost use Rattle.lls_hinting.specs.Moment.{files_at, shelf_at};
@@ -88,8 +88,8 @@ fn judged<S: Shelf>(
     requires vars { lemmas.vars ≡ vars }
     requires formula { lemmas.formula ≡ formula.now }
     requires well { GoesOnWell formula.now [] lemmas.steps }
-    requires keeps { KeepsLive formula.now [] lemmas.steps }
-    requires units { AddsUnits formula.now [] lemmas.steps }
+    requires keeps { KeepsPlain formula.now [] lemmas.steps }
+    requires begins { Begins formula.now lemmas.steps }
     requires rest { IsResting lemmas }
     ensures { Reads (IsProved formula.now vars (files_at (shelf_at S.Shelf shelf.old)) name.now form) result (shelf_at S.Shelf shelf.old) (shelf_at S.Shelf shelf.new) }
 {

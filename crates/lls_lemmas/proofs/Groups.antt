@@ -1,5 +1,5 @@
 -- Groups of hints that are gathered one after another, and the clauses that they cover.
-use Rattle.std.proofs.Common.{◌≡◌, ◌≢◌, ℕ, zero, suc, ◌+◌, ◌<◌, ◌≤◌, Bool, true, false, not, ◌&&◌, ◌||◌, cond, List, [], ◌∷◌, ◌++◌, Option, Some, None, refl, sym, ap, subst, ◌∙◌, arith, append_assoc}
+use Rattle.std.proofs.Common.{◌≡◌, ◌≢◌, ℕ, zero, suc, ◌+◌, ◌<◌, ◌≤◌, Bool, true, false, not, ◌&&◌, ◌||◌, cond, List, [], ◌∷◌, ◌++◌, Option, Some, None, refl, sym, ap, subst, ◌∙◌, inl, inr, arith, append_assoc}
 use Rattle.std.specs.Prelude.{ℤ, pos, negsuc, ◌==◌, AllPairs, Contains, find, slice_get}
 use Rattle.std.specs.List.{list_all, list_any}
 use Rattle.std.specs.Option.{option_map, option_or}
@@ -8,6 +8,7 @@ use Rattle.std.specs.FinSet as set
 use Rattle.std.proofs.lemmas.Bool.{and_parts, eq-eqb}
 use Rattle.std.proofs.lemmas.Bool.Decides.{Decides-eqb}
 use Rattle.std.proofs.lemmas.List.{append-nil}
+use Rattle.std.proofs.lemmas.List.Elements.{Contains-push_cases}
 use Rattle.lls_lit.specs.Literal.{negation}
 use Rattle.lls_lit.specs.Formula.{Clause}
 use Rattle.lls_prooflog.specs.declared.step_fault.StepFault.{StepFault}
@@ -19,7 +20,7 @@ use Rattle.lls_store.specs.Clauses.{LiveClause, Literals, IsIn}
 use Rattle.lls_store.proofs.Live.{clause_numbered-contained}
 use Rattle.lls_store.proofs.Sets.{Contains-from_IsIn, IsIn-from_Contains}
 use Rattle.lls_analyse.specs.Spelled.{Spells}
-use Rattle.lls_analyse.proofs.Gathering.{later}
+use Rattle.lls_analyse.proofs.Gathering.{later, nothing_there}
 use Rattle.lls_analyse.proofs.Walk.{spelled}
 use Rattle.lls_lemmas.specs.Pivot.{AreGroups, ResolvesBy}
 use Rattle.lls_lemmas.proofs.Listing.{among-from_Contains, Contains-from_among}
@@ -70,20 +71,23 @@ any_behind p (negsuc n ∷ hs) more is = either (p (record { id = n + 1; hints =
   either false is = is
 
 module _ (live : List LiveClause) (pivot : ℤ) (lits : List ℤ) where
-  pub groups_none : AreGroups live pivot lits 0 []
-  groups_none = record { front = λ pairs at_end more h. h; good = λ pairs more spells h. h; covers = λ c more inside lt opposes. absurd (omega (arith, lt)) }
+  pub groups_none : AreGroups live pivot lits [] []
+  groups_none = record { front = λ pairs at_end more h. h; good = λ pairs more spells h. h; covers = λ c more inside tried opposes. absurd (nothing_there c.number tried) }
 
   -- a number of no clause that holds the pivot's negation
-  pub groups_passed : (k : ℕ) (hints : List ℤ) → ((c : LiveClause) → Contains live c → c.number ≡ k → IsIn c.lits (negation pivot) → ⊥) → AreGroups live pivot lits k hints → AreGroups live pivot lits (k + 1) hints
-  groups_passed k hints none h = record {
+  pub groups_passed : (tried : List ℕ) (k : ℕ) (hints : List ℤ) → ((c : LiveClause) → Contains live c → c.number ≡ k → IsIn c.lits (negation pivot) → ⊥) → AreGroups live pivot lits tried hints → AreGroups live pivot lits (tried ++ k ∷ []) hints
+  groups_passed tried k hints none h = record {
     front = h.front;
     good = h.good;
-    covers = λ c more inside lt opposes. h.covers c more inside (let other : c.number ≢ k = λ same. none c inside same opposes in omega (arith, lt, other)) opposes;
+    covers = λ c more inside among opposes. elim (Contains-push_cases tried k c.number among) [
+      | inl old ↦ h.covers c more inside old opposes
+      | inr same ↦ absurd (none c inside (sym same) opposes)
+    ];
   }
 
   -- a group more
-  module _ (clause : LiveClause) (hints hs : List ℤ) (ids : AllPairs (λ (a b : LiveClause). a.id ≢ b.id) live) (numbers : AllPairs (λ (a b : LiveClause). a.number < b.number) live) (inside : Contains live clause) (low : 1 ≤ clause.id)
-      (all : list_all is_positive hs ≡ true) (opposes : IsIn clause.lits (negation pivot)) (resolves : ResolvesBy live pivot lits clause hs) (h : AreGroups live pivot lits clause.number hints) where
+  module _ (clause : LiveClause) (tried : List ℕ) (hints hs : List ℤ) (ids : AllPairs (λ (a b : LiveClause). a.id ≢ b.id) live) (numbers : AllPairs (λ (a b : LiveClause). a.number < b.number) live) (inside : Contains live clause) (low : 1 ≤ clause.id)
+      (all : list_all is_positive hs ≡ true) (opposes : IsIn clause.lits (negation pivot)) (resolves : ResolvesBy live pivot lits clause hs) (h : AreGroups live pivot lits tried hints) where
     one_good : (pairs : Live) (more : List ℤ) → Spells live pairs → groups_fault pairs pivot lits (groups_of more) ≡ None → groups_fault pairs pivot lits (groups_of (negation (pos clause.id) ∷ hs ++ more)) ≡ None
     one_good pairs more spells rest =
         let s = spelled live pairs clause.number clause spells ids (clause_numbered-contained live clause numbers inside) in
@@ -94,19 +98,17 @@ module _ (live : List LiveClause) (pivot : ℤ) (lits : List ℤ) where
         ∙ ap (λ (o : Option StepFault). option_or o (groups_fault pairs pivot lits (groups_of more))) good
         ∙ rest
 
-    one_covered : (c : LiveClause) (more : List ℤ) → Contains live c → c.number < clause.number + 1 → IsIn c.lits (negation pivot) → list_any (λ (group : Group). group.id == c.id) (groups_of (hints ++ (negation (pos clause.id) ∷ hs ++ more))) ≡ true
-    one_covered c more there lt holds = elim (c.number == clause.number) as (λ b. (c.number == clause.number) ≡ b → list_any (λ (group : Group). group.id == c.id) (groups_of (hints ++ (negation (pos clause.id) ∷ hs ++ more))) ≡ true) [
-      | true ↦ λ is.
-          let same = same_number live clause.number clause c numbers (clause_numbered-contained live clause numbers inside) there ((Decides-eqb c.number clause.number).0 is) in
+    one_covered : (c : LiveClause) (more : List ℤ) → Contains live c → Contains (tried ++ clause.number ∷ []) c.number → IsIn c.lits (negation pivot) → list_any (λ (group : Group). group.id == c.id) (groups_of (hints ++ (negation (pos clause.id) ∷ hs ++ more))) ≡ true
+    one_covered c more there among holds = elim (Contains-push_cases tried clause.number c.number among) [
+      | inr equal ↦
+          let same = same_number live clause.number clause c numbers (clause_numbered-contained live clause numbers inside) there (sym equal) in
           any_behind (λ (group : Group). group.id == c.id) hints (negation (pos clause.id) ∷ hs ++ more)
           (ap (list_any (λ (group : Group). group.id == c.id)) (groups_of-first clause.id hs more low all)
           ∙ ap (λ b. b || list_any (λ (group : Group). group.id == c.id) (groups_of more)) (eq-eqb clause.id c.id (ap (λ (x : LiveClause). x.id) (sym same))))
-      | false ↦ λ is.
-          let other : c.number ≢ clause.number = λ same. let clash : false ≡ true = sym is ∙ (Decides-eqb c.number clause.number).1 same in absurd cc in
-          h.covers c (negation (pos clause.id) ∷ hs ++ more) there (omega (arith, lt, other)) holds
-    ] refl
+      | inl old ↦ h.covers c (negation (pos clause.id) ∷ hs ++ more) there old holds
+    ]
 
-    pub groups_more : AreGroups live pivot lits (clause.number + 1) (hints ++ negation (pos clause.id) ∷ hs)
+    pub groups_more : AreGroups live pivot lits (tried ++ clause.number ∷ []) (hints ++ negation (pos clause.id) ∷ hs)
     groups_more = record {
       front = λ pairs at_end more ends.
           ap (walk_on pairs at_end lits) (append_assoc hints (negation (pos clause.id) ∷ hs) more)
@@ -114,9 +116,9 @@ module _ (live : List LiveClause) (pivot : ℤ) (lits : List ℤ) where
       good = λ pairs more spells rest.
           ap (λ (ls : List ℤ). groups_fault pairs pivot lits (groups_of ls)) (append_assoc hints (negation (pos clause.id) ∷ hs) more)
           ∙ h.good pairs (negation (pos clause.id) ∷ hs ++ more) spells (one_good pairs more spells rest);
-      covers = λ c more there lt holds.
+      covers = λ c more there among holds.
           ap (λ (ls : List ℤ). list_any (λ (group : Group). group.id == c.id) (groups_of ls)) (append_assoc hints (negation (pos clause.id) ∷ hs) more)
-          ∙ one_covered c more there lt holds;
+          ∙ one_covered c more there among holds;
     }
 
 -- no clause holds the literal
@@ -156,9 +158,9 @@ rat_fault-first live [] pivot groups assumed first = absurd cc
 rat_fault-first live (l ∷ ls) pivot groups assumed first = let same : l ≡ pivot = cc in ap (λ m. pivot_fault live m assumed groups) same
 
 -- groups that cover all clauses add the lemma
-pub groups_add : (live : List LiveClause) (pairs : Live) (pivot : ℤ) (lits : List ℤ) (below : ℕ) (hints : List ℤ) → slice_get lits 0 ≡ Some pivot → ((c : LiveClause) → Contains live c → c.number < below) → AreGroups live pivot lits below hints → Spells live pairs
+pub groups_add : (live : List LiveClause) (pairs : Live) (pivot : ℤ) (lits : List ℤ) (tried : List ℕ) (hints : List ℤ) → slice_get lits 0 ≡ Some pivot → ((c : LiveClause) → Contains live c → Contains tried c.number) → AreGroups live pivot lits tried hints → Spells live pairs
     → walk_on pairs (rat_fault pairs lits (groups_of hints)) lits hints ≡ None
-groups_add live pairs pivot lits below hints first all h spells =
+groups_add live pairs pivot lits tried hints first all h spells =
     let at_end : List ℤ → Option StepFault = rat_fault pairs lits (groups_of hints) in
     let P : List ℤ → Type 0 = λ ls. groups_fault pairs pivot lits (groups_of ls) ≡ None in
     ap (walk_on pairs at_end lits) (sym (append-nil hints))

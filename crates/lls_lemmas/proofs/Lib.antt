@@ -18,3 +18,6 @@ pub mod Groups
 pub mod Opposed
 pub mod Resolvents
 pub mod Addable
+pub mod Hashing
+pub mod Indexing
+pub mod Dropping

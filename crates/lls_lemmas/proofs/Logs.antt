@@ -15,7 +15,7 @@ use Rattle.lls_prooflog.specs.Range.{is_id, is_hint, IsInRange}
 use Rattle.lls_prooflog.specs.Steps.{KeepsSatisfiable, after, fault_of}
 use Rattle.lls_prooflog.specs.Spent.{LogState, EachStep, IsGood, is_positive, log_start, log_after, live_after}
 use Rattle.lls_prooflog.specs.declared.step.Step.{Step}
-use Rattle.lls_prooflog.specs.declared.step.Step.TheVariants.{Add}
+use Rattle.lls_prooflog.specs.declared.step.Step.TheVariants.{Add, Del}
 use Rattle.lls_prooflog.specs.declared.step_fault.StepFault.TheVariants.{IdLive}
 use Rattle.lls_prooflog.proofs.Soundness.{fault_of_good}
 use Rattle.lls_prooflog.proofs.Walks.{walk_closes}
@@ -24,7 +24,7 @@ use Rattle.lls_store.specs.Clauses.{LiveClause}
 use Rattle.lls_store.specs.Store.{StoreState, IsNewId, with_clause}
 use Rattle.lls_analyse.specs.Spelled.{Spells}
 use Rattle.lls_analyse.proofs.Gathering.{later}
-use Rattle.lls_lemmas.specs.Lemmas.{AddsLemma, AddsUnit, AddsUnits, GoesOnBy, GoesOnWell, HasNoFault, KeepsLive}
+use Rattle.lls_lemmas.specs.Lemmas.{AddsLemma, AddsUnit, AddsUnits, AreRising, GoesOnBy, GoesOnWell, HasNoFault, KeepsLive, last_id}
 use Rattle.lls_lemmas.specs.Behind.{GivesClause, Grows, HoldsLive, PushesLemma}
 use Rattle.lls_lemmas.specs.Closing.{is_id_hint}
 use Rattle.lls_lemmas.specs.Pivot.{AddsClause}
@@ -41,7 +41,7 @@ each-append : (P : LogState → Step → Type 0) (state : LogState) (xs ys : Lis
 each-append P state [] ys first second = second
 each-append P state (x ∷ xs) ys first second = (first.0, each-append P (log_after state x) xs ys first.1 second)
 
-each-weaker : (P Q : LogState → Step → Type 0) (state : LogState) (steps : List Step) → ((s : LogState) (step : Step) → P s step → Q s step) → EachStep P state steps → EachStep Q state steps
+pub each-weaker : (P Q : LogState → Step → Type 0) (state : LogState) (steps : List Step) → ((s : LogState) (step : Step) → P s step → Q s step) → EachStep P state steps → EachStep Q state steps
 each-weaker P Q state [] weaker each = tt
 each-weaker P Q state (x ∷ xs) weaker each = (weaker state x each.0, each-weaker P Q (log_after state x) xs weaker each.1)
 
@@ -61,9 +61,12 @@ well-then P formula a b c first second =
       each = each-append P (fold log_after (log_start formula) a) first.more second.more first.each (subst Q behind second.each);
     }
 
+pub goes-weaker : (P Q : LogState → Step → Type 0) (formula : Cnf) (old new : List Step) → ((s : LogState) (step : Step) → P s step → Q s step) → GoesOnBy P formula old new → GoesOnBy Q formula old new
+goes-weaker P Q formula old new weaker g = record { more = g.more; follows = g.follows; each = each-weaker P Q (fold log_after (log_start formula) old) g.more weaker g.each }
+
 -- nothing is wrong with steps that are good by unit propagation alone
 pub well-by_propagation : (formula : Cnf) (old new : List Step) → GoesOnBy IsGood formula old new → GoesOnWell formula old new
-well-by_propagation formula old new g = record { more = g.more; follows = g.follows; each = each-weaker IsGood HasNoFault (fold log_after (log_start formula) old) g.more fault_of_good g.each }
+well-by_propagation formula old new g = goes-weaker IsGood HasNoFault formula old new fault_of_good g
 
 -- all steps are such where those before are
 pub each-then : (P : LogState → Step → Type 0) (formula : Cnf) (old new : List Step) → EachStep P (log_start formula) old → GoesOnBy P formula old new → EachStep P (log_start formula) new
@@ -77,8 +80,8 @@ grows-none formula steps = record { well = well-none IsGood formula steps; units
 pub grows-then : (formula : Cnf) (a b c : List Step) → Grows formula a b → Grows formula b c → Grows formula a c
 grows-then formula a b c first second = record { well = well-then IsGood formula a b c first.well second.well; units = well-then AddsUnit formula a b c first.units second.units; stays = λ id clause found. second.stays id clause (first.stays id clause found) }
 
--- one clause more, of at most one literal
-pub grows-one : (formula : Cnf) (old new : List Step) (id : ℕ) (lits : Clause) (hints : List ℤ) → new ≡ old ++ Add id lits hints ∷ [] → length lits ≤ 1 → GoesOnBy IsGood formula old new → KeepsLive formula old new → Grows formula old new
+-- one clause more, the empty clause or one of a literal
+pub grows-one : (formula : Cnf) (old new : List Step) (id : ℕ) (lits : Clause) (hints : List ℤ) → new ≡ old ++ Add id lits hints ∷ [] → AddsUnit (fold log_after (log_start formula) old) (Add id lits hints) → GoesOnBy IsGood formula old new → KeepsLive formula old new → Grows formula old new
 grows-one formula old new id lits hints follows short good keeps =
     let P : List Step → Type 0 = λ steps. AddsUnits formula old steps in
     record { well = good; units = subst P (sym follows) (well-one AddsUnit formula old (Add id lits hints) short); stays = keeps }
@@ -88,6 +91,27 @@ pub adds_between : (formula : Cnf) (old before added new : List Step) (lits : Cl
 adds_between formula old before added new lits first pushes second =
     let P : List Step → Type 0 = λ steps. AddsUnits formula steps new in
     record { before = before; id = pushes.id; hints = pushes.hints; units_before = first; units_behind = subst P pushes.follows second }
+
+-- ids that rise, with one more, or behind a deletion
+pub rising-push : (n : ℕ) (steps : List Step) (id : ℕ) (lits : Clause) (hints : List ℤ) → AreRising n steps → last_id n steps < id → AreRising n (steps ++ Add id lits hints ∷ [])
+rising-push n [] id lits hints rising lt = (lt, tt)
+rising-push n (Add id' lits' hints' ∷ steps) id lits hints rising lt = (rising.0, rising-push id' steps id lits hints rising.1 lt)
+rising-push n (Del ids ∷ steps) id lits hints rising lt = rising-push n steps id lits hints rising lt
+
+pub last-push : (n : ℕ) (steps : List Step) (id : ℕ) (lits : Clause) (hints : List ℤ) → last_id n (steps ++ Add id lits hints ∷ []) ≡ id
+last-push n [] id lits hints = refl
+last-push n (Add id' lits' hints' ∷ steps) id lits hints = last-push id' steps id lits hints
+last-push n (Del ids ∷ steps) id lits hints = last-push n steps id lits hints
+
+pub rising-deletion : (n : ℕ) (steps : List Step) (ids : List ℕ) → AreRising n steps → AreRising n (steps ++ Del ids ∷ [])
+rising-deletion n [] ids rising = tt
+rising-deletion n (Add id lits hints ∷ steps) ids rising = (rising.0, rising-deletion id steps ids rising.1)
+rising-deletion n (Del ids' ∷ steps) ids rising = rising-deletion n steps ids rising
+
+pub last-deletion : (n : ℕ) (steps : List Step) (ids : List ℕ) → last_id n (steps ++ Del ids ∷ []) ≡ last_id n steps
+last-deletion n [] ids = refl
+last-deletion n (Add id lits hints ∷ steps) ids = last-deletion id steps ids
+last-deletion n (Del ids' ∷ steps) ids = last-deletion n steps ids
 
 -- a clause that is found stays found where one comes behind
 find-kept : (live : Live) (id q : ℕ) (lits clause : Clause) → find_clause live q ≡ Some clause → find_clause (live ++ (id, lits) ∷ []) q ≡ Some clause
@@ -178,6 +202,8 @@ module _ (formula : Cnf) (steps : List Step) (store : StoreState) (last : ℕ) (
       record {
         no_tail = holds.no_tail;
         spelled = subst P (sym (live_after-push formula steps (Add (last + 1) lits hints))) (spells-push store.live (live_after formula steps) store.count (last + 1) lits holds.spelled);
+        rising = rising-push (length formula.clauses) steps (last + 1) lits hints holds.rising (omega (arith, holds.most));
+        most = omega (arith, last-push (length formula.clauses) steps (last + 1) lits hints);
         ids = λ clause inside. elim (Contains-push_cases store.live (record { number = store.count; id = last + 1; lits = set.from_list lits }) clause inside) [
           | inl old ↦ omega (arith, holds.ids clause old)
           | inr same ↦ omega (arith, ap (λ (c : LiveClause). c.id) same)

@@ -17,7 +17,7 @@ use Rattle.lls_store.proofs.Sets.{Contains-from_IsIn, IsIn-from_Contains}
 use Rattle.lls_lemmas.specs.Assumed.{CanBeFalse}
 use Rattle.lls_lemmas.specs.Behind.{GivesClause}
 use Rattle.lls_lemmas.specs.Lemmas.{is_tautology}
-use Rattle.lls_lemmas.specs.Pivot.{IsUnresolved, IsUntried, ResolvesBy}
+use Rattle.lls_lemmas.specs.Pivot.{IsUnresolved, ResolvesBy}
 use Rattle.lls_lemmas.proofs.Groups.{closes_before}
 use Rattle.lls_lemmas.proofs.Listing.{among-from_Contains}
 use Rattle.lls_lemmas.proofs.Opposed.{has_true-from, in_others, of_others, true_lit}
@@ -63,19 +63,6 @@ module _ (live : List LiveClause) (pivot : ℤ) (lits : List ℤ) (clause : Live
     lits_false = λ l there. f.is_open.all_false l (Contains-append_left lits (others (negation pivot) told) l there);
     others_false = λ l there other. f.is_open.all_false l (Contains-append_right lits (others (negation pivot) told) l (in_others (negation pivot) told l (Contains-from_IsIn told l (ap (λ (ls : Literals). set.contains ls l) is ∙ there)) other));
   }
-
-  -- a clause with a literal beside its negation isn't tried
-  pub untried : Contains live clause → IsIn clause.lits (negation pivot) → is_tautology told ≡ true → IsUntried live pivot
-  untried inside opposes both =
-      let t = true_lit told told both in
-      record {
-        clause = clause;
-        lit = t.lit;
-        is_live = inside;
-        opposes = opposes;
-        inside = ap (λ (ls : Literals). set.contains ls t.lit) (sym is) ∙ IsIn-from_Contains told t.lit t.inside;
-        beside = ap (λ (ls : Literals). set.contains ls (negation t.lit)) (sym is) ∙ IsIn-from_Contains told (negation t.lit) t.negated;
-      }
 
 -- neither has it
 pub no_tautology : (left_out : ℤ) (lits told : List ℤ) → is_tautology lits ≡ false → is_tautology told ≡ false → has_true lits (others left_out told) ≡ false → is_tautology (lits ++ others left_out told) ≡ false

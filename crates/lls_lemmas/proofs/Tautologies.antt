@@ -11,6 +11,8 @@ use Rattle.lls_lit.specs.Literal.{variable_of, negation}
 use Rattle.lls_lit.proofs.Flipped.{negation_twice}
 use Rattle.lls_prooflog.specs.UnitWalk.{is_among}
 use Rattle.lls_store.specs.Clauses.{Literals, IsIn}
+use Rattle.lls_store.proofs.Sets.{Contains-from_IsIn, IsIn-from_Contains}
+use Rattle.lls_lemmas.specs.Indexed.{IsPlain}
 use Rattle.lls_lemmas.specs.Lemmas.{is_tautology}
 use Rattle.lls_lemmas.proofs.Listing.{Contains-from_among, among-from_Contains, inserted, marked_more, Contains-take_more}
 use Rattle.lls_analyse.proofs.Gathering.{later, nothing_there}
@@ -30,7 +32,7 @@ none_beside lits none = over lits (λ l inside. inside) where
     by_test true is rest = absurd (none l (within l (0, omega arith, refl)) (Contains-from_among lits (negation l) is))
     by_test false is rest = rest
 
-unlike : (l : ℤ) → 1 ≤ variable_of l → negation l ≡ l → ⊥
+pub unlike : (l : ℤ) → 1 ≤ variable_of l → negation l ≡ l → ⊥
 unlike (pos zero) low same = omega (arith, low)
 unlike (pos (suc n)) low same = cc
 unlike (negsuc n) low same = cc
@@ -87,3 +89,22 @@ pub none_apart : (lits : List ℤ) (k : ℕ) (marked : Literals) → length lits
 none_apart lits k marked all h =
     let P : List ℤ → Type 0 = λ ys. (l : ℤ) → Contains ys l → Contains ys (negation l) → ⊥ in
     none_beside lits (subst P (take_all k lits all) h.apart)
+
+-- a clause of the literals of a set in which none stands beside its negation
+pub plain_told : (lits : List ℤ) (told : Literals) → set.from_list lits ≡ told → IsPlain told → is_tautology lits ≡ false
+plain_told lits told same plain = none_beside lits (λ l inside negated. plain l (there l inside) (there (negation l) negated)) where
+  there : (l : ℤ) → Contains lits l → IsIn told l
+  there l inside = ap (λ (ls : Literals). set.contains ls l) (sym same) ∙ IsIn-from_Contains lits l inside
+
+-- and a set of the literals of a clause
+pub plain_set : (lits : List ℤ) (told : Literals) → set.from_list lits ≡ told → is_tautology lits ≡ false → IsPlain told
+plain_set lits told same none l inside negated = let clash : false ≡ true = sym none ∙ both_there lits l (there l inside) (there (negation l) negated) in absurd cc where
+  there : (m : ℤ) → IsIn told m → Contains lits m
+  there m is = Contains-from_IsIn lits m (ap (λ (ls : Literals). set.contains ls m) same ∙ is)
+
+-- literals in any order have it or not
+pub same_tautology : (a b : List ℤ) → set.from_list {R = int_cmp} a ≡ set.from_list b → is_tautology a ≡ true → is_tautology b ≡ true
+same_tautology a b same is = elim (is_tautology b) as (λ x. is_tautology b ≡ x → x ≡ true) [
+  | true ↦ λ _. refl
+  | false ↦ λ none. (let clash : false ≡ true = sym (plain_told a (set.from_list b) same (plain_set b (set.from_list b) refl none)) ∙ is in absurd cc)
+] refl

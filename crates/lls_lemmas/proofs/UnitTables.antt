@@ -10,18 +10,18 @@ use Rattle.std.proofs.lemmas.Grind.{get_or-set_at}
 use Rattle.std.proofs.lemmas.Option.{same_Some, slice_get_within, slice_get-get_or}
 use Rattle.lls_lit.specs.Literal.{variable_of}
 use Rattle.lls_store.specs.Trail.{Entry, TrailState, has, Has, HasNegated, IsTrail, literals_of, reason_of}
-use Rattle.lls_store.specs.Clauses.{LiveClause, Literals, clause_numbered}
+use Rattle.lls_store.specs.Clauses.{LiveClause, clause_numbered}
 use Rattle.lls_store.specs.Closed.{IsSettled}
 use Rattle.lls_store.specs.Closed.IsSettled.{satisfied}
 use Rattle.lls_store.specs.Sound.{IsForced, IsSound}
 use Rattle.lls_store.specs.Store.{StoreState, with_clause}
-use Rattle.lls_store.proofs.Sets.{Contains-from_IsIn, IsIn-from_Contains}
+use Rattle.lls_store.proofs.Sets.{IsIn-from_Contains}
 use Rattle.lls_store.proofs.SoundChanges.{IsSound-push, clause_numbered-push}
-use Rattle.lls_analyse.proofs.Gathering.{first_or_later, nothing_there}
-use Rattle.lls_analyse.proofs.LiveClauses.{IsTold, numbered}
+use Rattle.lls_analyse.proofs.LiveClauses.{numbered}
 use Rattle.lls_analyse.proofs.Trails.{has_here, none_decided}
 use Rattle.lls_lemmas.specs.Behind.{GivesClause}
 use Rattle.lls_lemmas.specs.Closing.{DecidesFor, GivesEach}
+use Rattle.lls_lemmas.specs.Finding.{HasLiterals}
 use Rattle.lls_lemmas.specs.Units.{HasUnits, IsUnit, StoreGrows, unit_of}
 use Rattle.lls_lemmas.proofs.Reading.{IsRead, is_read, forced_at}
 
@@ -65,24 +65,16 @@ gives_unit live t k number l hints kept level f gives =
           ] refl;
     })
 
-one_literal : (lits : List ℤ) (l : ℤ) → length lits ≡ 1 → Contains lits l → lits ≡ l ∷ []
-one_literal [] l one inside = absurd (nothing_there l inside)
-one_literal (x ∷ []) l one inside = elim (first_or_later x [] l inside) [ inl same ↦ ap (λ m. m ∷ []) same | inr there ↦ absurd (nothing_there l there) ]
-one_literal (x ∷ (y ∷ ys)) l one inside = absurd (omega (arith, one))
-
--- a reason of one literal is a unit clause
-pub unit_single : (store : StoreState) (t : TrailState) (k number id : ℕ) (l : ℤ) (lits : List ℤ) → IsRead t k l → IsForced store.live (take k t.entries) l number → IsTold store number lits → length lits ≡ 1 → IfSome (clause_numbered store.live number) (λ clause. id ≡ clause.id) → IsUnit store.live t.entries (variable_of l) id
-unit_single store t k number id l lits r f told one is_id =
-    let same : told.clause ≡ f.clause = same_Some told.clause f.clause (sym told.is_live ∙ f.is_live) in
-    let spelled : set.from_list lits ≡ f.clause.lits = told.spelled ∙ ap (λ (c : LiveClause). c.lits) same in
-    let inside = Contains-from_IsIn lits l (ap (λ (ls : Literals). set.contains ls l) spelled ∙ f.stands) in
+-- a live clause of a literal alone is a unit clause
+pub unit_found : (store : StoreState) (t : TrailState) (k number id : ℕ) (l : ℤ) → IsRead t k l → (h : HasLiterals store.live number (l ∷ [])) → IfSome (clause_numbered store.live number) (λ clause. id ≡ clause.id) → IsUnit store.live t.entries (variable_of l) id
+unit_found store t k number id l r h is_id =
     let P : Option LiveClause → Type 0 = λ o. IfSome o (λ (clause : LiveClause). id ≡ clause.id) in
     record {
-      clause = f.clause;
+      clause = h.clause;
       lit = l;
-      is_live = (numbered store.live number f.clause f.is_live).contains;
-      same_id = sym (subst P f.is_live is_id);
-      single = sym spelled ∙ ap (λ (ls : List ℤ). set.from_list ls) (one_literal lits l one inside);
+      is_live = (numbered store.live number h.clause h.is_live).contains;
+      same_id = sym (subst P h.is_live is_id);
+      single = sym h.same;
       is_true = ap (has t.entries) (sym r.same) ∙ has_here t.entries k r.entry r.at;
       of_variable = refl;
     }

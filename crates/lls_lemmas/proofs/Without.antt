@@ -1,5 +1,5 @@
 -- A store and a log from which a clause was taken out.
-use Rattle.std.proofs.Common.{◌≡◌, ◌≢◌, ℕ, suc, ◌-◌, ◌<◌, Bool, true, false, not, ◌||◌, cond, List, [], ◌∷◌, ◌++◌, get_or, Option, Some, None, refl, sym, ap, subst, ◌∙◌, inl, inr, arith}
+use Rattle.std.proofs.Common.{◌≡◌, ◌≢◌, ℕ, suc, ◌-◌, ◌<◌, Bool, true, false, not, ◌||◌, cond, List, [], ◌∷◌, ◌++◌, length, get_or, Option, Some, None, refl, sym, ap, subst, ◌∙◌, inl, inr, arith}
 use Rattle.std.specs.Prelude.{ℤ, ◌⊎◌, ◌==◌, AllPairs, Contains, option_and_then, slice_index_or}
 use Rattle.std.specs.Ordering.{int_cmp}
 use Rattle.std.specs.FinSet as set
@@ -30,7 +30,7 @@ use Rattle.lls_lemmas.specs.Finding.{IsFree}
 use Rattle.lls_lemmas.specs.Lemmas.{DeletesOne}
 use Rattle.lls_lemmas.specs.Units.{AreUnits, HasSettled, IsAtRest, unit_of}
 use Rattle.lls_lemmas.proofs.Kept.{kept_push}
-use Rattle.lls_lemmas.proofs.Logs.{live_after-push}
+use Rattle.lls_lemmas.proofs.Logs.{last-deletion, live_after-push, rising-deletion}
 use Rattle.lls_lemmas.proofs.Reading.{forced_at}
 
 -- sets of the same literals are the same
@@ -91,7 +91,7 @@ spells_kept number id (c ∷ cs) (p ∷ ps) spells each =
       by_test false true same rest = absurd cc
       by_test false false same rest = (spells.0, (spells.1.0, rest))
 
-in_all_but : (live : List LiveClause) (number : ℕ) (c : LiveClause) → Contains live c → c.number ≢ number → Contains (all_but live number) c
+pub in_all_but : (live : List LiveClause) (number : ℕ) (c : LiveClause) → Contains live c → c.number ≢ number → Contains (all_but live number) c
 in_all_but [] number c inside other = absurd (nothing_there c inside)
 in_all_but (x ∷ xs) number c inside other = by_test (x.number == number) refl (first_or_later x xs c inside) (λ there. in_all_but xs number c there other) where
   by_test : (b : Bool) → (x.number == number) ≡ b → (x ≡ c) ⊎ Contains xs c → (Contains xs c → Contains (all_but xs number) c) → Contains (cond (not b) (x ∷ all_but xs number) (all_but xs number)) c
@@ -100,7 +100,7 @@ in_all_but (x ∷ xs) number c inside other = by_test (x.number == number) refl 
   by_test false is (inl same) rest = (0, omega arith, same)
   by_test false is (inr there) rest = later x (all_but xs number) c (rest there)
 
-of_all_but : (live : List LiveClause) (number : ℕ) (c : LiveClause) → Contains (all_but live number) c → Contains live c
+pub of_all_but : (live : List LiveClause) (number : ℕ) (c : LiveClause) → Contains (all_but live number) c → Contains live c
 of_all_but [] number c inside = inside
 of_all_but (x ∷ xs) number c inside = by_test (x.number == number) inside (of_all_but xs number c) where
   by_test : (b : Bool) → Contains (cond (not b) (x ∷ all_but xs number) (all_but xs number)) c → (Contains (all_but xs number) c → Contains xs c) → Contains (x ∷ xs) c
@@ -122,6 +122,8 @@ module _ (formula : Cnf) (steps : List Step) (store : StoreState) (trail : Trail
           no_tail = rest.holds.no_tail;
           spelled = without_spells;
           ids = λ c inside. rest.holds.ids c (of_all_but store.live number c inside);
+          rising = rising-deletion (length formula.clauses) steps (clause.id ∷ []) rest.holds.rising;
+          most = omega (arith, last-deletion (length formula.clauses) steps (clause.id ∷ []), rest.holds.most);
           kept = kept_push formula steps store last (Del (clause.id ∷ [])) rest.holds live refl refl;
         };
         has_units = record {

@@ -1,5 +1,5 @@
 -- For private contracts: a store and a log that agree.
-use Rattle.std.specs.Prelude.{◌≡◌, ◌≤◌, ℕ, ℤ, true, List, [], ◌∷◌, ◌++◌, None, Some}
+use Rattle.std.specs.Prelude.{◌≡◌, ◌≤◌, ℕ, ℤ, true, List, [], ◌∷◌, ◌++◌, length, None, Some}
 use Rattle.std.specs.List.{Contains}
 use Rattle.lls_lit.specs.Formula.{Clause, Cnf}
 use Rattle.lls_prooflog.specs.UnitWalk.{Live, find_clause, is_among, unit_walk}
@@ -10,14 +10,16 @@ use Rattle.lls_prooflog.specs.declared.step.Step.TheVariants.{Add}
 use Rattle.lls_store.specs.Clauses.{LiveClause}
 use Rattle.lls_store.specs.Store.{StoreState}
 use Rattle.lls_analyse.specs.Spelled.{Spells}
-use Rattle.lls_lemmas.specs.Lemmas.{AddsUnits, GoesOnBy}
+use Rattle.lls_lemmas.specs.Lemmas.{AddsUnits, AreRising, GoesOnBy, last_id}
 
--- the store's clauses are those that are live behind the steps, no id is above the last that was given, and the clauses stay satisfiable
--- where the formula is
+-- the store's clauses are those that are live behind the steps, no id is above the last that was given, of which each is greater than those
+-- before it, and the clauses stay satisfiable where the formula is
 pub record HoldsLive (formula : Cnf) (steps : List Step) (store : StoreState) (last : ℕ) : Type 0 where
   pub no_tail : store.tail ≡ []
   pub spelled : Spells store.live (live_after formula steps)
   pub ids : (clause : LiveClause) → Contains store.live clause → clause.id ≤ last
+  pub rising : AreRising (length formula.clauses) steps
+  pub most : last_id (length formula.clauses) steps ≤ last
   pub kept : KeepsSatisfiable formula (live_after formula steps)
 
 -- the hints lead to the clause, however the store's clauses are spelled, and where at least its literals are taken as false

@@ -1,11 +1,11 @@
 -- What an engine of lemmas is seen as, and what a lemma or a deletion makes of it.
-use Rattle.std.specs.Prelude.{◌≡◌, ◌≤◌, ℕ, ℤ, Bool, true, List, [], ◌∷◌, ◌++◌, length, Contains, Some, None, fold, slice_get}
+use Rattle.std.specs.Prelude.{◌≡◌, ◌≢◌, ◌<◌, ℕ, ℤ, Bool, true, false, List, [], ◌∷◌, ◌++◌, Contains, Some, None, fold}
 use Rattle.std.specs.List.{list_any}
 use Rattle.std.specs.FinSet as set
 use Rattle.std.specs.Ordering.{int_cmp}
 use Rattle.lls_lit.specs.Literal.{negation}
 use Rattle.lls_lit.specs.Formula.{Clause, Cnf}
-use Rattle.lls_prooflog.specs.UnitWalk.{find_clause, is_among, unit_walk}
+use Rattle.lls_prooflog.specs.UnitWalk.{Live, find_clause, is_among, unit_walk}
 use Rattle.lls_prooflog.specs.Steps.{fault_of}
 use Rattle.lls_prooflog.specs.Spent.{LogState, EachStep, log_start, log_after, live_after}
 use Rattle.lls_prooflog.specs.declared.step.Step.{Step}
@@ -39,9 +39,15 @@ pub record GoesOnBy (IsSuch : LogState → Step → Type 0) (formula : Cnf) (old
 abbrev pub GoesOnWell : Cnf → List Step → List Step → Type 0
 GoesOnWell formula old new = GoesOnBy HasNoFault formula old new
 
--- a step adds a clause of one literal or the empty clause
+-- no clause of this literal alone is live
+abbrev pub LacksUnit : Live → ℤ → Type 0
+LacksUnit live l = (id : ℕ) (clause : Clause) → find_clause live id ≡ Some clause → set.from_list {R = int_cmp} clause ≢ set.from_list (l ∷ [])
+
+-- a step adds the empty clause, or a clause of one literal of which none was live
 abbrev pub AddsUnit : LogState → Step → Type 0
-AddsUnit state (Add id lits hints) = length lits ≤ 1
+AddsUnit state (Add id [] hints) = Unit {0}
+AddsUnit state (Add id (l ∷ []) hints) = LacksUnit state.live l
+AddsUnit state (Add id (l ∷ (m ∷ lits)) hints) = ⊥
 AddsUnit state (Del ids) = ⊥
 
 -- a log goes on by nothing else
@@ -61,9 +67,37 @@ pub record IsLive (formula : Cnf) (steps : List Step) (lits : Clause) : Type 0 w
   pub id : ℕ
   pub found : find_clause (live_after formula steps) id ≡ Some lits
 
+-- a step takes a live clause out in which a literal stands beside its negation
+abbrev pub DropsTautology : LogState → Step → Type 0
+DropsTautology state (Del (id ∷ [])) = (clause : Clause) × (find_clause state.live id ≡ Some clause) × (is_tautology clause ≡ true)
+DropsTautology state step = ⊥
+
+-- how a log begins: it takes out clauses of the formula that hold for any values, and goes on by clauses of one literal or the empty clause
+pub record Begins (formula : Cnf) (steps : List Step) : Type 0 where
+  pub before : List Step
+  pub drops : GoesOnBy DropsTautology formula [] before
+  pub units : AddsUnits formula before steps
+
 -- what is live behind some steps is live behind others
 abbrev pub KeepsLive : Cnf → List Step → List Step → Type 0
 KeepsLive formula old new = (id : ℕ) (clause : Clause) → find_clause (live_after formula old) id ≡ Some clause → find_clause (live_after formula new) id ≡ Some clause
+
+-- so is each clause in which no literal stands beside its negation
+abbrev pub KeepsPlain : Cnf → List Step → List Step → Type 0
+KeepsPlain formula old new =
+    (id : ℕ) (clause : Clause) → find_clause (live_after formula old) id ≡ Some clause → is_tautology clause ≡ false → find_clause (live_after formula new) id ≡ Some clause
+
+-- the id of the last addition, or the one before them
+abbrev pub last_id : ℕ → List Step → ℕ
+last_id last [] = last
+last_id last (Add id lits hints ∷ steps) = last_id id steps
+last_id last (Del ids ∷ steps) = last_id last steps
+
+-- each addition has a greater id than those before it
+abbrev pub AreRising : ℕ → List Step → Type 0
+AreRising last [] = Unit {0}
+AreRising last (Add id lits hints ∷ steps) = (last < id) × AreRising id steps
+AreRising last (Del ids ∷ steps) = AreRising last steps
 
 -- the last step adds the empty clause
 pub record EndsEmpty (steps : List Step) : Type 0 where
@@ -79,16 +113,6 @@ IsNotImplied formula steps lits = (hints : List ℤ) → unit_walk (live_after f
 -- no addition of the clause is without fault behind the steps
 abbrev pub IsNotAddable : Cnf → List Step → Clause → Type 0
 IsNotAddable formula steps lits = (id : ℕ) (hints : List ℤ) → fault_of (live_after formula steps) (Add id lits hints) ≡ None → ⊥
-
--- a live clause holds the negation of the clause's first literal, and has a literal beside its own negation
-pub record MeetsTautology (formula : Cnf) (steps : List Step) (lits : Clause) : Type 0 where
-  pub pivot : ℤ
-  pub first : slice_get lits 0 ≡ Some pivot
-  pub id : ℕ
-  pub clause : Clause
-  pub found : find_clause (live_after formula steps) id ≡ Some clause
-  pub opposes : is_among clause (negation pivot) ≡ true
-  pub tautology : is_tautology clause ≡ true
 
 -- a clause of just these literals is live behind the steps, in any order and with repetitions
 pub record HasClause (formula : Cnf) (steps : List Step) (lits : Clause) : Type 0 where

@@ -6,3 +6,4 @@ pub mod Assumed
 pub mod Pivot
 pub mod Engine
 pub mod Finding
+pub mod Indexed

@@ -1,5 +1,5 @@
 -- For private contracts: a lemma that is tried by its pivot, against each live clause that holds the pivot's negation.
-use Rattle.std.specs.Prelude.{◌≡◌, ◌≢◌, ◌⊎◌, ◌<◌, ◌++◌, ℕ, ℤ, true, List, Option, Some, None, Contains, ◌==◌}
+use Rattle.std.specs.Prelude.{◌≡◌, ◌≢◌, ◌++◌, ℕ, ℤ, true, List, Option, Some, None, Contains, ◌==◌}
 use Rattle.std.specs.List.{list_any}
 use Rattle.std.specs.FinSet as set
 use Rattle.lls_lit.specs.Literal.{negation}
@@ -24,12 +24,12 @@ ResolvesBy live pivot lits clause hints =
     → set.from_list spelled ≡ clause.lits
     → resolvent_fault pairs lits (others (negation pivot) spelled) (hints ++ more) ≡ None
 
--- groups of hints for the clauses below a number: nothing stands before them, nothing is wrong with them, and they leave out no clause that
+-- groups of hints for the clauses of these numbers: nothing stands before them, nothing is wrong with them, and they leave out no clause that
 -- holds the pivot's negation, whatever stands behind them
-pub record AreGroups (live : List LiveClause) (pivot : ℤ) (lits : List ℤ) (below : ℕ) (hints : List ℤ) : Type 0 where
+pub record AreGroups (live : List LiveClause) (pivot : ℤ) (lits : List ℤ) (tried : List ℕ) (hints : List ℤ) : Type 0 where
   pub front : (pairs : Live) (at_end : List ℤ → Option StepFault) (more : List ℤ) → walk_on pairs at_end lits more ≡ at_end lits → walk_on pairs at_end lits (hints ++ more) ≡ at_end lits
   pub good : (pairs : Live) (more : List ℤ) → Spells live pairs → groups_fault pairs pivot lits (groups_of more) ≡ None → groups_fault pairs pivot lits (groups_of (hints ++ more)) ≡ None
-  pub covers : (c : LiveClause) (more : List ℤ) → Contains live c → c.number < below → IsIn c.lits (negation pivot) → list_any (λ group. group.id == c.id) (groups_of (hints ++ more)) ≡ true
+  pub covers : (c : LiveClause) (more : List ℤ) → Contains live c → Contains tried c.number → IsIn c.lits (negation pivot) → list_any (λ group. group.id == c.id) (groups_of (hints ++ more)) ≡ true
 
 -- the live clause of that number has the literal
 pub record HoldsLit (live : List LiveClause) (number : ℕ) (l : ℤ) : Type 0 where
@@ -47,16 +47,3 @@ pub record IsUnresolved (live : List LiveClause) (pivot : ℤ) (lits : List ℤ)
   pub closed : IsClosed live trail
   pub lits_false : (l : ℤ) → Contains lits l → HasNegated trail.entries l
   pub others_false : (l : ℤ) → IsIn clause.lits l → l ≢ negation pivot → HasNegated trail.entries l
-
--- a live clause holds the pivot's negation, and some literal beside the literal's own negation
-pub record IsUntried (live : List LiveClause) (pivot : ℤ) : Type 0 where
-  pub clause : LiveClause
-  pub lit : ℤ
-  pub is_live : Contains live clause
-  pub opposes : IsIn clause.lits (negation pivot)
-  pub inside : IsIn clause.lits lit
-  pub beside : IsIn clause.lits (negation lit)
-
--- what keeps a lemma from being added by its pivot
-abbrev pub IsOpposed : List LiveClause → ℤ → List ℤ → Type 0
-IsOpposed live pivot lits = IsUnresolved live pivot lits ⊎ IsUntried live pivot

@@ -1,9 +1,10 @@
 // A clause that is taken out.
-ghost use Rattle.std.specs.Prelude.{◌≡◌, ◌≢◌, ◌⊎◌, true, false, length, Some, IsSome, OnErr, OnOk};
+ghost use Rattle.std.specs.Prelude.{◌≡◌, ◌≢◌, ◌⊎◌, ℤ, List, true, false, length, Some, IsSome, OnErr, OnOk};
 ghost use Rattle.lls_lit.specs.Literal.{variable_of};
 ghost use Rattle.lls_lit.specs.Formula.{is_literal_of};
 ghost use Rattle.lls_store.specs.Trail.{IsTrail, reason_of};
 ghost use Rattle.lls_store.specs.Clauses.{clause_numbered};
+ghost use Rattle.lls_store.specs.Removal.{without_clause};
 ghost use Rattle.lls_store.specs.Sound.{IsSound};
 ghost use Rattle.lls_store.specs.Store.{AreLive};
 ghost use Rattle.lls_lemmas.specs.Finding.{HasLiterals, IsFree, IsNeeded};
@@ -67,14 +68,15 @@ pub(crate) fn delete_clause<S: Store>(
     units: &[Option<u64>],
     done: usize,
     number: u32,
-    lits: &[Lit],
 ) -> Result<(), Memory>
     requires rest { IsAtRest formula.now log.old.steps (S.state store.old) trail.now units.now done last }
     requires tracked { S.tracks store.old trail.now }
     requires live { AreLive (S.state store.old) }
-    requires has { HasLiterals (S.state store.old).live number lits.now }
+    requires is_live { IsSome (clause_numbered (S.state store.old).live number) }
     requires free { IsFree (S.state store.old).live trail.now.entries units.now number }
-    ensures deletes { OnOk result (DeletesOne formula.now log.old.steps log.new.steps lits.now) }
+    ensures deletes { OnOk result ((lits : List ℤ) → HasLiterals (S.state store.old).live number lits → DeletesOne formula.now log.old.steps log.new.steps lits) }
+    ensures state { OnOk result (S.state store.new ≡ without_clause (S.state store.old) number) }
+    ensures err_state { OnErr result (S.state store.new ≡ S.state store.old) }
     ensures err { OnErr result (log.new.steps ≡ log.old.steps) }
     ensures rest { IsAtRest formula.now log.new.steps (S.state store.new) trail.now units.now done last }
     ensures settled { HasSettled (S.state store.old) trail.now done → HasSettled (S.state store.new) trail.now done }

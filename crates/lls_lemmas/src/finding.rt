@@ -5,6 +5,7 @@ ghost use Rattle.std.specs.Ordering.{int_cmp};
 ghost use Rattle.lls_lit.specs.Formula.{is_within};
 ghost use Rattle.lls_store.specs.Clauses.{IsIn};
 ghost use Rattle.lls_lemmas.specs.Finding.{HasLiterals};
+ghost use Rattle.lls_lemmas.specs.Indexed.{mixed, set_hash, Indexes};
 
 use crate::index::Index;
 use lls_lit::{Lit, Marks};
@@ -13,21 +14,29 @@ use lls_store::Store;
 // By what a literal's place is multiplied in the hash of a clause: 2^64 by the golden ratio.
 const FACTOR: u64 = 11_400_714_819_323_198_485;
 
+// The bits that stand for a literal.
+fn mixed(lit: Lit) -> u64
+    ensures { result ≡ mixed lit }
+{
+    let product = (lit.index() as u64 + 1).wrapping_mul(FACTOR);
+    product ^ (product >> 29)
+}
+
 /// The hash of a set of literals: it depends on no order, and counts no literal twice. What is marked is lost.
 pub(crate) fn hash_of(marks: &mut Marks, lits: &[Lit]) -> u32
     requires { is_within marks.old.vars lits.now ≡ true }
+    ensures hash { result ≡ set_hash marks.old.vars (set.from_list lits.now) }
     ensures vars { marks.new.vars ≡ marks.old.vars }
 {
     marks.clear();
-    let mut hash: u64 = 0;
+    let mut sum: u64 = 0;
     for lit in lits {
         if !marks.has(*lit) {
             marks.put(*lit);
-            let mixed = (lit.index() as u64 + 1).wrapping_mul(FACTOR);
-            hash = hash.wrapping_add(mixed ^ (mixed >> 29));
+            sum = sum.wrapping_add(mixed(*lit));
         }
     }
-    (hash >> 32) as u32
+    (sum >> 32) as u32
 }
 
 /// Marks literals, where none was marked.
@@ -90,54 +99,7 @@ fn has_literals<S: Store>(store: &S, marks: &mut Marks, number: u32, lits: &[Lit
     are_same(marks, lits, store.lits(number))
 }
 
-// The number of such a clause among those that are known under the hash: of several the newest.
-fn find_known<S: Store>(
-    store: &S,
-    marks: &mut Marks,
-    index: &Index,
-    hash: u32,
-    lits: &[Lit],
-) -> Option<u32>
-    requires vars { (S.state store.now).vars ≡ marks.old.vars }
-    requires within { is_within marks.old.vars lits.now ≡ true }
-    ensures has { IfSome result (λ number. HasLiterals (S.state store.now).live number lits.now) }
-    ensures vars { marks.new.vars ≡ marks.old.vars }
-{
-    let mut left = index.entries.len();
-    let mut at = index.newest(hash);
-    while let Some(place) = at {
-        let place = place as usize;
-        if place >= left {
-            return None;
-        }
-        left = place;
-        let entry = index.entries[place];
-        if has_literals(store, marks, entry.number, lits) {
-            return Some(entry.number);
-        }
-        at = entry.before;
-    }
-    None
-}
-
-// The number of such a clause among all.
-fn find_anywhere<S: Store>(store: &S, marks: &mut Marks, lits: &[Lit]) -> Option<u32>
-    requires vars { (S.state store.now).vars ≡ marks.old.vars }
-    requires within { is_within marks.old.vars lits.now ≡ true }
-    ensures has { IfSome result (λ number. HasLiterals (S.state store.now).live number lits.now) }
-    ensures none { IfNone result ((number : ℕ) → HasLiterals (S.state store.now).live number lits.now → ⊥) }
-    ensures vars { marks.new.vars ≡ marks.old.vars }
-{
-    for number in 0..store.count() {
-        if has_literals(store, marks, number, lits) {
-            return Some(number);
-        }
-    }
-    None
-}
-
-/// The number of a live clause of just these literals: of several that are known under the hash the newest. Where none is known,
-/// which a proof seldom asks for, all clauses are looked at.
+/// The number of a live clause of just these literals: of several the newest.
 pub(crate) fn find<S: Store>(
     store: &S,
     marks: &mut Marks,
@@ -147,12 +109,19 @@ pub(crate) fn find<S: Store>(
 ) -> Option<u32>
     requires vars { (S.state store.now).vars ≡ marks.old.vars }
     requires within { is_within marks.old.vars lits.now ≡ true }
+    requires hash { hash ≡ set_hash marks.old.vars (set.from_list lits.now) }
+    requires indexes { Indexes marks.old.vars index.now (S.state store.now).live }
     ensures has { IfSome result (λ number. HasLiterals (S.state store.now).live number lits.now) }
     ensures none { IfNone result ((number : ℕ) → HasLiterals (S.state store.now).live number lits.now → ⊥) }
     ensures vars { marks.new.vars ≡ marks.old.vars }
 {
-    match find_known(store, marks, index, hash, lits) {
-        Some(number) => Some(number),
-        None => find_anywhere(store, marks, lits),
+    let mut at = index.newest(hash);
+    while let Some(place) = at {
+        let entry = index.entries[place as usize];
+        if has_literals(store, marks, entry.number, lits) {
+            return Some(entry.number);
+        }
+        at = entry.before;
     }
+    None
 }

@@ -1,18 +1,18 @@
 // An engine of lemmas.
-ghost use Rattle.std.specs.Prelude.{◌≡◌, ◌≢◌, ◌⊎◌, ◌≤◌, [], true, false, Ok, IfOk, OnErr, OnOk};
+ghost use Rattle.std.specs.Prelude.{◌≡◌, ◌≢◌, ◌⊎◌, ◌≤◌, [], true, false, length, Ok, IfOk, OnErr, OnOk};
 ghost use Rattle.lls_lit.specs.Formula.{is_within, IsUnsatisfiable};
 ghost use Rattle.lls_prooflog.specs.Spent.{EachStep, IsGood, log_start};
 ghost use Rattle.lls_store.specs.Changes.{empty_trail};
 ghost use Rattle.lls_store.specs.Store.{empty_store};
 ghost use Rattle.lls_lemmas.specs.Behind.{PushesLemma};
-ghost use Rattle.lls_lemmas.specs.Lemmas.{is_tautology, AddsLemma, AddsUnits, DeletesOne, EndsEmpty, GoesOnWell, HasClause, HasNoFault, HoldsForGood, IsLive, IsNotAddable, IsNotImplied, KeepsLive, MeetsTautology};
+ghost use Rattle.lls_lemmas.specs.Lemmas.{is_tautology, AddsLemma, AddsUnits, AreRising, Begins, DeletesOne, EndsEmpty, GoesOnWell, HasClause, HasNoFault, HoldsForGood, IsLive, IsNotAddable, IsNotImplied, KeepsLive, KeepsPlain};
 
 use crate::answers::{Added, Deleted};
 use crate::deleting::{delete_clause, is_needed};
 use crate::finding::{find, hash_of};
 use crate::gathering::Gathering;
 use crate::index::Index;
-use crate::loading::{index_clauses, load};
+use crate::loading::{drop_tautologies, index_live, load};
 use crate::logging::push_step;
 use crate::resolving::{Resolving, try_pivot};
 use crate::settling::{Settled, settle};
@@ -55,11 +55,12 @@ impl<'f, S: Store> Model for Lemmas<'f, S> {
     ghost view = { λ e. record { formula = e.formula.now; vars = e.trail.vars; steps = e.log.steps; has_redundant = e.has_redundant; settled = e.settled; refuted = e.refuted } };
 
     ghost invariant = { λ e. S.tracks e.store e.trail
-        × IsEngine e.formula.now e.log.steps (S.state e.store) e.trail e.units.ids.items e.units.done e.last e.has_redundant e.settled e.refuted e.gathering.marks.vars };
+        × IsEngine e.formula.now e.log.steps (S.state e.store) e.trail e.units.ids.items e.index e.units.done e.last e.has_redundant e.settled e.refuted e.gathering.marks.vars };
 }
 
 impl<'f, S: Store + Drop> Lemmas<'f, S> {
-    /// The clauses of a formula, under the ids from 1. Lemmas may have variables up to `vars`, beyond the formula's too.
+    /// The clauses of a formula, under the ids from 1, but those that hold for any values, which are deleted first. Lemmas may have
+    /// variables up to `vars`, beyond the formula's too.
     pub fn new(
         alloc: Global,
         mut store: S,
@@ -73,8 +74,8 @@ impl<'f, S: Store + Drop> Lemmas<'f, S> {
         ensures formula { IfOk result (λ lemmas. lemmas.formula ≡ formula.now) }
         ensures vars { IfOk result (λ lemmas. lemmas.vars ≡ vars) }
         ensures well { IfOk result (λ lemmas. GoesOnWell formula.now [] lemmas.steps) }
-        ensures keeps { IfOk result (λ lemmas. KeepsLive formula.now [] lemmas.steps) }
-        ensures units { IfOk result (λ lemmas. AddsUnits formula.now [] lemmas.steps) }
+        ensures keeps { IfOk result (λ lemmas. KeepsPlain formula.now [] lemmas.steps) }
+        ensures begins { IfOk result (λ lemmas. Begins formula.now lemmas.steps) }
         ensures none_redundant { IfOk result (λ lemmas. lemmas.has_redundant ≡ false) }
         ensures settled { IfOk result (λ lemmas. (lemmas.refuted ≡ true) ⊎ (lemmas.settled ≡ true)) }
     {
@@ -82,17 +83,27 @@ impl<'f, S: Store + Drop> Lemmas<'f, S> {
         load(&mut store, &trail, formula)?;
         let units = Units::new(alloc, vars)?;
         let mut marks = Marks::new(alloc, vars)?;
-        let mut index = Index::new(alloc);
-        index_clauses(&mut index, &mut marks, formula)?;
+        let mut log = Log::new(alloc);
+        let last = formula.len() as u64;
         // What holds of every trail is known from here on.
         let _len = trail.len();
-        let log = Log::new(alloc);
+        drop_tautologies(
+            formula,
+            &mut store,
+            &trail,
+            &mut log,
+            last,
+            units.ids.as_slice(),
+            &mut marks,
+        )?;
+        let mut index = Index::new(alloc);
+        index_live(&store, &mut index, &mut marks)?;
         let mut lemmas = Lemmas {
             formula,
             store,
             trail,
             log,
-            last: formula.len() as u64,
+            last,
             units,
             gathering: Gathering {
                 marks,
@@ -118,6 +129,7 @@ impl<'f, S: Store + Drop> Lemmas<'f, S> {
         ensures steps { result.steps ≡ self.entry.steps }
         ensures well { EachStep HasNoFault (log_start self.entry.formula) result.steps }
         ensures good { self.entry.has_redundant ≡ false → EachStep IsGood (log_start self.entry.formula) result.steps }
+        ensures rising { AreRising (length self.entry.formula.clauses) result.steps }
     {
         let Lemmas { log, .. } = self;
         log
@@ -145,7 +157,7 @@ impl<'f, S: Store> Lemmas<'f, S> {
         ensures unsatisfiable { result ≡ Ok Added.Refuted → IsUnsatisfiable self.old.formula }
         ensures tautology { result ≡ Ok Added.Tautology → (is_tautology lits.now ≡ true) × (self.new ≡ self.old) }
         ensures not_implied { result ≡ Ok Added.NotImplied → IsNotImplied self.old.formula self.new.steps lits.now }
-        ensures not_addable { result ≡ Ok Added.NotImplied → IsNotAddable self.old.formula self.new.steps lits.now ⊎ MeetsTautology self.old.formula self.new.steps lits.now }
+        ensures not_addable { result ≡ Ok Added.NotImplied → IsNotAddable self.old.formula self.new.steps lits.now }
         ensures stays { result ≡ Ok Added.NotImplied → self.old.settled ≡ true → self.new ≡ self.old }
         ensures ended { result ≡ Ok Added.Refuted → self.new.refuted ≡ true }
         ensures going { result ≡ Ok Added.Implied → self.new.refuted ≡ false }
@@ -220,8 +232,8 @@ impl<'f, S: Store> Lemmas<'f, S> {
             units,
             self.units.done,
             number,
-            lits,
         )?;
+        self.index.take(hash, number);
         Ok(Deleted::Gone)
     }
 
@@ -286,6 +298,7 @@ impl<'f, S: Store> Lemmas<'f, S> {
             &mut self.last,
             &mut self.units,
             &mut self.gathering,
+            &mut self.index,
         )?;
         match settled {
             Settled::Open => self.settled = true,
@@ -310,7 +323,7 @@ impl<'f, S: Store> Lemmas<'f, S> {
         ensures told { result ≡ Ok Added.Redundant → self.new.has_redundant ≡ true }
         ensures none_redundant { result ≡ Ok Added.Implied → self.new.has_redundant ≡ self.old.has_redundant }
         ensures not_implied { result ≡ Ok Added.NotImplied → IsNotImplied self.old.formula self.old.steps lits.now }
-        ensures not_addable { result ≡ Ok Added.NotImplied → IsNotAddable self.old.formula self.old.steps lits.now ⊎ MeetsTautology self.old.formula self.old.steps lits.now }
+        ensures not_addable { result ≡ Ok Added.NotImplied → IsNotAddable self.old.formula self.old.steps lits.now }
         ensures stays { result ≡ Ok Added.NotImplied → self.new ≡ self.old }
         ensures others { (result ≢ Ok Added.Refuted) × (result ≢ Ok Added.Tautology) }
         ensures going { self.new.refuted ≡ false }
@@ -381,7 +394,7 @@ impl<'f, S: Store> Lemmas<'f, S> {
         ensures err { OnErr result (self.new.steps ≡ self.old.steps) }
         ensures redundant { result ≡ Ok true → IsLive self.old.formula self.new.steps lits.now }
         ensures told { result ≡ Ok true → self.new.has_redundant ≡ true }
-        ensures not_addable { result ≡ Ok false → IsNotAddable self.old.formula self.old.steps lits.now ⊎ MeetsTautology self.old.formula self.old.steps lits.now }
+        ensures not_addable { result ≡ Ok false → IsNotAddable self.old.formula self.old.steps lits.now }
         ensures stays { result ≡ Ok false → self.new ≡ self.old }
         ensures going { self.new.refuted ≡ false }
         ensures formula { self.new.formula ≡ self.old.formula }
@@ -392,12 +405,14 @@ impl<'f, S: Store> Lemmas<'f, S> {
         let Some(pivot) = lits.first() else {
             return Ok(false);
         };
+        self.index.drop_dead(&self.store)?;
         let by_pivot = try_pivot(
             &mut self.store,
             &mut self.trail,
             self.units.ids.as_slice(),
             &mut self.gathering,
             &mut self.resolving,
+            self.index.numbers.as_slice(),
             lits,
             *pivot,
         )?;

@@ -1,6 +1,6 @@
 // Lemmas that unit propagation doesn't give, tried by their first literal, the pivot: whether it gives each resolvent with a live
 // clause that holds the pivot's negation (Järvisalo, Heule and Biere, Inprocessing Rules, 2012).
-ghost use Rattle.std.specs.Prelude.{◌≡◌, ◌<◌, ◌≤◌, ◌+◌, ◌++◌, ◌∷◌, pos, true, false, Some, Ok, slice_get, OnOk};
+ghost use Rattle.std.specs.Prelude.{◌≡◌, ◌<◌, ◌≤◌, ◌+◌, ◌++◌, ◌∷◌, [], ℕ, pos, true, false, Some, Ok, slice_get, Contains, IsSome, List, OnOk};
 ghost use Rattle.std.specs.List.{list_all};
 ghost use Rattle.lls_lit.specs.Literal.{negation};
 ghost use Rattle.lls_lit.specs.Formula.{is_within};
@@ -10,13 +10,13 @@ ghost use Rattle.lls_prooflog.specs.UnitWalk.{is_among};
 ghost use Rattle.lls_store.specs.Clauses.{clause_numbered, LiveClause};
 ghost use Rattle.lls_store.specs.Store.{AreLive};
 ghost use Rattle.lls_lemmas.specs.Closing.{is_id_hint};
+ghost use Rattle.lls_lemmas.specs.Indexed.{ArePlain};
 ghost use Rattle.lls_lemmas.specs.Lemmas.{is_tautology};
-ghost use Rattle.lls_lemmas.specs.Pivot.{AddsClause, AreGroups, HoldsLit, IsOpposed, ResolvesBy};
+ghost use Rattle.lls_lemmas.specs.Pivot.{AddsClause, AreGroups, HoldsLit, IsUnresolved, ResolvesBy};
 ghost use Rattle.lls_lemmas.specs.Units.{IsReady};
 
 use crate::finding::mark_all;
 use crate::gathering::Gathering;
-use crate::tautology::is_tautology;
 use crate::trying::try_clause;
 use lls_base::Memory;
 use lls_lit::{Lit, Marks};
@@ -104,7 +104,7 @@ fn join(joined: &mut Vec<Lit>, lits: &[Lit], others: &[Lit]) -> Result<(), Memor
 }
 
 // Gathers the hints that lead to the resolvent of a lemma with a clause, which holds the pivot's negation. Answers whether there are
-// any. A resolvent with a literal of the lemma and its negation needs none, and a clause that has both itself isn't tried.
+// any. A resolvent with a literal of the lemma and its negation needs none.
 fn gather_resolvent<S: Store>(
     store: &mut S,
     trail: &mut Trail,
@@ -120,10 +120,11 @@ fn gather_resolvent<S: Store>(
     requires live { AreLive (S.state store.old) }
     requires within { is_within trail.old.vars lits.now ≡ true }
     requires no_tautology { is_tautology lits.now ≡ false }
+    requires plain { ArePlain (S.state store.old).live }
     requires holds { HoldsLit (S.state store.old).live number (negation pivot) }
     ensures resolves { result ≡ Ok true → (c : LiveClause) → clause_numbered (S.state store.old).live number ≡ Some c → ResolvesBy (S.state store.old).live pivot lits.now c gathering.new.hints.items }
     ensures in_range { result ≡ Ok true → list_all is_id_hint gathering.new.hints.items ≡ true }
-    ensures opposed { result ≡ Ok false → IsOpposed (S.state store.old).live pivot lits.now }
+    ensures opposed { result ≡ Ok false → IsUnresolved (S.state store.old).live pivot lits.now }
     ensures groups { resolving.new.groups.items ≡ resolving.old.groups.items }
     ensures trail { trail.new ≡ trail.old }
     ensures state { S.state store.new ≡ S.state store.old }
@@ -136,9 +137,6 @@ fn gather_resolvent<S: Store>(
     if has_true(&mut gathering.marks, lits, others) {
         gathering.hints.clear();
         return Ok(true);
-    }
-    if is_tautology(&mut gathering.marks, clause) {
-        return Ok(false);
     }
     join(&mut resolving.resolvent, lits, others)?;
     let resolvent = resolving.resolvent.as_slice();
@@ -161,12 +159,12 @@ fn try_against<S: Store>(
     requires live { AreLive (S.state store.old) }
     requires within { is_within trail.old.vars lits.now ≡ true }
     requires no_tautology { is_tautology lits.now ≡ false }
+    requires plain { ArePlain (S.state store.old).live }
     requires given { number < (S.state store.old).count }
-    requires groups { AreGroups (S.state store.old).live pivot lits.now number resolving.old.groups.items }
     requires in_range { list_all is_hint resolving.old.groups.items ≡ true }
-    ensures groups { result ≡ Ok true → AreGroups (S.state store.old).live pivot lits.now (number + 1) resolving.new.groups.items }
+    ensures groups { result ≡ Ok true → (tried : List ℕ) → AreGroups (S.state store.old).live pivot lits.now tried resolving.old.groups.items → AreGroups (S.state store.old).live pivot lits.now (tried ++ number ∷ []) resolving.new.groups.items }
     ensures in_range { result ≡ Ok true → list_all is_hint resolving.new.groups.items ≡ true }
-    ensures opposed { result ≡ Ok false → IsOpposed (S.state store.old).live pivot lits.now }
+    ensures opposed { result ≡ Ok false → IsUnresolved (S.state store.old).live pivot lits.now }
     ensures trail { trail.new ≡ trail.old }
     ensures state { S.state store.new ≡ S.state store.old }
     ensures tracked { S.tracks store.new trail.new }
@@ -186,33 +184,40 @@ fn try_against<S: Store>(
     Ok(true)
 }
 
-/// Whether a lemma can be added by its pivot. Where it can, the groups of hints are gathered. The trail is as before.
+/// Whether a lemma can be added by its pivot, where these are the numbers of all live clauses. Where it can, the groups of hints are
+/// gathered. The trail is as before.
 pub(crate) fn try_pivot<S: Store>(
     store: &mut S,
     trail: &mut Trail,
     units: &[Option<u64>],
     gathering: &mut Gathering,
     resolving: &mut Resolving,
+    numbers: &[u32],
     lits: &[Lit],
     pivot: Lit,
 ) -> Result<bool, Memory>
     requires tracked { S.tracks store.old trail.old }
     requires ready { IsReady (S.state store.old) trail.old units.now gathering.old.marks.vars }
+    requires plain { ArePlain (S.state store.old).live }
+    requires alive { (number : ℕ) → Contains numbers.now number → IsSome (clause_numbered (S.state store.old).live number) }
+    requires all { (clause : LiveClause) → Contains (S.state store.old).live clause → Contains numbers.now clause.number }
     requires within { is_within trail.old.vars lits.now ≡ true }
     requires no_tautology { is_tautology lits.now ≡ false }
     requires first { slice_get lits.now 0 ≡ Some pivot }
     ensures adds { result ≡ Ok true → AddsClause (S.state store.old).live lits.now resolving.new.groups.items }
     ensures in_range { result ≡ Ok true → list_all is_hint resolving.new.groups.items ≡ true }
-    ensures opposed { result ≡ Ok false → IsOpposed (S.state store.old).live pivot lits.now }
+    ensures opposed { result ≡ Ok false → IsUnresolved (S.state store.old).live pivot lits.now }
     ensures trail { trail.new ≡ trail.old }
     ensures state { S.state store.new ≡ S.state store.old }
     ensures tracked { S.tracks store.new trail.new }
     ensures vars { gathering.new.marks.vars ≡ gathering.old.marks.vars }
 {
+    // What holds of all live clauses is known from here on.
+    let _count = store.count();
     resolving.groups.clear();
-    for number in 0..store.count() {
+    for number in numbers {
         if !try_against(
-            store, trail, units, gathering, resolving, lits, pivot, number,
+            store, trail, units, gathering, resolving, lits, pivot, *number,
         )? {
             return Ok(false);
         }

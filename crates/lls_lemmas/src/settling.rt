@@ -3,10 +3,12 @@ ghost use Rattle.std.specs.Prelude.{◌≡◌, ◌≢◌, length, Ok, OnErr, OnO
 ghost use Rattle.lls_lit.specs.Formula.{IsUnsatisfiable};
 ghost use Rattle.lls_store.specs.Store.{IsConflict};
 ghost use Rattle.lls_lemmas.specs.Behind.{Grows};
-ghost use Rattle.lls_lemmas.specs.Lemmas.{EndsEmpty};
+ghost use Rattle.lls_lemmas.specs.Indexed.{IsFound};
+ghost use Rattle.lls_lemmas.specs.Lemmas.{AreRising, EndsEmpty};
 ghost use Rattle.lls_lemmas.specs.Units.{HasSettled, IsAtRest};
 
 use crate::gathering::{Gathering, gather};
+use crate::index::Index;
 use crate::units::{Units, add_units};
 use lls_base::Memory;
 use lls_cnf::Formula;
@@ -37,6 +39,7 @@ fn refute<S: Store>(
     requires vars { gathering.old.marks.vars ≡ trail.now.vars }
     requires conflict { IsConflict (S.state store.now).live trail.now conflict }
     ensures ends { OnOk result (EndsEmpty log.new.steps) }
+    ensures rising { AreRising (length formula.now.clauses) log.new.steps }
     ensures unsatisfiable { OnOk result (IsUnsatisfiable formula.now) }
     ensures grows { Grows formula.now log.old.steps log.new.steps }
     ensures err { OnErr result (log.new.steps ≡ log.old.steps) }
@@ -65,13 +68,17 @@ pub(crate) fn settle<S: Store>(
     last: &mut u64,
     units: &mut Units,
     gathering: &mut Gathering,
+    index: &mut Index,
 ) -> Result<Settled, Memory>
     requires rest { IsAtRest formula.now log.old.steps (S.state store.old) trail.old units.old.ids.items units.old.done last.old }
     requires tracked { S.tracks store.old trail.old }
     requires vars { gathering.old.marks.vars ≡ trail.old.vars }
+    requires found { IsFound trail.old.vars index.old (S.state store.old).live }
     ensures is_open { result ≡ Ok Settled.Open → HasSettled (S.state store.new) trail.new units.new.done }
     ensures rest { result ≢ Ok Settled.Refuted → IsAtRest formula.now log.new.steps (S.state store.new) trail.new units.new.ids.items units.new.done last.new }
+    ensures found { IsFound trail.old.vars index.new (S.state store.new).live }
     ensures ends { result ≡ Ok Settled.Refuted → EndsEmpty log.new.steps }
+    ensures rising { AreRising (length formula.now.clauses) log.new.steps }
     ensures unsatisfiable { result ≡ Ok Settled.Refuted → IsUnsatisfiable formula.now }
     ensures grows { Grows formula.now log.old.steps log.new.steps }
     ensures tracked { S.tracks store.new trail.new }
@@ -81,7 +88,7 @@ pub(crate) fn settle<S: Store>(
     let conflict = store.propagate(trail);
     // What holds of every trail is known from here on.
     let _level = trail.current();
-    add_units(formula, store, trail, log, last, units, gathering)?;
+    add_units(formula, store, trail, log, last, units, gathering, index)?;
     match conflict {
         None => Ok(Settled::Open),
         Some(number) => {

@@ -20,7 +20,7 @@ returns-in_ok-no_empty_text-in-Going g c =
     let text = c.in_ok-no_empty_text-in-Going.field-0 in
     let open_ = subst (λ (f : Cnf). IsNotImplied f new.steps []) c.requires.formula (c.in_ok-stand.ensures.open (ap Ok c.in-Going.is)) in
     reads_value (IsJudged c.args.lemmas.formula c.args.vars files name c.args.form (progress start tally) new) (IsProved formula c.args.vars files name c.args.form) c.in_ok-stand.stand (Refused text) _ _
-    (λ judged. proved_open formula start new (c.requires.well, c.requires.keeps) c.requires.units c.args.vars files name c.args.form text open_ c.in_ok-no_empty_text-in-Going.ensures
+    (λ judged. proved_open formula start new c.requires.well c.requires.keeps c.requires.begins c.args.vars files name c.args.form text open_ c.in_ok-no_empty_text-in-Going.ensures
     (judged_from c.args.lemmas.formula formula c.args.vars files name c.args.form start tally new c.in_ok-stand.stand Going c.requires.formula c.new-tally.ensures c.in-Going.is judged))
     c.in_ok-stand.ensures.read
 
@@ -35,7 +35,7 @@ returns-in_ok-hinted-in-Refuted g c =
     let hints = c.in_ok-hinted-in-Refuted.field-0 in
     let ends = c.in_ok-stand.ensures.ends (ap Ok c.in-Refuted.is) in
     reads_value (IsJudged c.args.lemmas.formula c.args.vars files name c.args.form (progress start tally) new) (IsProved formula c.args.vars files name c.args.form) c.in_ok-stand.stand (Hinted hints) _ _
-    (λ judged. proved_hinted formula start new (c.requires.well, c.requires.keeps) c.requires.units c.args.vars files name c.args.form hints ends c.in_ok-hinted-in-Refuted.ensures
+    (λ judged. proved_hinted formula start new c.requires.well c.requires.keeps c.requires.begins c.args.vars files name c.args.form hints ends c.in_ok-hinted-in-Refuted.ensures
     (judged_from c.args.lemmas.formula formula c.args.vars files name c.args.form start tally new c.in_ok-stand.stand Refuted c.requires.formula c.new-tally.ensures c.in-Refuted.is judged))
     c.in_ok-stand.ensures.read
 
@@ -50,6 +50,6 @@ returns-in_ok-not_implied_text-in-NotImplied g c =
     let text = c.in_ok-not_implied_text-in-NotImplied.field-0 in
     let number = c.in-NotImplied.number in
     reads_value (IsJudged c.args.lemmas.formula c.args.vars files name c.args.form (progress start tally) new) (IsProved formula c.args.vars files name c.args.form) c.in_ok-stand.stand (Refused text) _ _
-    (λ judged. proved_refused formula start new (c.requires.well, c.requires.keeps) c.requires.units c.args.vars files name c.args.form number text c.in_ok-not_implied_text-in-NotImplied.ensures
+    (λ judged. proved_refused formula start new c.requires.well c.requires.keeps c.requires.begins c.args.vars files name c.args.form number text c.in_ok-not_implied_text-in-NotImplied.ensures
     (judged_from c.args.lemmas.formula formula c.args.vars files name c.args.form start tally new c.in_ok-stand.stand (NotImplied number) c.requires.formula c.new-tally.ensures c.in-NotImplied.is judged))
     c.in_ok-stand.ensures.read

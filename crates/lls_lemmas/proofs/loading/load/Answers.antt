@@ -63,6 +63,8 @@ returns-clause-holds g c =
     let last : c.loop-k.k ≡ length c.args.formula.now.clauses = omega (arith, c.loop-k-test.false, c.len-k-end.ensures.len) in
     record {
       no_tail = i.tail;
+      rising = tt;
+      most = omega arith;
       spelled = subst (λ (ps : Live). Spells (g.S.Store.state c.loop-k.store).live ps) all i.spelled;
       ids = λ clause inside. omega (arith, i.ids clause inside, last);
       kept = KeepsSatisfiable-numbered c.args.formula.now;

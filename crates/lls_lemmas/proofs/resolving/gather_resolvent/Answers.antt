@@ -1,4 +1,4 @@
-use Rattle.std.proofs.Common.{◌≡◌, ℕ, List, ◌++◌, Some, sym, ap, ◌∙◌, subst, inl, inr}
+use Rattle.std.proofs.Common.{◌≡◌, ℕ, List, ◌++◌, Some, sym, ap, ◌∙◌, subst}
 use Rattle.std.specs.Prelude.{ℤ, Contains, IfSome}
 use Rattle.std.specs.FinSet as set
 use Rattle.std.proofs.lemmas.Option.{same_Some}
@@ -12,7 +12,8 @@ use Rattle.lls_lemmas.specs.Assumed.{CanBeFalse}
 use Rattle.lls_lemmas.specs.Behind.{GivesClause}
 use Rattle.lls_lemmas.specs.Lemmas.{is_tautology}
 use Rattle.lls_lemmas.specs.Pivot.{HoldsLit, ResolvesBy}
-use Rattle.lls_lemmas.proofs.Resolvents.{no_tautology, others_within, resolves_given, resolves_true, unresolved, untried, within_both}
+use Rattle.lls_lemmas.proofs.Resolvents.{no_tautology, others_within, resolves_given, resolves_true, unresolved, within_both}
+use Rattle.lls_lemmas.proofs.Tautologies.{plain_told}
 use Rattle.lls_lemmas.proofs.resolving.gather_resolvent.Goals as goal
 
 -- a clause that was told, and its literal
@@ -58,20 +59,6 @@ returns-then-has_true-clause-resolves g c = λ _.
     of_number s c.args.number clause m.is c.args.pivot c.args.lits.now c.clear.new.self.items
     (resolves_true s.live c.args.pivot c.args.lits.now m.is.clause clause m.is.spelled c.clear.new.self.items (ap (has_true c.args.lits.now) (sym rest) ∙ sym c.if-has_true.ensures.answer))
 
-pub is_tautology-requires : goal.is_tautology-requires
-is_tautology-requires g c =
-    let s = g.S.Store.state c.args.store.now in
-    let clause = c.lits-clause.result.now in
-    let m = met s c.args.number clause (negation c.args.pivot) c.requires.live c.requires.holds c.lits-clause.ensures in
-    ap (λ (n : ℕ). is_within n clause) (c.has_true.ensures.vars ∙ c.requires.ready.marks_vars ∙ sym c.requires.ready.has_units.same_vars) ∙ m.is.within
-
-pub returns-then-is_tautology-clause-opposed : goal.returns-then-is_tautology-clause-opposed
-returns-then-is_tautology-clause-opposed g c = λ _.
-    let s = g.S.Store.state c.args.store.now in
-    let clause = c.lits-clause.result.now in
-    let m = met s c.args.number clause (negation c.args.pivot) c.requires.live c.requires.holds c.lits-clause.ensures in
-    inr (untried s.live c.args.pivot c.args.lits.now m.is.clause clause m.is.spelled m.inside m.opposes (sym c.if-is_tautology.ensures.answer))
-
 pub try_clause-requires-clause-within : goal.try_clause-requires-clause-within
 try_clause-requires-clause-within g c =
     let s = g.S.Store.state c.args.store.now in
@@ -87,10 +74,11 @@ try_clause-requires-clause-within g c =
 pub try_clause-requires-clause-no_tautology : goal.try_clause-requires-clause-no_tautology
 try_clause-requires-clause-no_tautology g c =
     let clause = c.lits-clause.result.now in
+    let m = met (g.S.Store.state c.args.store.now) c.args.number clause (negation c.args.pivot) c.requires.live c.requires.holds c.lits-clause.ensures in
     let rest = c.as_slice-others.ensures.value ∙ c.in_ok-take_others.ensures ∙ ap (λ (x : ℤ). others x clause) c.negated.ensures in
     let whole = c.as_slice-resolvent.ensures.value ∙ c.in_ok-join.ensures ∙ ap (λ (xs : List ℤ). c.args.lits.now ++ xs) rest in
     ap is_tautology whole
-    ∙ no_tautology (negation c.args.pivot) c.args.lits.now clause c.requires.no_tautology (sym c.if-is_tautology.ensures.answer) (ap (has_true c.args.lits.now) (sym rest) ∙ sym c.if-has_true.ensures.answer)
+    ∙ no_tautology (negation c.args.pivot) c.args.lits.now clause c.requires.no_tautology (plain_told clause m.is.clause.lits m.is.spelled (c.requires.plain m.is.clause m.inside)) (ap (has_true c.args.lits.now) (sym rest) ∙ sym c.if-has_true.ensures.answer)
 
 pub returns-clause-resolves : goal.returns-clause-resolves
 returns-clause-resolves g c = λ went.
@@ -110,4 +98,4 @@ returns-clause-opposed g c = λ went.
     let m = met s c.args.number clause (negation c.args.pivot) c.requires.live c.requires.holds c.lits-clause.ensures in
     let rest = c.as_slice-others.ensures.value ∙ c.in_ok-take_others.ensures ∙ ap (λ (x : ℤ). others x clause) c.negated.ensures in
     let whole = c.as_slice-resolvent.ensures.value ∙ c.in_ok-join.ensures ∙ ap (λ (xs : List ℤ). c.args.lits.now ++ xs) rest in
-    inl (unresolved s.live c.args.pivot c.args.lits.now m.is.clause clause m.is.spelled m.inside m.opposes (subst (λ (ls : List ℤ). CanBeFalse s.live ls) whole (c.try_clause.ensures.none went)))
+    (unresolved s.live c.args.pivot c.args.lits.now m.is.clause clause m.is.spelled m.inside m.opposes (subst (λ (ls : List ℤ). CanBeFalse s.live ls) whole (c.try_clause.ensures.none went)))

@@ -1,4 +1,4 @@
-use Rattle.std.proofs.Common.{◌≡◌, ℕ, ◌≤◌, ◌+◌, true, List, ◌∷◌, ◌++◌, Option, Some, refl, sym, ap, ◌∙◌, subst}
+use Rattle.std.proofs.Common.{◌≡◌, ℕ, ◌≤◌, true, List, [], ◌∷◌, ◌++◌, Option, Some, refl, sym, ap, ◌∙◌, subst}
 use Rattle.std.specs.Prelude.{ℤ, pos, IfSome, Ok}
 use Rattle.std.specs.List.{list_all}
 use Rattle.std.specs.FinSet as set
@@ -41,22 +41,21 @@ grown_in_range groups hints id low high all more =
     list_all-append is_hint groups (negation (pos id) ∷ hints) ∙ both_true all (both_true (ap is_id (variable_of-negation (pos id)) ∙ id_within id low high) (id_hints hints more).0)
 
 -- the groups with one more
-grown : (store : StoreState) (pivot : ℤ) (lits : List ℤ) (number id : ℕ) (groups hints : List ℤ) → AreLive store → HasId store number id (negation pivot) → list_all is_id_hint hints ≡ true
-    → ((c : LiveClause) → clause_numbered store.live number ≡ Some c → ResolvesBy store.live pivot lits c hints) → AreGroups store.live pivot lits number groups → AreGroups store.live pivot lits (number + 1) (groups ++ negation (pos id) ∷ hints)
-grown store pivot lits number id groups hints live i all resolves h =
+grown : (store : StoreState) (pivot : ℤ) (lits : List ℤ) (number id : ℕ) (tried : List ℕ) (groups hints : List ℤ) → AreLive store → HasId store number id (negation pivot) → list_all is_id_hint hints ≡ true
+    → ((c : LiveClause) → clause_numbered store.live number ≡ Some c → ResolvesBy store.live pivot lits c hints) → AreGroups store.live pivot lits tried groups → AreGroups store.live pivot lits (tried ++ number ∷ []) (groups ++ negation (pos id) ∷ hints)
+grown store pivot lits number id tried groups hints live i all resolves h =
     let clause = i.holds.clause in
     let n = numbered store.live number clause i.holds.is_live in
-    let P : ℕ → Type 0 = λ m. AreGroups store.live pivot lits m groups in
-    let Q : ℕ → Type 0 = λ m. AreGroups store.live pivot lits (m + 1) (groups ++ negation (pos id) ∷ hints) in
-    let T : ℕ → Type 0 = λ m. AreGroups store.live pivot lits (clause.number + 1) (groups ++ negation (pos m) ∷ hints) in
+    let Q : ℕ → Type 0 = λ m. AreGroups store.live pivot lits (tried ++ m ∷ []) (groups ++ negation (pos id) ∷ hints) in
+    let T : ℕ → Type 0 = λ m. AreGroups store.live pivot lits (tried ++ clause.number ∷ []) (groups ++ negation (pos m) ∷ hints) in
     let U : ℕ → Type 0 = λ m. 1 ≤ m in
     subst Q n.same (subst T (sym i.same)
-    (groups_more store.live pivot lits clause groups hints live.ids live.numbers n.contains (subst U i.same i.low) (id_hints hints all).1 i.holds.inside (resolves clause i.holds.is_live) (subst P (sym n.same) h)))
+    (groups_more store.live pivot lits clause tried groups hints live.ids live.numbers n.contains (subst U i.same i.low) (id_hints hints all).1 i.holds.inside (resolves clause i.holds.is_live) h))
 
 pub returns-then-not-holds-clause-groups : goal.returns-then-not-holds-clause-groups
-returns-then-not-holds-clause-groups g c = λ _.
+returns-then-not-holds-clause-groups g c = λ _ tried h.
     let s = g.S.Store.state c.args.store.now in
-    groups_passed s.live c.args.pivot c.args.lits.now c.args.number c.args.resolving.now.groups.items
+    groups_passed s.live c.args.pivot c.args.lits.now tried c.args.number c.args.resolving.now.groups.items
     (λ x inside same opposes.
     let found = clause_numbered-contained s.live x c.requires.live.numbers inside in
     c.if-not-holds.ensures.none refl (record {
@@ -64,7 +63,7 @@ returns-then-not-holds-clause-groups g c = λ _.
       is_live = ap (clause_numbered s.live) (sym same) ∙ found;
       inside = ap (set.contains x.lits) c.negated.ensures ∙ opposes;
     }))
-    c.requires.groups
+    h
 
 pub gather_resolvent-requires-clause-holds : goal.gather_resolvent-requires-clause-holds
 gather_resolvent-requires-clause-holds g c =
@@ -78,7 +77,7 @@ pub push_group-requires-clause-most : goal.push_group-requires-clause-most
 push_group-requires-clause-most g c = (has_id (g.S.Store.state c.args.store.now) c.args.number c.id-id.result c.negated.result c.requires.live (c.if-not-holds.ensures.holds refl) c.id-id.ensures).high
 
 pub returns-clause-groups : goal.returns-clause-groups
-returns-clause-groups g c = λ _.
+returns-clause-groups g c = λ _ tried h.
     let s = g.S.Store.state c.args.store.now in
     let old = c.args.resolving.now.groups.items in
     let hints = c.gather_resolvent.new.gathering.hints.items in
@@ -87,8 +86,8 @@ returns-clause-groups g c = λ _.
     let P : ℤ → Type 0 = λ l. HasId s c.args.number c.id-id.result l in
     let i = subst P c.negated.ensures (has_id s c.args.number c.id-id.result c.negated.result c.requires.live (c.if-not-holds.ensures.holds refl) c.id-id.ensures) in
     let is = c.in_ok-push_group.ensures ∙ ap (λ (gs : List ℤ). gs ++ negation (pos c.id-id.result) ∷ c.as_slice.result.now) e.groups ∙ ap (λ (hs : List ℤ). old ++ negation (pos c.id-id.result) ∷ hs) c.as_slice.ensures.value in
-    subst (λ (gs : List ℤ). AreGroups s.live c.args.pivot c.args.lits.now (c.args.number + 1) gs) (sym is)
-    (grown s c.args.pivot c.args.lits.now c.args.number c.id-id.result old hints c.requires.live i (e.in_range went) (e.resolves went) c.requires.groups)
+    subst (λ (gs : List ℤ). AreGroups s.live c.args.pivot c.args.lits.now (tried ++ c.args.number ∷ []) gs) (sym is)
+    (grown s c.args.pivot c.args.lits.now c.args.number c.id-id.result tried old hints c.requires.live i (e.in_range went) (e.resolves went) h)
 
 pub returns-clause-in_range : goal.returns-clause-in_range
 returns-clause-in_range g c = λ _.

@@ -8,6 +8,7 @@ loop-units-init g c = record {
   rest = c.requires.rest;
   store = store_stays c.args.trail.now (g.S.Store.state c.args.store.now);
   grows = grows-none c.args.formula.now c.args.log.now.steps;
+  found = c.requires.found;
   tracked = c.requires.tracked;
   vars = refl;
 }
@@ -20,6 +21,7 @@ loop-units-preserved g c =
       rest = e.rest;
       store = store_then c.args.trail.now (g.S.Store.state c.args.store.now) (g.S.Store.state c.loop-units.store) (g.S.Store.state c.add_unit.new.store) i.store e.store;
       grows = grows-then c.args.formula.now c.args.log.now.steps c.loop-units.log.steps c.add_unit.new.log.steps i.grows e.grows;
+      found = e.found;
       tracked = e.tracked;
       vars = e.vars ∙ i.vars;
     }

@@ -4,7 +4,7 @@ use Rattle.lls_lit.specs.Formula.{Clause, Cnf, IsUnsatisfiable}
 use Rattle.lls_prooflog.specs.Spent.{LogState}
 use Rattle.lls_prooflog.specs.declared.step.Step.{Step}
 use Rattle.lls_lemmas.specs.Behind.{PushesLemma}
-use Rattle.lls_lemmas.specs.Lemmas.{AddsLemma, AddsUnit, AddsUnits, GoesOnBy, HasNoFault, IsNotAddable, LemmasState, MeetsTautology}
+use Rattle.lls_lemmas.specs.Lemmas.{AddsLemma, AddsUnit, AddsUnits, GoesOnBy, HasNoFault, IsNotAddable, LemmasState}
 use Rattle.lls_lemmas.specs.declared.answers.Added.TheVariants.{NotImplied}
 use Rattle.lls_lemmas.proofs.Logs.{adds_between, well-none, well-then}
 use Rattle.lls_lemmas.proofs.lemmas.Lemmas.add.Goals as goal
@@ -51,8 +51,8 @@ returns-then-eq-clause-not_addable g c = λ _.
     let lits = c.args.lits.now in
     let added : c.in_ok-added.added ≡ NotImplied = search rules in
     let went = c.in_ok-added.was ∙ ap Ok added in
-    let P : LemmasState → Type 0 = λ x. IsNotAddable c.settle.new.self.formula x.steps lits ⊎ MeetsTautology c.settle.new.self.formula x.steps lits in
-    let Q : Cnf → Type 0 = λ f. IsNotAddable f c.add_either.new.self.steps lits ⊎ MeetsTautology f c.add_either.new.self.steps lits in
+    let P : LemmasState → Type 0 = λ x. IsNotAddable c.settle.new.self.formula x.steps lits in
+    let Q : Cnf → Type 0 = λ f. IsNotAddable f c.add_either.new.self.steps lits in
     subst Q (c.settle.ensures.formula ∙ ap (λ (x : LemmasState). x.formula) c.has_both.ensures.same) (subst P (sym (c.add_either.ensures.stays went)) (c.add_either.ensures.not_addable went))
 
 -- unit clauses, where nothing else came

@@ -1,16 +1,19 @@
-use Rattle.std.proofs.Common.{◌≡◌, ℕ, true, List, Option, length, sym, ap, ◌∙◌, subst}
+use Rattle.std.proofs.Common.{◌≡◌, ℕ, true, List, Option, length, refl, sym, ap, ◌∙◌, subst}
 use Rattle.lls_store.specs.Trail.{TrailState}
 use Rattle.lls_store.specs.Sound.{IsSound}
 use Rattle.lls_store.specs.Store.{StoreState}
+use Rattle.std.specs.FinSet as set
 use Rattle.std.specs.Prelude.{ℤ, Ok}
 use Rattle.std.specs.List.{list_all}
 use Rattle.lls_prooflog.specs.Spent.{IsGood}
-use Rattle.lls_lemmas.specs.Behind.{GivesClause}
+use Rattle.lls_lemmas.specs.Behind.{GivesClause, HoldsLive}
 use Rattle.lls_lemmas.specs.Closing.{is_id_hint}
+use Rattle.lls_lemmas.specs.Indexed.{set_hash}
 use Rattle.lls_lemmas.specs.Lemmas.{GoesOnWell, HasNoFault, IsNotImplied, LemmasState}
 use Rattle.lls_lemmas.specs.Units.{HasUnits}
 use Rattle.lls_lemmas.proofs.Addable.{not_implied}
-use Rattle.lls_lemmas.proofs.Loaded.{engine_added}
+use Rattle.lls_lemmas.proofs.Indexing.{pushed_found}
+use Rattle.lls_lemmas.proofs.Loaded.{engine_added, engine_same}
 use Rattle.lls_lemmas.proofs.Logs.{adds_by_propagation, each-then, id_hints, well-by_propagation}
 use Rattle.lls_lemmas.proofs.lemmas.Lemmas.add_implied.Goals as goal
 
@@ -56,11 +59,37 @@ invariant_of-self-2 g c =
     let good = c.push_step.ensures.good (given (g.S.Store.state c.self.inside.store) (g.S.Store.state c.try_clause.new.store) c.args.lits.now c.try_clause.new.gathering.hints.items c.as_slice-2.result.now c.try_clause.ensures.state c.as_slice-2.ensures.value (c.try_clause.ensures.gives implied)) (subst (λ (hs : List ℤ). list_all is_id_hint hs ≡ true) (sym c.as_slice-2.ensures.value) (c.try_clause.ensures.in_range implied)) in
     let t = c.try_clause.ensures in (
       c.push_step.ensures.tracked,
-      engine_added inside.formula.now c.push_step.new.log.steps (g.S.Store.state inside.store) (g.S.Store.state c.try_clause.new.store) (g.S.Store.state c.push_step.new.store) inside.trail c.try_clause.new.trail inside.units.ids.items inside.units.done c.push_step.new.last c.in_ok-push_step.field-0 c.hash_of-hash.new.marks.vars c.args.lits.now
+      engine_added inside.formula.now c.push_step.new.log.steps (g.S.Store.state inside.store) (g.S.Store.state c.try_clause.new.store) (g.S.Store.state c.push_step.new.store) inside.trail c.try_clause.new.trail inside.units.ids.items c.put.new.self inside.units.done c.push_step.new.last c.in_ok-push_step.field-0 c.hash_of-hash.new.marks.vars c.args.lits.now
           inside.has_redundant inside.refuted going
           (each-then HasNoFault inside.formula.now inside.log.steps c.push_step.new.log.steps i.well (well-by_propagation inside.formula.now inside.log.steps c.push_step.new.log.steps good))
           (λ none. each-then IsGood inside.formula.now inside.log.steps c.push_step.new.log.steps (i.good none) good)
           (i.rest going).has_units t.trail t.state c.in_ok-push_step.ensures.state c.push_step.ensures.holds
+          (pushed_found inside.trail.vars inside.index c.put.new.self (g.S.Store.state inside.store) (g.S.Store.state c.try_clause.new.store) (g.S.Store.state c.push_step.new.store) c.in_ok-push_step.field-0 c.hash_of-hash.result c.count.result c.args.lits.now (i.found going) c.put.ensures.linked c.put.ensures.keeps c.in_ok-put.ensures.puts t.state c.in_ok-push_step.ensures.state c.count.ensures.count (c.hash_of-hash.ensures.hash ∙ ap (λ n. set_hash n (set.from_list c.args.lits.now)) (t.vars ∙ i.marks_vars)) c.requires.no_tautology)
+          (c.hash_of-hash.ensures.vars ∙ t.vars ∙ i.marks_vars),
+    )
+
+pub invariant_of-self-in_err-put : goal.invariant_of-self-in_err-put
+invariant_of-self-in_err-put g c =
+    let inside = c.self.inside in
+    let i = c.self.invariant.1 in
+    let going = ap (λ (x : LemmasState). x.refuted) c.self.view_is ∙ c.requires.going in
+    let t = c.try_clause.ensures in (
+      t.tracked,
+      engine_same inside.formula.now inside.log.steps inside.log.steps (g.S.Store.state inside.store) (g.S.Store.state c.try_clause.new.store) inside.trail c.try_clause.new.trail inside.units.ids.items inside.index c.put.new.self inside.units.done inside.last inside.last inside.has_redundant inside.settled inside.refuted inside.gathering.marks.vars c.hash_of-hash.new.marks.vars
+          going i refl t.state t.trail (subst (λ (s : StoreState). HoldsLive inside.formula.now inside.log.steps s inside.last) (sym t.state) (i.rest going).holds) c.put.ensures.linked (λ clause _. c.put.ensures.keeps inside.trail.vars clause)
+          (c.hash_of-hash.ensures.vars ∙ t.vars ∙ i.marks_vars),
+    )
+
+pub invariant_of-self-in_err-push_step : goal.invariant_of-self-in_err-push_step
+invariant_of-self-in_err-push_step g c =
+    let inside = c.self.inside in
+    let i = c.self.invariant.1 in
+    let going = ap (λ (x : LemmasState). x.refuted) c.self.view_is ∙ c.requires.going in
+    let e = c.in_err-push_step.ensures in
+    let t = c.try_clause.ensures in (
+      c.push_step.ensures.tracked,
+      engine_same inside.formula.now inside.log.steps c.push_step.new.log.steps (g.S.Store.state inside.store) (g.S.Store.state c.push_step.new.store) inside.trail c.try_clause.new.trail inside.units.ids.items inside.index c.put.new.self inside.units.done inside.last c.push_step.new.last inside.has_redundant inside.settled inside.refuted inside.gathering.marks.vars c.hash_of-hash.new.marks.vars
+          going i e.err_steps (e.err ∙ t.state) t.trail c.push_step.ensures.holds c.put.ensures.linked (λ clause _. c.put.ensures.keeps inside.trail.vars clause)
           (c.hash_of-hash.ensures.vars ∙ t.vars ∙ i.marks_vars),
     )
 

@@ -4,12 +4,15 @@ use Rattle.lls_lit.specs.Formula.{Cnf}
 use Rattle.lls_prooflog.specs.Spent.{EachStep, IsGood, LogState, log_after, log_start}
 use Rattle.lls_prooflog.specs.declared.step.Step.{Step}
 use Rattle.lls_prooflog.specs.declared.step.Step.TheVariants.{Del}
+use Rattle.lls_store.specs.Store.{StoreState}
+use Rattle.lls_lemmas.specs.Indexed.{IsFound}
 use Rattle.lls_lemmas.specs.Lemmas.{DeletesOne, GoesOnBy, HasClause, HasNoFault, HoldsForGood, LemmasState}
 use Rattle.lls_lemmas.specs.Finding.{IsNeeded}
 use Rattle.lls_lemmas.specs.Units.{IsAtRest}
 use Rattle.lls_lemmas.proofs.Forced.{holds_for_good}
 use Rattle.lls_lemmas.proofs.Found.{in_log, in_store}
 use Rattle.lls_lemmas.proofs.Loaded.{engine_going}
+use Rattle.lls_lemmas.proofs.Dropping.{found_without}
 use Rattle.lls_lemmas.proofs.Logs.{each-then, well-one}
 use Rattle.lls_lemmas.proofs.lemmas.Lemmas.delete.Goals as goal
 
@@ -26,13 +29,15 @@ invariant_of-self-2 g c =
     let formula = inside.formula.now in
     let old = inside.log.steps in
     let new = c.delete_clause.new.log.steps in
+    let deletes = e.deletes c.args.lits.now c.in-Some.ensures.has in
     let store = g.S.Store.state c.delete_clause.new.store in (
       e.tracked,
-      engine_going formula new store inside.trail inside.units.ids.items inside.units.done inside.last inside.has_redundant inside.settled inside.refuted c.find.new.marks.vars
+      engine_going formula new store inside.trail inside.units.ids.items c.take.new.self inside.units.done inside.last inside.has_redundant inside.settled inside.refuted c.find.new.marks.vars
           c.if-self.false
-          (deleted HasNoFault formula old new c.args.lits.now (λ state ids. refl) i.well e.deletes)
-          (λ none. deleted IsGood formula old new c.args.lits.now (λ state ids. tt) (i.good none) e.deletes)
+          (deleted HasNoFault formula old new c.args.lits.now (λ state ids. refl) i.well deletes)
+          (λ none. deleted IsGood formula old new c.args.lits.now (λ state ids. tt) (i.good none) deletes)
           (subst (λ (ids : List (Option ℕ)). IsAtRest formula new store inside.trail ids inside.units.done inside.last) c.as_slice-units.ensures.value e.rest)
+          (subst (λ (s : StoreState). IsFound inside.trail.vars c.take.new.self s.live) (sym e.state) (found_without inside.trail.vars inside.index c.take.new.self (g.S.Store.state inside.store).live c.in-Some.number (i.found c.if-self.false) (c.take.ensures.linked) (c.take.ensures.keeps inside.trail.vars)))
           (λ is. e.settled (i.open_ c.if-self.false is))
           (c.find.ensures.vars ∙ c.hash_of-hash.ensures.vars ∙ i.marks_vars),
     )
@@ -65,3 +70,7 @@ returns-then-is_needed-clause-for_good g c = λ _ settled.
     let all_done = i.open_ c.if-self.false (ap (λ (x : LemmasState). x.settled) c.self.view_is ∙ settled) in
     subst (λ (x : LemmasState). HoldsForGood x.formula x.steps c.args.lits.now) c.self.view_is
     (holds_for_good inside.formula.now inside.log.steps store inside.trail inside.units.ids.items inside.units.done inside.last (i.rest c.if-self.false) c.count-count.ensures.live c.in-Some.number c.args.lits.now c.in-Some.ensures.has all_done needed)
+
+pub returns-clause-gone : goal.returns-clause-gone
+returns-clause-gone g c = λ _.
+    subst (λ (x : LemmasState). DeletesOne x.formula x.steps c.delete_clause.new.log.steps c.args.lits.now) c.self.view_is (c.in_ok-delete_clause.ensures.deletes c.args.lits.now c.in-Some.ensures.has)

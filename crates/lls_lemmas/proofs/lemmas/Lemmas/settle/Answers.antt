@@ -1,10 +1,17 @@
-use Rattle.std.proofs.Common.{◌≡◌, true, false, sym, ap, ◌∙◌, subst}
+use Rattle.std.proofs.Common.{◌≡◌, ℕ, List, true, false, sym, ap, ◌∙◌, subst}
 use Rattle.std.specs.Prelude.{Ok}
 use Rattle.lls_prooflog.specs.Spent.{IsGood}
+use Rattle.lls_store.specs.Clauses.{LiveClause}
+use Rattle.lls_lemmas.specs.declared.index.Index.{Index}
+use Rattle.lls_lemmas.specs.Indexed.{IsFound}
 use Rattle.lls_lemmas.specs.Lemmas.{AddsUnit, AddsUnits, GoesOnWell, HasNoFault, LemmasState}
 use Rattle.lls_lemmas.proofs.Loaded.{engine_going}
 use Rattle.lls_lemmas.proofs.Logs.{each-then, well-by_propagation, well-none}
 use Rattle.lls_lemmas.proofs.lemmas.Lemmas.settle.Goals as goal
+
+-- where the trail has as many variables
+found_of : (vars vars' : ℕ) (index : Index) (live : List LiveClause) → vars' ≡ vars → IsFound vars index live → IsFound vars' index live
+found_of vars vars' index live same found = subst (λ v. IsFound v index live) (sym same) found
 
 pub invariant_of-self : goal.invariant_of-self
 invariant_of-self g c =
@@ -14,11 +21,12 @@ invariant_of-self g c =
     let old = c.self.inside.log.steps in
     let new = c.settle.new.log.steps in (
       e.tracked,
-      engine_going formula new (g.S.Store.state c.settle.new.store) c.settle.new.trail c.settle.new.units.ids.items c.settle.new.units.done c.settle.new.last c.self.inside.has_redundant c.self.inside.settled c.self.inside.refuted c.settle.new.gathering.marks.vars
+      engine_going formula new (g.S.Store.state c.settle.new.store) c.settle.new.trail c.settle.new.units.ids.items c.settle.new.index c.settle.new.units.done c.settle.new.last c.self.inside.has_redundant c.self.inside.settled c.self.inside.refuted c.settle.new.gathering.marks.vars
           c.if-self.false
           (each-then HasNoFault formula old new i.well (well-by_propagation formula old new e.grows.well))
           (λ none. each-then IsGood formula old new (i.good none) e.grows.well)
           (e.rest (λ is. let went = sym c.in_err-settled.was ∙ is in cc))
+          (found_of c.self.inside.trail.vars c.settle.new.trail.vars c.settle.new.index (g.S.Store.state c.settle.new.store).live e.trail_vars e.found)
           (λ is. let clash : false ≡ true = sym c.if-self-2.false ∙ is in absurd cc)
           e.vars,
     )
@@ -32,11 +40,12 @@ invariant_of-self-in-Open g c =
     let new = c.settle.new.log.steps in
     let went = c.in_ok-settled.was ∙ ap Ok c.in-Open.is in (
       e.tracked,
-      engine_going formula new (g.S.Store.state c.settle.new.store) c.settle.new.trail c.settle.new.units.ids.items c.settle.new.units.done c.settle.new.last c.self.inside.has_redundant true c.self.inside.refuted c.settle.new.gathering.marks.vars
+      engine_going formula new (g.S.Store.state c.settle.new.store) c.settle.new.trail c.settle.new.units.ids.items c.settle.new.index c.settle.new.units.done c.settle.new.last c.self.inside.has_redundant true c.self.inside.refuted c.settle.new.gathering.marks.vars
           c.if-self.false
           (each-then HasNoFault formula old new i.well (well-by_propagation formula old new e.grows.well))
           (λ none. each-then IsGood formula old new (i.good none) e.grows.well)
           (e.rest (λ is. let clash = sym went ∙ is in cc))
+          (found_of c.self.inside.trail.vars c.settle.new.trail.vars c.settle.new.index (g.S.Store.state c.settle.new.store).live e.trail_vars e.found)
           (λ _. e.is_open went)
           e.vars,
     )
@@ -52,9 +61,11 @@ invariant_of-self-in-Refuted g c =
       record {
         well = each-then HasNoFault formula old new i.well (well-by_propagation formula old new e.grows.well);
         good = λ none. each-then IsGood formula old new (i.good none) e.grows.well;
+        rising = e.rising;
         ends = λ _. e.ends (c.in_ok-settled.was ∙ ap Ok c.in-Refuted.is);
         unsatisfiable = λ _. e.unsatisfiable (c.in_ok-settled.was ∙ ap Ok c.in-Refuted.is);
         rest = λ is. absurd cc;
+        found = λ is. absurd cc;
         open_ = λ is settled. absurd cc;
         marks_vars = e.vars;
       },
