@@ -12,6 +12,8 @@ import ending
 
 CELL = "1\n\n1\n"
 TWO = "p cnf 1 2\n-1 0\n1 0\n"
+UNIT = "p cnf 2 1\n1 0\n"
+SOME = "p cnf 2 1\n1 2 0\n"
 
 
 def names():
@@ -33,31 +35,35 @@ def unknown():
         yield "*"
 
 
-# The file, what is in it, and the words.
+# The file, what is in it, and the command.
 INPUTS = (
-    ("hints", lambda: "5 0" + " 1" * 32_000_000 + " 0\n", "check cell.lls hints"),
-    ("digits", lambda: "5 0 " + "1" * 64_000_000 + "\n", "check cell.lls digits"),
-    ("additions", lambda: "".join(f"{number} 1 0 1 0\n" for number in range(5, 4_000_005)), "check cell.lls additions"),
-    ("chain", lambda: "".join(f"{number} 1 0 {number - 1} 0\n" for number in range(3, 4_000_003)) + "4000003 0 4000002 1 0\n", "trim two.cnf chain out"),
-    ("looked", lambda: "3 0" + " 2" * 32_000_000 + " 1 0\n", "trim two.cnf looked out"),
-    ("variables.cnf", lambda: "p cnf 16777216 0\n", "sat variables.cnf proof"),
-    ("empty.cnf", lambda: "p cnf 1 32000000\n" + "0\n" * 32_000_000, "sat empty.cnf proof"),
-    ("units.cnf", lambda: "p cnf 1 16000000\n" + "1 0\n" * 16_000_000, "sat units.cnf proof"),
-    ("wide.cnf", lambda: "p cnf 1 1\n" + "1 " * 32_000_000 + "0\n", "sat wide.cnf proof"),
-    ("names.lls", lambda: grid(2, 64, 64, names()), "search names.lls proof --budget 1"),
-    ("cells.lls", lambda: grid(2, 64, 64, unknown()), "search cells.lls proof --live 0:244- --rule B1357/S1357 --formula 1 --budget 1"),
-    ("long.lls", lambda: grid(64, 11, 11, unknown()), "search long.lls proof --period 4,1,1 --symmetry D8 --live 0:1-121 --differ 0,1 --budget 1"),
+    ("hints", lambda: "5 0" + " 1" * 32_000_000 + " 0\n", "lls check cell.lls hints"),
+    ("digits", lambda: "5 0 " + "1" * 64_000_000 + "\n", "lls check cell.lls digits"),
+    ("additions", lambda: "".join(f"{number} 1 0 1 0\n" for number in range(5, 4_000_005)), "lls check cell.lls additions"),
+    ("chain", lambda: "".join(f"{number} 1 0 {number - 1} 0\n" for number in range(3, 4_000_003)) + "4000003 0 4000002 1 0\n", "lls trim two.cnf chain out"),
+    ("looked", lambda: "3 0" + " 2" * 32_000_000 + " 1 0\n", "lls trim two.cnf looked out"),
+    ("variables.cnf", lambda: "p cnf 16777216 0\n", "lls sat variables.cnf proof"),
+    ("empty.cnf", lambda: "p cnf 1 32000000\n" + "0\n" * 32_000_000, "lls sat empty.cnf proof"),
+    ("units.cnf", lambda: "p cnf 1 16000000\n" + "1 0\n" * 16_000_000, "lls sat units.cnf proof"),
+    ("wide.cnf", lambda: "p cnf 1 1\n" + "1 " * 32_000_000 + "0\n", "lls sat wide.cnf proof"),
+    ("names.lls", lambda: grid(2, 64, 64, names()), "lls search names.lls proof --budget 1"),
+    ("cells.lls", lambda: grid(2, 64, 64, unknown()), "lls search cells.lls proof --live 0:244- --rule B1357/S1357 --formula 1 --budget 1"),
+    # Each of the lemmas stands, since 1 holds for good. None of the deletions names one.
+    ("unknown.drat", lambda: "".join(f"1 {v} 0\n" for v in range(3, 100_003)) + "".join(f"d 2 {v} 0\n" for v in range(3, 100_003)), "lls-hints unit.cnf unknown.drat out"),
+    # Each lemma stands by its first literal, which is new, and is deleted at once.
+    ("pivots.drat", lambda: "".join(f"{v} 2 0\nd {v} 2 0\n" for v in range(3, 100_003)), "lls-hints some.cnf pivots.drat out"),
+    ("long.lls", lambda: grid(64, 11, 11, unknown()), "lls search long.lls proof --period 4,1,1 --symmetry D8 --live 0:1-121 --differ 0,1 --budget 1"),
 )
 
 
 def main():
     (folder,) = ending.words(__doc__, "FOLDER")
     os.makedirs(folder, exist_ok=True)
-    for name, text, _ in (("cell.lls", lambda: CELL, None), ("two.cnf", lambda: TWO, None), *INPUTS):
+    for name, text, _ in (("cell.lls", lambda: CELL, None), ("two.cnf", lambda: TWO, None), ("unit.cnf", lambda: UNIT, None), ("some.cnf", lambda: SOME, None), *INPUTS):
         with open(f"{folder}/{name}", "w", encoding="ascii") as file:
             file.write(text())
-    for _, _, words in INPUTS:
-        print(f"lls {words}")
+    for _, _, command in INPUTS:
+        print(command)
     return 0
 
 

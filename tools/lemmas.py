@@ -31,9 +31,12 @@ def forced(clauses, true):
             return true
 
 
+def is_tautology(clause):
+    return any(-literal in clause for literal in clause)
+
+
 def is_implied(clauses, lemma):
-    negated = {-literal for literal in lemma}
-    return any(-literal in negated for literal in negated) or forced(clauses, negated) is None
+    return is_tautology(lemma) or forced(clauses, {-literal for literal in lemma}) is None
 
 
 def stands_by_first(clauses, lemma):
@@ -46,8 +49,7 @@ def stands_by_first(clauses, lemma):
             rest = {-literal for literal in clause if literal != -lemma[0]}
             if any(literal in lemma for literal in rest):
                 continue
-            # A clause with a literal beside its negation stands against the lemma, whatever follows.
-            if any(-literal in clause for literal in clause) or forced(clauses, negated | rest) is not None:
+            if forced(clauses, negated | rest) is not None:
                 return False
     return True
 
@@ -57,8 +59,8 @@ def stands(clauses, lemma):
 
 
 def answer(formula, lemmas):
-    """What comes of the lemmas, each a pair of whether it is deleted and its literals."""
-    live, units = [frozenset(clause) for clause in formula], set()
+    """What comes of the lemmas, each a pair of whether it is deleted and its literals. A clause that holds for any values is never live."""
+    live, units = [frozenset(clause) for clause in formula if not is_tautology(clause)], set()
     for line, (is_deletion, lemma) in enumerate(lemmas, 1):
         clauses = live + [frozenset({unit}) for unit in units]
         at_zero = forced(clauses, ())
@@ -70,7 +72,7 @@ def answer(formula, lemmas):
             live.remove(frozenset(lemma))
         elif not is_deletion and not stands(clauses, lemma):
             return f"refused: NotImplied {line}"
-        elif not is_deletion and not any(-literal in lemma for literal in lemma):
+        elif not is_deletion and not is_tautology(lemma):
             live.append(frozenset(lemma))
     return "hinted" if forced(live + [frozenset({unit}) for unit in units], ()) is None else "refused: NoEmpty"
 
@@ -84,7 +86,7 @@ def drawn(draw):
     """A formula of few variables, most of them without a solution, and lemmas most of which stand."""
     variables = count = draw.randint(2, 4)
     formula = [drawn_clause(draw, count, 1) for _ in range(draw.randint(3, 4 * count))]
-    live, lemmas = list(formula), []
+    live, lemmas = [clause for clause in formula if not is_tautology(clause)], []
     for _ in range(draw.randint(0, 12)):
         if live and draw.random() < 0.2:
             gone = draw.choice(live)
@@ -98,7 +100,7 @@ def drawn(draw):
                 lemma = [draw.choice((count, -count)), *lemma[:2]]
             if stands(live, lemma) or draw.random() < 0.05:
                 lemmas.append((False, lemma))
-                live.append(lemma)
+                live += [] if is_tautology(lemma) else [lemma]
     if draw.random() < 0.5:
         lemmas.append((False, []))
     return variables, formula, lemmas
@@ -106,7 +108,7 @@ def drawn(draw):
 
 def pigeons(holes):
     """That one more pigeon than holes doesn't fit, and a short proof that leaves out one hole and one pigeon after another (Cook, A short
-    proof of the pigeon hole principle using extended resolution, 1976)."""
+    proof of the pigeon hole principle using extended resolution, 1976), with lemmas that nothing rests on, and deletions."""
     names = {}
 
     def sits(level, pigeon, hole):
@@ -119,14 +121,17 @@ def pigeons(holes):
         # In the smaller question a pigeon sits in a hole where it did, or where it sat in the last hole and the last pigeon here.
         for pigeon, hole in itertools.product(range(k), range(k - 1)):
             new, old, aside, last = sits(k - 1, pigeon, hole), sits(k, pigeon, hole), sits(k, pigeon, k - 1), sits(k, k, hole)
-            proof += [[new, -old], [new, -aside, -last], [-new, old, aside], [-new, old, last]]
-        proof += [[sits(k - 1, pigeon, hole) for hole in range(k - 1)] for pigeon in range(k)]
+            proof += [(False, lemma) for lemma in ([new, -old], [new, -aside, -last], [-new, old, aside], [-new, old, last])]
+            # Nothing rests on this one.
+            proof.append((False, [sits("aside", k, (pigeon, hole)), -new]))
+        proof += [(False, [sits(k - 1, pigeon, hole) for hole in range(k - 1)]) for pigeon in range(k)]
         for hole, b in itertools.product(range(k - 1), range(k)):
             for a in range(b):
                 both = [-sits(k - 1, a, hole), -sits(k - 1, b, hole)]
-                proof += [[*both, sits(k, a, hole)], both]
-    proof.append([])
-    return count, formula, [(False, lemma) for lemma in proof]
+                step = [*both, sits(k, a, hole)]
+                proof += [(False, step), (False, both), (True, step)]
+    proof.append((False, []))
+    return count, formula, proof
 
 
 def number_in_bytes(number):

@@ -13,6 +13,7 @@ use Rattle.lls_prooflog.specs.Steps.{after, are_accepted, is_empty_addition}
 use Rattle.lls_prooflog.specs.UnitWalk.{numbered}
 use Rattle.lls_lrat.proofs.Logs.{accepted_log, verdict_of_lines}
 use Rattle.lls_lemmas.specs.Lemmas.{EndsEmpty, HasNoFault}
+use Rattle.lls_lemmas.specs.Rest.{IsRest}
 use Rattle.lls_hinting.specs.declared.outcome.Hints.{Hints}
 use Rattle.lls_hinting.specs.Behind.{Progress}
 use Rattle.lls_hinting.specs.Hinted.{AreHints, AreTrimmed, RestOnRat, hints_text}
@@ -38,7 +39,7 @@ accepted_at_end formula steps good e =
 -- what is printed of steps that are accepted, and were kept of others
 pub are_hints : (formula : Cnf) (now : Progress) (steps : List Step) (given : ℕ) (result : Result Hints Memory) → given ≡ count_by is_addition now.steps → count_by is_addition steps ≤ count_by is_addition now.steps
     → IfOk result (λ hints. hints.bytes.items ≡ log_text steps) → IfOk result (λ hints. ReadsAs hints.bytes.items steps)
-    → are_accepted (numbered formula.clauses) steps ≡ true → IsUnsatisfiable formula → AreTrimmed formula now.steps steps ⊎ ((steps ≡ now.steps) × RestOnRat formula steps)
+    → are_accepted (numbered formula.clauses) steps ≡ true → IsUnsatisfiable formula → AreTrimmed formula now.steps steps ⊎ (IsRest (length formula.clauses) now.steps steps × RestOnRat formula now.steps)
     → IfOk result (λ hints. hints.text.items ≡ hints_text (count_by is_addition steps) given now.reasons now.unknown) → IfOk result (λ hints. AreHints formula now hints.bytes.items hints.text.items)
 are_hints formula now steps given (Ok hints) given_is fewer text read is_accepted unsatisfiable trimmed said = record {
   steps = steps;

@@ -23,7 +23,7 @@ use Rattle.lls_hinting.specs.declared.judging.Stand.{Stand}
 use Rattle.lls_hinting.specs.declared.judging.Stand.TheVariants.{Going, Refuted, NotImplied}
 use Rattle.lls_hinting.specs.declared.tally.Tally.{Tally}
 use Rattle.lls_hinting.specs.Asked.{proof_limit}
-use Rattle.lls_hinting.specs.Behind.{Grows, IsBehind, Progress, TakesAll, progress_start}
+use Rattle.lls_hinting.specs.Behind.{IsBehind, Progress, TakesAll, progress_start}
 use Rattle.lls_hinting.specs.Hinted.{AreHints, IsHinted}
 use Rattle.lls_hinting.specs.Judging.{HasGreater, IsJudged, IsProved, JudgeSays, StandSays, Surveyed, are_within, progress}
 use Rattle.lls_hinting.specs.Place.{Ended, EndsBehind, FaultBehind, Faulty, IsTooLong, Passed, Passes, Place, with_front}

@@ -1,5 +1,5 @@
 -- A proof with hints.
-use Rattle.std.specs.Prelude.{◌≡◌, ◌≤◌, ◌⊎◌, ◌++◌, ℕ, true, List, codes, decimal}
+use Rattle.std.specs.Prelude.{◌≡◌, ◌≤◌, ◌⊎◌, ◌++◌, ℕ, true, List, length, codes, decimal}
 use Rattle.std.specs.List.{count_by, list_all}
 use Rattle.lls_lit.specs.Formula.{Cnf, IsUnsatisfiable}
 use Rattle.lls_prooflog.specs.declared.step.Step.{Step}
@@ -12,6 +12,7 @@ use Rattle.lls_trim.specs.Placed.{steps_of_log}
 use Rattle.lls_trim.specs.Trimmed.{IsTrimmed}
 use Rattle.lls_drat.specs.Lemma.{NumberedLemma}
 use Rattle.lls_lemmas.specs.Lemmas.{EndsEmpty}
+use Rattle.lls_lemmas.specs.Rest.{IsRest}
 use Rattle.lls_hinting.specs.Asked.{Asked}
 use Rattle.lls_hinting.specs.Behind.{IsBehind, Progress}
 
@@ -36,13 +37,14 @@ pub record IsHintsText (now : Progress) (steps : List Step) (text : List ℕ) : 
   pub fewer : count_by is_addition steps ≤ count_by is_addition now.steps
   pub text_is : text ≡ hints_text (count_by is_addition steps) (count_by is_addition now.steps) now.reasons now.unknown
 
--- the bytes are the text of steps that the checker accepts, and the other text says how many they are, and what was passed over. They are trimmed, but where
--- the empty clause rests on a step by its first literal: then they are all. So no assignment satisfies the formula
+-- the bytes are the text of steps that the checker accepts, and the other text says how many they are, and what was passed over. They are what the empty
+-- clause rests on: numbered anew and without a deletion, but where it rests on a step by its first literal, of which deletions and ids are a part. So no
+-- assignment satisfies the formula
 pub record AreHints (formula : Cnf) (now : Progress) (bytes said_of_them : List ℕ) : Type 0 where
   pub steps : List Step
   pub text : bytes ≡ log_text steps
   pub accepted : verdict formula bytes ≡ Accepted
-  pub trimmed : AreTrimmed formula now.steps steps ⊎ ((steps ≡ now.steps) × RestOnRat formula steps)
+  pub trimmed : AreTrimmed formula now.steps steps ⊎ (IsRest (length formula.clauses) now.steps steps × RestOnRat formula now.steps)
   pub unsatisfiable : IsUnsatisfiable formula
   pub said : IsHintsText now steps said_of_them
 

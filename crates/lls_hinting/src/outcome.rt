@@ -1,9 +1,9 @@
 // What the proof of a formula comes to: a proof with hints, or why there is none.
-ghost use Rattle.std.specs.Prelude.{◌≡◌, ◌≤◌, [], IfOk, count_by};
+ghost use Rattle.std.specs.Prelude.{◌≡◌, ◌≤◌, [], length, IfOk, count_by};
 ghost use Rattle.lls_lit.specs.Formula.{IsUnsatisfiable};
 ghost use Rattle.lls_prooflog.specs.Log.{ReadsAs, log_text};
 ghost use Rattle.lls_prooflog.specs.Spent.{EachStep, IsGood, is_addition, log_start};
-ghost use Rattle.lls_lemmas.specs.Lemmas.{Begins, EndsEmpty, GoesOnWell, HasNoFault, KeepsPlain};
+ghost use Rattle.lls_lemmas.specs.Lemmas.{AreRising, Begins, EndsEmpty, GoesOnWell, HasNoFault, KeepsPlain};
 ghost use Rattle.lls_hinting.specs.Hinted.{AreHints, hints_text};
 ghost use Rattle.lls_hinting.specs.Judging.{IsProved, IsResting, progress};
 ghost use Rattle.lls_hinting.specs.Moment.{files_at, shelf_at};
@@ -20,7 +20,7 @@ use crate::tally::Tally;
 use lls_base::{Memory, Name, Shelf};
 use lls_cnf::Formula;
 use lls_drat::Form;
-use lls_lemmas::Lemmas;
+use lls_lemmas::{Lemmas, keep_needed};
 use lls_lit::Var;
 use lls_lrat::CheckError;
 use lls_prooflog::{Log, print_log};
@@ -172,9 +172,11 @@ fn trimmed(alloc: Global, formula: &Formula, log: Log, tally: Tally) -> Result<H
     }
 }
 
-// What the empty clause of a log rests on, and what is said of it. Where that has a step by its first literal, nothing is left out.
+// What the empty clause of a log rests on, and what is said of it. Where that has a step by its first literal, what is left of the log has the
+// ids that it had, and deletions.
 fn hints_of(alloc: Global, formula: &Formula, log: &Log, tally: Tally) -> Result<Hints, Memory>
     requires well { EachStep HasNoFault (log_start formula.now) log.now.steps }
+    requires rising { AreRising (length formula.now.clauses) log.now.steps }
     requires ends { EndsEmpty log.now.steps }
     requires unsatisfiable { IsUnsatisfiable formula.now }
     ensures { IfOk result (λ hints. AreHints formula.now (progress log.now.steps tally) hints.bytes.items hints.text.items) }
@@ -184,7 +186,10 @@ fn hints_of(alloc: Global, formula: &Formula, log: &Log, tally: Tally) -> Result
         Ok(trimming) => printed(alloc, &trimming.log, given, tally),
         Err(TrimError::Memory) => Err(Memory),
         Err(TrimError::Refused(_)) => unreachable!(),
-        Err(TrimError::RatStep(_)) => printed(alloc, log, given, tally),
+        Err(TrimError::RatStep(_)) => {
+            let rest = keep_needed(alloc, formula, log)?;
+            printed(alloc, &rest, given, tally)
+        }
     }
 }
 

@@ -1,6 +1,6 @@
 -- What keeps a lemma from being added, as it is seen from the log.
-use Rattle.std.proofs.Common.{◌≡◌, ℕ, List, [], Some, ap, ◌∙◌, inl, inr}
-use Rattle.std.specs.Prelude.{ℤ, ◌⊎◌, Contains, slice_get}
+use Rattle.std.proofs.Common.{◌≡◌, ℕ, List, [], Some}
+use Rattle.std.specs.Prelude.{ℤ, slice_get}
 use Rattle.lls_lit.specs.Formula.{Cnf}
 use Rattle.lls_prooflog.specs.Rat.{groups_of, rat_fault}
 use Rattle.lls_prooflog.specs.Spent.{live_after}

@@ -1,8 +1,6 @@
 -- Clauses that hold for any values, as they are taken out.
-use Rattle.std.proofs.Common.{◌≡◌, ◌≢◌, ℕ, Bool, true, false, not, ◌||◌, cond, List, [], ◌∷◌, ◌++◌, Some, refl, sym, ap, subst, ◌∙◌, inl, inr}
-use Rattle.std.specs.Prelude.{ℤ, ◌⊎◌, ◌==◌, Contains}
-use Rattle.std.specs.FinSet as set
-use Rattle.std.specs.Ordering.{int_cmp}
+use Rattle.std.proofs.Common.{◌≡◌, ◌≢◌, ℕ, Bool, true, false, not, ◌||◌, cond, List, [], ◌∷◌, Some, refl, sym, ap, subst, ◌∙◌, inl, inr}
+use Rattle.std.specs.Prelude.{ℤ, ◌==◌, Contains}
 use Rattle.std.proofs.lemmas.Bool.Decides.{Decides-eqb}
 use Rattle.std.proofs.lemmas.Option.{same_Some}
 use Rattle.lls_lit.specs.Formula.{Clause, Cnf}

@@ -21,3 +21,5 @@ pub mod Addable
 pub mod Hashing
 pub mod Indexing
 pub mod Dropping
+pub mod RestMarks
+pub mod RestSteps

@@ -7,3 +7,4 @@ pub mod Pivot
 pub mod Engine
 pub mod Finding
 pub mod Indexed
+pub mod Rest

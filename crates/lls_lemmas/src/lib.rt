@@ -10,6 +10,7 @@ mod deleting;
 mod finding;
 mod gathering;
 mod index;
+mod keeping;
 mod lemmas;
 mod loading;
 mod logging;
@@ -21,4 +22,5 @@ mod trying;
 mod units;
 
 pub use answers::{Added, Deleted};
+pub use keeping::keep_needed;
 pub use lemmas::Lemmas;

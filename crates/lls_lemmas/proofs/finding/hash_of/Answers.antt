@@ -1,4 +1,4 @@
-use Rattle.std.proofs.Common.{◌≡◌, ◌%◌, ◌/◌, ◌^◌, ◌+◌, ℕ, List, true, false, not, refl, sym, ap, subst, ◌∙◌, take, arith}
+use Rattle.std.proofs.Common.{◌≡◌, ◌%◌, ◌/◌, ◌^◌, ◌+◌, List, true, refl, sym, ap, ◌∙◌, take}
 use Rattle.std.specs.Prelude.{ℤ}
 use Rattle.std.specs.FinSet as set
 use Rattle.std.specs.Ordering.{int_cmp}

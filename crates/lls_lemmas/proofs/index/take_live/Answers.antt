@@ -2,7 +2,7 @@ use Rattle.std.proofs.Common.{◌≡◌, ℕ, ◌+◌, ◌∷◌, ◌++◌, [], 
 use Rattle.std.specs.Prelude.{Contains, IsSome}
 use Rattle.std.proofs.lemmas.List.{take_all, take_more}
 use Rattle.std.proofs.lemmas.List.Elements.{Contains-append_left, Contains-push, Contains-push_cases}
-use Rattle.lls_store.specs.Clauses.{LiveClause, clause_numbered}
+use Rattle.lls_store.specs.Clauses.{clause_numbered}
 use Rattle.lls_analyse.proofs.Gathering.{nothing_there}
 use Rattle.lls_lemmas.proofs.index.take_live.Goals.{then-is_live+in_ok-push, else-is_live}
 use Rattle.lls_lemmas.proofs.index.take_live.Goals as goal

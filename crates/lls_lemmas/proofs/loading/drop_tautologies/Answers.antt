@@ -1,4 +1,4 @@
-use Rattle.std.proofs.Common.{◌≡◌, ◌<◌, ℕ, true, List, [], Option, Some, None, refl, sym, ap, subst, ◌∙◌, arith}
+use Rattle.std.proofs.Common.{◌≡◌, ◌<◌, ℕ, List, [], Option, Some, None, refl, sym, ap, subst, ◌∙◌, arith}
 use Rattle.std.specs.Prelude.{Contains, slice_index_or}
 use Rattle.std.proofs.lemmas.List.Elements.{All-contains}
 use Rattle.lls_prooflog.specs.Log.{Logged}
@@ -9,7 +9,6 @@ use Rattle.lls_store.specs.Removal.{IsNoReason, all_but}
 use Rattle.lls_store.specs.Store.{StoreState}
 use Rattle.lls_store.proofs.Live.{clause_numbered-contained}
 use Rattle.lls_analyse.proofs.LiveClauses.{IsSome-from}
-use Rattle.lls_lemmas.specs.Finding.{IsFree}
 use Rattle.lls_lemmas.specs.Lemmas.{DropsTautology, GoesOnBy, KeepsPlain}
 use Rattle.lls_lemmas.specs.Units.{IsAtRest}
 use Rattle.lls_lemmas.proofs.Dropping.{drops_one, keeps_others, not_left}

@@ -1,10 +1,10 @@
-use Rattle.std.proofs.Common.{◌≡◌, ℕ, ◌<◌, ◌+◌, ◌∷◌, ◌++◌, [], List, get_or, sym, ap, subst, ◌∙◌}
-use Rattle.std.specs.Prelude.{Contains, take}
+use Rattle.std.proofs.Common.{◌≡◌, ℕ, ◌<◌, List, get_or, sym, subst}
+use Rattle.std.specs.Prelude.{take}
 use Rattle.std.proofs.lemmas.List.{get_or_default, take_all}
 use Rattle.lls_store.specs.Store.{StoreState}
 use Rattle.lls_analyse.proofs.LiveClauses.{number_given}
 use Rattle.lls_lemmas.specs.Pivot.{AreGroups}
-use Rattle.lls_lemmas.proofs.Groups.{groups_add, groups_none}
+use Rattle.lls_lemmas.proofs.Groups.{groups_add}
 use Rattle.lls_lemmas.proofs.resolving.try_pivot.Goals as goal
 
 pub try_against-requires-clause-given : goal.try_against-requires-clause-given

@@ -1,4 +1,4 @@
-use Rattle.std.proofs.Common.{ℕ, List, Vec, Global, sym, ap, ◌∙◌, subst}
+use Rattle.std.proofs.Common.{ℕ, List, Vec, Global, sym, ap, subst}
 use Rattle.std.specs.Prelude.{Contains}
 use Rattle.lls_lemmas.proofs.index.Index.drop_dead.Goals as goal
 

@@ -1,5 +1,5 @@
 use Rattle.std.proofs.Common.{◌≡◌, ◌≢◌, List, rules, refl, sym, ap, ◌∙◌, subst, inl, inr}
-use Rattle.std.specs.Prelude.{◌⊎◌, Ok}
+use Rattle.std.specs.Prelude.{Ok}
 use Rattle.lls_lit.specs.Formula.{Clause, Cnf, IsUnsatisfiable}
 use Rattle.lls_prooflog.specs.Spent.{LogState}
 use Rattle.lls_prooflog.specs.declared.step.Step.{Step}

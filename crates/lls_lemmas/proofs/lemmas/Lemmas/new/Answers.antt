@@ -1,7 +1,7 @@
 use Rattle.std.proofs.Common.{◌≡◌, [], ℕ, false, List, Option, refl, sym, ap, ◌∙◌, subst}
 use Rattle.lls_lit.specs.Marked.{Marked}
 use Rattle.lls_prooflog.specs.Log.{Logged}
-use Rattle.lls_prooflog.specs.Spent.{EachStep, IsGood, log_start}
+use Rattle.lls_prooflog.specs.Spent.{IsGood}
 use Rattle.lls_prooflog.specs.declared.step.Step.{Step}
 use Rattle.lls_store.specs.Trail.{TrailState}
 use Rattle.lls_lemmas.specs.Indexed.{Indexes}
