@@ -1,15 +1,11 @@
-// Command lines over a shelf and sinks in memory.
+// Command lines over a shelf and sinks in memory: what a worked row over the program can't show, since calls fail, or a file is long.
 mod checks;
-mod faults;
-mod further;
-mod hostile;
 mod long_shelf;
 mod making;
 mod outside;
 mod pieces;
 mod places;
 mod searches;
-mod trims;
 
 use lls_base::{MemShelf, MemSink, Name, Plan};
 use lls_cli::run::run;

@@ -1,4 +1,4 @@
-// Texts in DIMACS CNF: the formula that each writes, printed, or its first fault.
+// Texts in DIMACS CNF: the formula that each writes, printed.
 use lls_cnf::{MOST_DIMACS_BYTES, print_dimacs, read_dimacs};
 use std::alloc::Global;
 use std::process::Abort;
@@ -51,69 +51,6 @@ fn formulas_are_read_and_printed(rt: HostRuntime) -> Result<(), Fail> {
         (
             "p cnf 16777216 1\n-16777216 0\n",
             "p cnf 16777216 1\n-16777216 0\n",
-        ),
-    ];
-    compare(&rt, rt.alloc(), &rows)
-}
-
-#[test]
-fn headers_are_refused(rt: HostRuntime) -> Result<(), Fail> {
-    let rows = [
-        ("", "NoHeader"),
-        ("\n \nc p cnf 1 0\n", "NoHeader"),
-        ("1 2 0\n", "NoHeader"),
-        ("pcnf 1 0\n", "NoHeader"),
-        ("% \n", "NoHeader"),
-        ("p cnf 2\n", "BadHeader 1"),
-        ("c\n\np cnf 2 1 0\n", "BadHeader 3"),
-        ("p dnf 2 1\n", "BadHeader 1"),
-        ("p cnf -2 1\n", "BadHeader 1"),
-        ("p cnf 2 0000000000000000001\n", "BadHeader 1"),
-        ("p cnf 16777217 x\n", "BadHeader 1"),
-        ("p cnf 16777217 0\n", "TooManyVariables 16777217"),
-        (
-            "p cnf 999999999999999999 0\n",
-            "TooManyVariables 999999999999999999",
-        ),
-    ];
-    compare(&rt, rt.alloc(), &rows)
-}
-
-#[test]
-fn words_are_refused(rt: HostRuntime) -> Result<(), Fail> {
-    let rows = [
-        ("p cnf 2 1\n1 -0 0\n", "BadWord 2"),
-        ("p cnf 2 1\n1 -00 0\n", "BadWord 2"),
-        ("p cnf 2 1\n\n+1 0\n", "BadWord 3"),
-        ("p cnf 2 1\n1 - 0\n", "BadWord 2"),
-        ("p cnf 2 1\n1\r 0\n", "BadWord 2"),
-        ("p cnf 2 1\n0000000000000000001 0\n", "BadWord 2"),
-        ("p cnf 2 1\np cnf 2 1\n1 0\n", "BadWord 2"),
-        ("p cnf 2 1\n1 3 x 0\n", "LiteralRange 2 3"),
-        ("p cnf 2 1\n1 x 3 0\n", "BadWord 2"),
-        ("p cnf 2 1\n1\n-3 0\n", "LiteralRange 3 -3"),
-        (
-            "p cnf 0 1\n-999999999999999999 0\n",
-            "LiteralRange 2 -999999999999999999",
-        ),
-        ("p cnf 2 1\n% \n", "Percent 2"),
-        ("p cnf 2 9\n1 0\n%\n0\n", "Percent 3"),
-        ("p cnf 2 9\n1 %2 0\n", "Percent 2"),
-    ];
-    compare(&rt, rt.alloc(), &rows)
-}
-
-#[test]
-fn ends_are_refused(rt: HostRuntime) -> Result<(), Fail> {
-    let rows = [
-        ("p cnf 2 3\n1 2 0\n-1 0\n", "ClauseCount 3 2"),
-        ("p cnf 2 3\n1 2 0\n-1", "Unended"),
-        ("p cnf 2 1\n1 2 0\n-1\n", "Unended"),
-        ("p cnf 2 1\n", "ClauseCount 1 0"),
-        ("p cnf 2 0\n1 0\n", "ClauseCount 0 1"),
-        (
-            "p cnf 2 999999999999999999\n",
-            "ClauseCount 999999999999999999 0",
         ),
     ];
     compare(&rt, rt.alloc(), &rows)

@@ -19,8 +19,6 @@ mod encode;
 #[cfg(test)]
 mod formulas;
 #[cfg(test)]
-mod least;
-#[cfg(test)]
 mod lrat;
 #[cfg(test)]
 mod lrat_held;

@@ -1,4 +1,5 @@
-// Worked rows: texts with their canonical forms and faults, classes with their sizes, published rules.
+// Classes with their sizes, and successors, worked by hand. Texts with their canonical forms and faults are compared with worked rows over
+// the program.
 use lls_hensel::{
     Class, PrintRuleError, RuleError, all_classes, class_at, class_of, is_isotropic, print_rule,
     read_rule,
@@ -8,60 +9,8 @@ use std::alloc::Global;
 use std::process::Abort;
 
 #[test]
-fn texts_are_read_and_printed(rt: HostRuntime) {
-    for (text, canonical) in [
-        ("b2-a/s12", "B2-a/S12"),
-        ("23/3", "B3/S23"),
-        ("B3S23", "B3/S23"),
-        ("/", "B/S"),
-        (
-            "B2ci3ai4c8/S02ae3eijkq4iz5ar6i7e",
-            "B2ci3ai4c8/S02ae3eijkq4iz5ar6i7e",
-        ),
-        ("b1ce2-acenk/S", "B12i/S"),
-        ("B2ace/S2-ace", "B2ace/S2ikn"),
-        ("B3/S23", "B3/S23"),
-        ("B36/S23", "B36/S23"),
-        ("B3678/S34678", "B3678/S34678"),
-        ("B2/S", "B2/S"),
-        ("B3/S2-i34q", "B3/S2-i34q"),
-        ("B35678/S5678", "B35678/S5678"),
-        ("B1357/S1357", "B1357/S1357"),
-        ("B3/S12345", "B3/S12345"),
-        ("B368/S245", "B368/S245"),
-        ("B3/S012345678", "B3/S012345678"),
-        ("B36/S125", "B36/S125"),
-    ] {
-        let rule = read_rule(text.as_bytes()).expect(&rt, text);
-        let printed = print_rule(rt.alloc(), &rule).expect(&rt, text);
-        assert!(rt; printed.as_slice() == canonical.as_bytes(), "{text}");
-    }
-}
-
-#[test]
-fn faults_have_their_columns(rt: HostRuntime) {
-    for (text, fault) in [
-        ("", RuleError::Empty),
-        ("B1k/S", RuleError::BadLetter(3)),
-        ("B33/S", RuleError::RepeatedDigit(3)),
-        ("B2aa/S", RuleError::RepeatedLetter(4)),
-        ("B2-/S", RuleError::NoLetters(3)),
-        ("B9/S", RuleError::Stray(2)),
-        ("B3", RuleError::Stray(3)),
-        ("B3/", RuleError::Stray(4)),
-        ("B/x", RuleError::Stray(3)),
-        ("B2-s/S", RuleError::NoLetters(3)),
-        ("2-s/", RuleError::BadLetter(3)),
-        ("B2c-a/S", RuleError::Stray(4)),
-        ("B0c/S", RuleError::BadLetter(3)),
-        ("a/3", RuleError::BadLetter(1)),
-        ("3/b", RuleError::BadLetter(3)),
-        ("B2A/S", RuleError::Stray(3)),
-        ("B3/S23/", RuleError::Stray(7)),
-        ("23", RuleError::Stray(3)),
-    ] {
-        assert!(rt; read_rule(text.as_bytes()) == Err(fault), "{text}");
-    }
+fn an_empty_text_is_no_rule(rt: HostRuntime) {
+    assert!(rt; read_rule(b"") == Err(RuleError::Empty));
 }
 
 #[test]

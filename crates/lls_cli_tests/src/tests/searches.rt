@@ -5,8 +5,6 @@ use std::alloc::Global;
 use std::process::Abort;
 use std::test::Fail;
 
-pub(super) const SQUARE: &str = "p cnf 2 4\n1 2 0\n1 -2 0\n-1 2 0\n-1 -2 0\n";
-
 // The problem without a solution, whose search fails at this call, with what the file of the proof then is.
 #[test]
 fn failures_of_a_search(rt: HostRuntime) -> Result<(), Fail> {

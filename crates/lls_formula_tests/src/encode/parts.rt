@@ -1,16 +1,18 @@
 // The parts of a formula around its transitions, put behind variables that aren't the problem's, and what a transition reads.
-ghost use Rattle.std.specs.Prelude.{IsTrue};
+ghost use Rattle.std.specs.Prelude.{◌↔◌, All, IfOk, IsTrue};
+ghost use Rattle.std.specs.Option.{ForSome};
+ghost use Rattle.lls_problem.specs.Bounds.{HasEnds};
+ghost use Rattle.lls_problem.specs.Problem.{IsPeriod};
 ghost use Rattle.lls_problem.specs.Solution.{IsFramed};
 
-use super::{bound, bounded, has_ends};
 use crate::formulas::assert_clauses;
 use lls_cnf::Formula;
 use lls_encode::{inputs, push_after, push_before};
-use lls_problem::{Demands, Edge, Problem, make_problem};
+use lls_problem::{Bound, Bounds, Demands, Edge, Problem, make_problem};
 use lls_rule::Rule;
 use lls_search_file::read_posed;
 use lls_transition::Place;
-use std::alloc::Global;
+use std::alloc::{AllocError, Global};
 use std::process::Abort;
 use std::test::Fail;
 
@@ -24,6 +26,43 @@ fn around(alloc: Global, problem: &Problem, vars: u32) -> Result<Formula, Fail> 
     push_before(alloc, &mut formula, problem)?;
     push_after(alloc, &mut formula, problem)?;
     Ok(formula)
+}
+
+// Whether the ends of a bound are within the limit.
+fn has_ends(bound: Bound) -> bool
+    ensures { IsTrue result ↔ HasEnds bound }
+{
+    if bound.low > Bound::MOST {
+        return false;
+    }
+    match bound.high {
+        Some(high) => high <= Bound::MOST,
+        None => true,
+    }
+}
+
+// The demands of two bounds.
+fn bounded(alloc: Global, edge: Edge, first: Bound, second: Bound) -> Result<Demands, AllocError>
+    requires first { HasEnds first }
+    requires second { HasEnds second }
+    ensures period { IfOk result (λ demands. ForSome demands.period IsPeriod) }
+    ensures bounds { IfOk result (λ demands. All HasEnds demands.bounds) }
+{
+    let mut bounds = Vec::new(alloc);
+    bounds.push(first)?;
+    bounds.push(second)?;
+    let mut demands = Demands::new(alloc, edge);
+    demands.bounds = Bounds::new(bounds);
+    Ok(demands)
+}
+
+// At least `low` and at most `high` live cells in generation t.
+fn bound(t: u32, low: u32, high: Option<u32>) -> Bound {
+    Bound {
+        generation: t,
+        low,
+        high,
+    }
 }
 
 // A problem with names, a bound, and two generations that differ.
