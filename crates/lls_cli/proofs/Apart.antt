@@ -9,36 +9,37 @@ use Rattle.lls_words.specs.declared.command.Command.TheVariants as commands
 use Rattle.lls_words.specs.declared.error.WordsError.{WordsError}
 use Rattle.lls_words.specs.declared.error.WordsError.TheVariants.{SameName}
 use Rattle.lls_words.specs.declared.job.Job.{Job}
-use Rattle.lls_words.specs.declared.job.Job.TheVariants as jobs
 use Rattle.lls_words.specs.Command.{command_of}
 use Rattle.lls_words.specs.Scan.{Operand, Given, scan}
 use Rattle.lls_words.specs.Values.{seed_in, size_in}
 use Rattle.lls_words.specs.Job.{checked_ends, defaults, job_of, job_of_command, job_with, names_apart, rule_at, settled, value_or}
+use Rattle.lls_cli.specs.Task.{tasked}
+use Rattle.lls_cli.specs.Question.{source_file}
+use Rattle.lls_cli.specs.declared.task.Task.{Task}
+use Rattle.lls_cli.specs.declared.task.Task.TheVariants as tasks
 
-abbrev pub IsApart : Job → Type 0
-IsApart (jobs.Search search_file proof rule demands form budget keep_all rle crew) = search_file ≢ proof
-IsApart (jobs.Sat formula proof budget keep_all) = formula ≢ proof
-IsApart (jobs.Make seed size search_file proof) = search_file ≢ proof
-IsApart (jobs.Least search_file proof rule demands form budget keep_all rle) = search_file ≢ proof
-IsApart (jobs.Loose search_file proof low high demands form budget keep_all rle) = search_file ≢ proof
-IsApart job = Unit {0}
+abbrev pub IsApart : Task → Type 0
+IsApart (tasks.Search source effort further) = source_file source ≢ effort.proof
+IsApart (tasks.Make seed size file effort) = file ≢ effort.proof
+IsApart (tasks.Least source form effort further) = source.file ≢ effort.proof
+IsApart task = Unit {0}
 
-abbrev pub AreApart : Result Job WordsError → Type 0
-AreApart (Ok job) = IsApart job
+abbrev pub AreApart : Result Task WordsError → Type 0
+AreApart (Ok task) = IsApart task
 AreApart (Err error) = Unit {0}
 
-through : {A : Type 0} (part : Result A WordsError) (more : A → Result Job WordsError) → ((x : A) → AreApart (more x)) → AreApart (and_then part more)
+through : {A : Type 0} (part : Result A WordsError) (more : A → Result Job WordsError) → ((x : A) → AreApart (tasked (more x))) → AreApart (tasked (and_then part more))
 through (Ok x) more all = all x
 through (Err error) more all = tt
 
-different : (a b : Operand) (more : List ℕ × List ℕ → Result Job WordsError) → (a.word ≢ b.word → AreApart (more (a.word, b.word))) → AreApart (and_then (names_apart a b) more)
+different : (a b : Operand) (more : List ℕ × List ℕ → Result Job WordsError) → (a.word ≢ b.word → AreApart (tasked (more (a.word, b.word)))) → AreApart (tasked (and_then (names_apart a b) more))
 different a b more all =
-    elim (bytes_eq a.word b.word) as (λ test. bytes_eq a.word b.word ≡ test → AreApart (and_then (if test then Err (SameName b.place) else Ok (a.word, b.word)) more)) [
+    elim (bytes_eq a.word b.word) as (λ test. bytes_eq a.word b.word ≡ test → AreApart (tasked (and_then (if test then Err (SameName b.place) else Ok (a.word, b.word)) more))) [
       | true ↦ λ same. tt
       | false ↦ λ differ. all (λ same. let equal = (bytes_eq-Decides a.word b.word).1 same in cc)
     ] refl
 
-apart_with : (command : Command) (operands : List Operand) (givens : List Given) → AreApart (job_with command operands givens)
+apart_with : (command : Command) (operands : List Operand) (givens : List Given) → AreApart (tasked (job_with command operands givens))
 apart_with commands.Check [] givens = tt
 apart_with commands.Check (a ∷ []) givens = tt
 apart_with commands.Check (a ∷ b ∷ []) givens = through (settled defaults givens) _ (λ s. tt)
@@ -91,11 +92,11 @@ apart_with commands.Trim (a ∷ b ∷ []) givens = tt
 apart_with commands.Trim (a ∷ b ∷ c ∷ []) givens = through (names_apart a c) _ (λ names. through (names_apart b c) _ (λ others. tt))
 apart_with commands.Trim (a ∷ b ∷ c ∷ more ∷ rest) givens = tt
 
-apart_command : (command : Option Command) (words : List (List ℕ)) → AreApart (job_of_command command words)
+apart_command : (command : Option Command) (words : List (List ℕ)) → AreApart (tasked (job_of_command command words))
 apart_command None words = tt
 apart_command (Some command) words = through (scan command words) _ (λ s. apart_with command s.operands s.givens)
 
--- the job of any words
-pub apart : (words : List (List ℕ)) → AreApart (job_of words)
+-- the task of any words
+pub apart : (words : List (List ℕ)) → AreApart (tasked (job_of words))
 apart [] = tt
 apart (name ∷ words) = apart_command (command_of name) words

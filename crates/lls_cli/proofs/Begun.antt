@@ -5,7 +5,7 @@ use Rattle.std.specs.Option.{option_map}
 use Rattle.std.proofs.lemmas.List.{take_all}
 use Rattle.lls_base.specs.Shelf.{Files}
 use Rattle.lls_words.specs.declared.error.WordsError.{WordsError}
-use Rattle.lls_words.specs.declared.job.Job.{Job}
+use Rattle.lls_cli.specs.declared.task.Task.{Task}
 use Rattle.lls_cli.specs.Questions.{Question}
 use Rattle.lls_cli.specs.declared.answer_file.AnswerFile.{AnswerFile}
 use Rattle.lls_cli.specs.declared.answer.Answer.{Answer}
@@ -15,7 +15,8 @@ use Rattle.lls_cli.specs.declared.fault.OutsideFault.TheVariants as outside
 use Rattle.lls_cli.specs.declared.status.Status.{Status}
 use Rattle.lls_cli.specs.declared.status.Status.TheVariants as statuses
 use Rattle.lls_cli.specs.Moment.{ShelfMoment, Moment, files_at}
-use Rattle.lls_cli.specs.Ends.{LeavesPart, with_file, End, refused, lacked, input_failed, ahead_failed, answered, file_failed, output_failed, ahead_of, IsEnd}
+use Rattle.lls_cli.specs.Answer.{ahead_of}
+use Rattle.lls_cli.specs.Ends.{LeavesPart, with_file, End, refused, lacked, input_failed, ahead_failed, answered, file_failed, output_failed, IsEnd}
 use Rattle.lls_cli.specs.Claims.{IsAnswered, IsBegun, IsBegunFor, LeavesBegun}
 use Rattle.lls_cli.proofs.Behind.{WroteAhead, answer_of, lacking}
 use Rattle.lls_cli.proofs.Changes.{option_map-none}
@@ -57,35 +58,35 @@ behind_ahead : (question : Question) (answer : Answer) (before mid : ShelfMoment
     → IsBegun answer.file (files_at mid) after → IsBegun answer.file (option_map (with_file (ahead_of question)) (files_at before)) after
 behind_ahead question answer before mid after wrote is = subst (λ files. IsBegun answer.file files after) (ahead_files (ahead_of question) before mid wrote) is
 
-pub leaves_begun : (job : Result Job WordsError) (before after : Moment) (status : Status) → (end : End) × IsEnd job before after status end → status ≡ statuses.Outside
-    → LeavesBegun job (files_at before.shelf) (files_at after.shelf)
-leaves_begun (Ok job) before after status (refused fault, ended) is = inl ended.1.2.shelf.files
-leaves_begun (Ok job) before after status (lacked, ended) is =
-    let memory = (lacking job (files_at before.shelf) before after status ended.1).lacks.status_is in absurd cc
-leaves_begun (Ok job) before after status (input_failed fault, ended) is = inl ended.1.1.shelf.files
-leaves_begun (Ok job) before after status (ahead_failed fault, ended) is =
+pub leaves_begun : (task : Result Task WordsError) (before after : Moment) (status : Status) → (end : End) × IsEnd task before after status end → status ≡ statuses.Outside
+    → LeavesBegun task (files_at before.shelf) (files_at after.shelf)
+leaves_begun (Ok task) before after status (refused fault, ended) is = inl ended.1.2.shelf.files
+leaves_begun (Ok task) before after status (lacked, ended) is =
+    let memory = (lacking task (files_at before.shelf) before after status ended.1).lacks.status_is in absurd cc
+leaves_begun (Ok task) before after status (input_failed fault, ended) is = inl ended.1.1.shelf.files
+leaves_begun (Ok task) before after status (ahead_failed fault, ended) is =
     let question = ended.1.0 in
     let failed = ahead_part question before after status fault ended.1.2 in
-    inr (of_question (IsBegunFor (files_at before.shelf) (files_at after.shelf)) job (files_at before.shelf) question ended.1.1
+    inr (of_question (IsBegunFor (files_at before.shelf) (files_at after.shelf)) task (files_at before.shelf) question ended.1.1
     (inl (begun (ahead_of question) fault failed.file (files_at before.shelf) (files_at after.shelf) failed.file_is failed.part)))
-leaves_begun (Ok job) before after status (answered answer, ended) is =
-    let given = answer_of job (files_at before.shelf) before after status (answered answer) tt ended.1 in
+leaves_begun (Ok task) before after status (answered answer, ended) is =
+    let given = answer_of task (files_at before.shelf) before after status (answered answer) tt ended.1 in
     absurd (no_fault_status statuses.Outside tt (subst IsAnswered is (is_answered ended.1.0 answer status given.ended.0 given.ended.1.status_is)))
-leaves_begun (Ok job) before after status (file_failed answer fault, ended) is =
+leaves_begun (Ok task) before after status (file_failed answer fault, ended) is =
     let question = ended.1.0 in
-    let given = answer_of job (files_at before.shelf) before after status (file_failed answer fault) tt ended.1 in
+    let given = answer_of task (files_at before.shelf) before after status (file_failed answer fault) tt ended.1 in
     let failed = given.ended.1 in
-    inr (of_question (IsBegunFor (files_at before.shelf) (files_at after.shelf)) job (files_at before.shelf) question ended.1.1
+    inr (of_question (IsBegunFor (files_at before.shelf) (files_at after.shelf)) task (files_at before.shelf) question ended.1.1
     (inr (
       answer,
       given.ended.0,
       behind_ahead question answer before.shelf given.mid (files_at after.shelf) given.wrote
           (begun answer.file fault failed.file (files_at given.mid) (files_at after.shelf) failed.file_is failed.part),
     )))
-leaves_begun (Ok job) before after status (output_failed answer, ended) is =
+leaves_begun (Ok task) before after status (output_failed answer, ended) is =
     let question = ended.1.0 in
-    let given = answer_of job (files_at before.shelf) before after status (output_failed answer) tt ended.1 in
-    inr (of_question (IsBegunFor (files_at before.shelf) (files_at after.shelf)) job (files_at before.shelf) question ended.1.1
+    let given = answer_of task (files_at before.shelf) before after status (output_failed answer) tt ended.1 in
+    inr (of_question (IsBegunFor (files_at before.shelf) (files_at after.shelf)) task (files_at before.shelf) question ended.1.1
     (inr (
       answer,
       given.ended.0,

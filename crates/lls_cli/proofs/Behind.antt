@@ -1,13 +1,14 @@
 -- How questions end behind a file that is written ahead, in one form for all questions.
 use Rattle.std.proofs.Common.{◌≡◌, Option, None, Some, Ok, refl, sym, subst, inl, inr, ◌⊎◌}
 use Rattle.lls_base.specs.Shelf.{Files}
-use Rattle.lls_words.specs.declared.job.Job.{Job}
+use Rattle.lls_cli.specs.declared.task.Task.{Task}
 use Rattle.lls_cli.specs.Questions.{Question}
 use Rattle.lls_cli.specs.declared.answer_file.AnswerFile.{AnswerFile}
 use Rattle.lls_cli.specs.declared.status.Status.{Status}
 use Rattle.lls_cli.specs.Question.{Asks}
 use Rattle.lls_cli.specs.Moment.{ShelfMoment, Moment, with_shelf}
-use Rattle.lls_cli.specs.Ends.{LacksMemory, WroteFile, End, refused, lacked, input_failed, ahead_failed, answered, file_failed, output_failed, IsEndOf, IsEndBehind, Ends, ahead_of}
+use Rattle.lls_cli.specs.Answer.{ahead_of}
+use Rattle.lls_cli.specs.Ends.{LacksMemory, WroteFile, End, refused, lacked, input_failed, ahead_failed, answered, file_failed, output_failed, IsEndOf, IsEndBehind, Ends}
 
 -- the file stands, or there is none and the shelf is as before
 abbrev pub WroteAhead : Option AnswerFile → ShelfMoment → ShelfMoment → Type 0
@@ -57,12 +58,12 @@ lacking_behind None question before after status lacks = lacking_at_once before 
 lacking_behind (Some file) question before after status (inl lacks) = lacking_at_once before after status lacks
 lacking_behind (Some file) question before after status (inr behind) = record { ahead = Some file; mid = behind.0; wrote = behind.1; lacks = behind.2 }
 
-pub lacking : (job : Job) (files : Option Files) (before after : Moment) (status : Status)
-    → LacksMemory before after status ⊎ ((question : Question) × Asks job files (Ok question) × Ends question before after status lacked) → Lacking before after status
-lacking job files before after status (inl lacks) = lacking_at_once before after status lacks
-lacking job files before after status (inr ended) = lacking_behind (ahead_of ended.0) ended.0 before after status ended.2
+pub lacking : (task : Task) (files : Option Files) (before after : Moment) (status : Status)
+    → LacksMemory before after status ⊎ ((question : Question) × Asks task files (Ok question) × Ends question before after status lacked) → Lacking before after status
+lacking task files before after status (inl lacks) = lacking_at_once before after status lacks
+lacking task files before after status (inr ended) = lacking_behind (ahead_of ended.0) ended.0 before after status ended.2
 
--- the end of what a job asked
-pub answer_of : (job : Job) (files : Option Files) (before after : Moment) (status : Status) (end : End) → HasAnswer end
-    → (asked : (question : Question) × Asks job files (Ok question) × Ends question before after status end) → Behind (ahead_of asked.0) asked.0 before after status end
-answer_of job files before after status end has asked = behind (ahead_of asked.0) asked.0 before after status end has asked.2
+-- the end of what a task asked
+pub answer_of : (task : Task) (files : Option Files) (before after : Moment) (status : Status) (end : End) → HasAnswer end
+    → (asked : (question : Question) × Asks task files (Ok question) × Ends question before after status end) → Behind (ahead_of asked.0) asked.0 before after status end
+answer_of task files before after status end has asked = behind (ahead_of asked.0) asked.0 before after status end has asked.2

@@ -12,7 +12,7 @@ use Rattle.lls_problem.specs.declared.demands.DemandError.{DemandError}
 use Rattle.lls_problem.specs.declared.demands.DemandError.TheVariants as demands
 use Rattle.lls_words.specs.declared.error.WordsError.{WordsError}
 use Rattle.lls_words.specs.declared.error.WordsError.TheVariants as words
-use Rattle.lls_words.specs.declared.job.Job.{Job}
+use Rattle.lls_cli.specs.declared.task.Task.{Task}
 use Rattle.lls_cli.specs.Questions.{Question}
 use Rattle.lls_cli.specs.declared.answer_file.AnswerFile.{AnswerFile}
 use Rattle.lls_cli.specs.declared.answer.Answer.{Answer}
@@ -22,10 +22,10 @@ use Rattle.lls_cli.specs.declared.fault.OutsideFault.TheVariants as outside
 use Rattle.lls_cli.specs.declared.status.Status.{Status}
 use Rattle.lls_cli.specs.declared.status.Status.TheVariants as statuses
 use Rattle.lls_cli.specs.Fault.{status_of, words_status, posed_status, demand_status, dimacs_status}
-use Rattle.lls_cli.specs.Answer.{IsAnswer, Holds, YesHolds, NoHolds, SomeHolds, NoneHolds, HasShortBudget}
+use Rattle.lls_cli.specs.Answer.{IsAnswer, Holds, ahead_of}
 use Rattle.lls_cli.specs.Question.{Asking, of_none, of_one, of_two, asking_of, question_by, question_of, AsksBy, Asks, input_of}
 use Rattle.lls_cli.specs.Moment.{ShelfMoment, SinkMoment, Moment, files_at}
-use Rattle.lls_cli.specs.Ends.{FileFailed, IsCurrent, KeepsOutput, WroteFile, IsDecided, End, refused, lacked, input_failed, ahead_failed, answered, file_failed, output_failed, IsEndBehind, Ends, ahead_of, IsEnd}
+use Rattle.lls_cli.specs.Ends.{FileFailed, IsCurrent, KeepsOutput, WroteFile, IsDecided, End, refused, lacked, input_failed, ahead_failed, answered, file_failed, output_failed, IsEndBehind, Ends, IsEnd}
 use Rattle.lls_cli.proofs.Behind.{answer_of, WroteAhead, ahead_faults, lacking}
 use Rattle.lls_cli.specs.Claims.{OfQuestion, IsSilent, IsAnswered, IsFaultStatus, MissesFile, HasCause, NoCallFailed, NothingFailed, CountsNeverFall, SaysAnswer}
 
@@ -198,16 +198,16 @@ ahead_part question before after status fault ended = part (ahead_of question) e
   part (Some file) ended = ended
 
 -- the standard output has nothing new
-pub stays_silent : (job : Result Job WordsError) (before after : Moment) (status : Status) → (end : End) × IsEnd job before after status end → IsSilent status → after.out ≡ before.out
-stays_silent (Ok job) before after status (refused fault, ended) silent = ended.1.2.out
-stays_silent (Ok job) before after status (lacked, ended) silent = (lacking job (files_at before.shelf) before after status ended.1).lacks.out
-stays_silent (Ok job) before after status (input_failed fault, ended) silent = ended.1.1.out
-stays_silent (Ok job) before after status (ahead_failed fault, ended) silent = (ahead_part ended.1.0 before after status fault ended.1.2).out
-stays_silent (Ok job) before after status (answered answer, ended) silent =
-    let given = answer_of job (files_at before.shelf) before after status (answered answer) tt ended.1 in
+pub stays_silent : (task : Result Task WordsError) (before after : Moment) (status : Status) → (end : End) × IsEnd task before after status end → IsSilent status → after.out ≡ before.out
+stays_silent (Ok task) before after status (refused fault, ended) silent = ended.1.2.out
+stays_silent (Ok task) before after status (lacked, ended) silent = (lacking task (files_at before.shelf) before after status ended.1).lacks.out
+stays_silent (Ok task) before after status (input_failed fault, ended) silent = ended.1.1.out
+stays_silent (Ok task) before after status (ahead_failed fault, ended) silent = (ahead_part ended.1.0 before after status fault ended.1.2).out
+stays_silent (Ok task) before after status (answered answer, ended) silent =
+    let given = answer_of task (files_at before.shelf) before after status (answered answer) tt ended.1 in
     absurd (silent_answered status (is_answered ended.1.0 answer status given.ended.0 given.ended.1.status_is) silent)
-stays_silent (Ok job) before after status (file_failed answer fault, ended) silent = (answer_of job (files_at before.shelf) before after status (file_failed answer fault) tt ended.1).ended.1.out
-stays_silent (Ok job) before after status (output_failed answer, ended) silent = absurd (subst IsSilent (answer_of job (files_at before.shelf) before after status (output_failed answer) tt ended.1).ended.1.status_is silent)
+stays_silent (Ok task) before after status (file_failed answer fault, ended) silent = (answer_of task (files_at before.shelf) before after status (file_failed answer fault) tt ended.1).ended.1.out
+stays_silent (Ok task) before after status (output_failed answer, ended) silent = absurd (subst IsSilent (answer_of task (files_at before.shelf) before after status (output_failed answer) tt ended.1).ended.1.status_is silent)
 stays_silent (Err error) before after status (refused fault, ended) silent = ended.2.out
 stays_silent (Err error) before after status (lacked, ended) silent = ended.1.out
 stays_silent (Err error) before after status (input_failed fault, ended) silent = absurd ended
@@ -221,27 +221,27 @@ asks-question_by files (of_none known) question asked = sym asked
 asks-question_by files (of_one name limit make) question asked = rw (← asked.input_is) (sym asked.made)
 asks-question_by files (of_two one one_limit two two_limit make) question asked = rw (← asked.first_is, ← asked.second_is) (sym asked.made)
 
-pub asks-question_of : (job : Job) (files : Files) (question : Result Question Fault) → Asks job (Some files) question → question_of job files ≡ question
-asks-question_of job files question asked = asks-question_by files (asking_of job) question asked
+pub asks-question_of : (task : Task) (files : Files) (question : Result Question Fault) → Asks task (Some files) question → question_of task files ≡ question
+asks-question_of task files question asked = asks-question_by files (asking_of task) question asked
 
-misses : (job : Job) (files : Option Files) (fault : Fault) → Asks job files (Err fault) → fault ≡ faults.Outside outside.NoFile → MissesFile (Ok job) files
-misses job None fault asked is = tt
-misses job (Some files) fault asked is = asks-question_of job files (Err fault) asked ∙ ap Err is
+misses : (task : Task) (files : Option Files) (fault : Fault) → Asks task files (Err fault) → fault ≡ faults.Outside outside.NoFile → MissesFile (Ok task) files
+misses task None fault asked is = tt
+misses task (Some files) fault asked is = asks-question_of task files (Err fault) asked ∙ ap Err is
 
 -- a failure of the outside has a cause
-pub caused : (job : Result Job WordsError) (before after : Moment) (status : Status) → (end : End) × IsEnd job before after status end → status ≡ statuses.Outside → HasCause job before after
-caused (Ok job) before after status (refused fault, ended) is =
-    inr (inr (misses job (files_at before.shelf) fault ended.1.1 (decided_outside fault ended.1.0 (sym ended.1.2.status_is ∙ is))))
-caused (Ok job) before after status (lacked, ended) is = let memory = (lacking job (files_at before.shelf) before after status ended.1).lacks.status_is in absurd cc
-caused (Ok job) before after status (input_failed fault, ended) is = inl ended.1.1.shelf_rose
-caused (Ok job) before after status (ahead_failed fault, ended) is = inl (ahead_part ended.1.0 before after status fault ended.1.2).shelf_rose
-caused (Ok job) before after status (answered answer, ended) is =
-    let given = answer_of job (files_at before.shelf) before after status (answered answer) tt ended.1 in
+pub caused : (task : Result Task WordsError) (before after : Moment) (status : Status) → (end : End) × IsEnd task before after status end → status ≡ statuses.Outside → HasCause task before after
+caused (Ok task) before after status (refused fault, ended) is =
+    inr (inr (misses task (files_at before.shelf) fault ended.1.1 (decided_outside fault ended.1.0 (sym ended.1.2.status_is ∙ is))))
+caused (Ok task) before after status (lacked, ended) is = let memory = (lacking task (files_at before.shelf) before after status ended.1).lacks.status_is in absurd cc
+caused (Ok task) before after status (input_failed fault, ended) is = inl ended.1.1.shelf_rose
+caused (Ok task) before after status (ahead_failed fault, ended) is = inl (ahead_part ended.1.0 before after status fault ended.1.2).shelf_rose
+caused (Ok task) before after status (answered answer, ended) is =
+    let given = answer_of task (files_at before.shelf) before after status (answered answer) tt ended.1 in
     absurd (no_fault_status statuses.Outside tt (subst IsAnswered is (is_answered ended.1.0 answer status given.ended.0 given.ended.1.status_is)))
-caused (Ok job) before after status (file_failed answer fault, ended) is =
-    let given = answer_of job (files_at before.shelf) before after status (file_failed answer fault) tt ended.1 in
+caused (Ok task) before after status (file_failed answer fault, ended) is =
+    let given = answer_of task (files_at before.shelf) before after status (file_failed answer fault) tt ended.1 in
     inl (subst (λ n. Rose n after.shelf.faults) (ahead_faults (ahead_of ended.1.0) before.shelf given.mid given.wrote) given.ended.1.shelf_rose)
-caused (Ok job) before after status (output_failed answer, ended) is = inr (inl (answer_of job (files_at before.shelf) before after status (output_failed answer) tt ended.1).ended.1.out_rose)
+caused (Ok task) before after status (output_failed answer, ended) is = inr (inl (answer_of task (files_at before.shelf) before after status (output_failed answer) tt ended.1).ended.1.out_rose)
 caused (Err error) before after status (refused fault, ended) is =
     let other : words_status error ≡ statuses.Outside = sym (ap status_of ended.0) ∙ (sym ended.2.status_is ∙ is) in
     absurd (elim (words_status-cases error) [ inl w ↦ cc | inr m ↦ cc ])
@@ -253,20 +253,20 @@ caused (Err error) before after status (file_failed answer fault, ended) is = ab
 caused (Err error) before after status (output_failed answer, ended) is = absurd ended
 
 -- the words are refused where they are no command line
-pub words_alone : (job : Result Job WordsError) (before after : Moment) (status : Status) → (end : End) × IsEnd job before after status end → status ≡ statuses.Words → IsErr job
+pub words_alone : (task : Result Task WordsError) (before after : Moment) (status : Status) → (end : End) × IsEnd task before after status end → status ≡ statuses.Words → IsErr task
 words_alone (Err error) before after status ended is = refl
-words_alone (Ok job) before after status (refused fault, ended) is = absurd (decided_words fault ended.1.0 (sym ended.1.2.status_is ∙ is))
-words_alone (Ok job) before after status (lacked, ended) is = let memory = (lacking job (files_at before.shelf) before after status ended.1).lacks.status_is in absurd cc
-words_alone (Ok job) before after status (input_failed fault, ended) is = let outside_is = ended.1.1.status_is in absurd cc
-words_alone (Ok job) before after status (ahead_failed fault, ended) is = let outside_is = (ahead_part ended.1.0 before after status fault ended.1.2).status_is in absurd cc
-words_alone (Ok job) before after status (answered answer, ended) is =
-    let given = answer_of job (files_at before.shelf) before after status (answered answer) tt ended.1 in
+words_alone (Ok task) before after status (refused fault, ended) is = absurd (decided_words fault ended.1.0 (sym ended.1.2.status_is ∙ is))
+words_alone (Ok task) before after status (lacked, ended) is = let memory = (lacking task (files_at before.shelf) before after status ended.1).lacks.status_is in absurd cc
+words_alone (Ok task) before after status (input_failed fault, ended) is = let outside_is = ended.1.1.status_is in absurd cc
+words_alone (Ok task) before after status (ahead_failed fault, ended) is = let outside_is = (ahead_part ended.1.0 before after status fault ended.1.2).status_is in absurd cc
+words_alone (Ok task) before after status (answered answer, ended) is =
+    let given = answer_of task (files_at before.shelf) before after status (answered answer) tt ended.1 in
     absurd (no_fault_status statuses.Words tt (subst IsAnswered is (is_answered ended.1.0 answer status given.ended.0 given.ended.1.status_is)))
-words_alone (Ok job) before after status (file_failed answer fault, ended) is = let outside_is = (answer_of job (files_at before.shelf) before after status (file_failed answer fault) tt ended.1).ended.1.status_is in absurd cc
-words_alone (Ok job) before after status (output_failed answer, ended) is = let outside_is = (answer_of job (files_at before.shelf) before after status (output_failed answer) tt ended.1).ended.1.status_is in absurd cc
+words_alone (Ok task) before after status (file_failed answer fault, ended) is = let outside_is = (answer_of task (files_at before.shelf) before after status (file_failed answer fault) tt ended.1).ended.1.status_is in absurd cc
+words_alone (Ok task) before after status (output_failed answer, ended) is = let outside_is = (answer_of task (files_at before.shelf) before after status (output_failed answer) tt ended.1).ended.1.status_is in absurd cc
 
-pub words_all : (job : Result Job WordsError) (before after : Moment) (status : Status) → (end : End) × IsEnd job before after status end → IsErr job → (status ≡ statuses.Words) ⊎ (status ≡ statuses.Memory)
-words_all (Ok job) before after status ended is = absurd cc
+pub words_all : (task : Result Task WordsError) (before after : Moment) (status : Status) → (end : End) × IsEnd task before after status end → IsErr task → (status ≡ statuses.Words) ⊎ (status ≡ statuses.Memory)
+words_all (Ok task) before after status ended is = absurd cc
 words_all (Err error) before after status (refused fault, ended) is =
     elim (words_status-cases error) [
       | inl w ↦ inl (ended.2.status_is ∙ ap status_of ended.0 ∙ w)
@@ -279,22 +279,22 @@ words_all (Err error) before after status (answered answer, ended) is = absurd e
 words_all (Err error) before after status (file_failed answer fault, ended) is = absurd ended
 words_all (Err error) before after status (output_failed answer, ended) is = absurd ended
 
-pub of_question : (Fact : Question → Type 0) (job : Job) (files : Option Files) (question : Question) → Asks job files (Ok question) → Fact question → OfQuestion Fact (Ok job) files
-of_question Fact job None question asked fact = (question, asked, fact)
-of_question Fact job (Some files) question asked fact = (question, asks-question_of job files (Ok question) asked, fact)
+pub of_question : (Fact : Question → Type 0) (task : Task) (files : Option Files) (question : Question) → Asks task files (Ok question) → Fact question → OfQuestion Fact (Ok task) files
+of_question Fact task None question asked fact = (question, asked, fact)
+of_question Fact task (Some files) question asked fact = (question, asks-question_of task files (Ok question) asked, fact)
 
-pub of_this : (Fact : Question → Type 0) (question : Question) (job : Result Job WordsError) (files : Option Files) → OfQuestion (λ q. question ≡ q) job files → Fact question → OfQuestion Fact job files
-of_this Fact question (Ok job) None asked fact = (asked.0, asked.1, subst Fact asked.2 fact)
-of_this Fact question (Ok job) (Some files) asked fact = (asked.0, asked.1, subst Fact asked.2 fact)
+pub of_this : (Fact : Question → Type 0) (question : Question) (task : Result Task WordsError) (files : Option Files) → OfQuestion (λ q. question ≡ q) task files → Fact question → OfQuestion Fact task files
+of_this Fact question (Ok task) None asked fact = (asked.0, asked.1, subst Fact asked.2 fact)
+of_this Fact question (Ok task) (Some files) asked fact = (asked.0, asked.1, subst Fact asked.2 fact)
 of_this Fact question (Err error) files asked fact = absurd asked
 
--- that a command line's job asks this
-abbrev pub IsAsked : Result Job WordsError → Option Files → Question → Type 0
-IsAsked (Ok job) files question = Asks job files (Ok question)
+-- that a command line's task asks this
+abbrev pub IsAsked : Result Task WordsError → Option Files → Question → Type 0
+IsAsked (Ok task) files question = Asks task files (Ok question)
 IsAsked (Err error) files question = ⊥
 
 -- an end at an answer's status is an answer that was given
-pub record Meant (job : Result Job WordsError) (before after : Moment) (status : Status) : Type 0 where
+pub record Meant (task : Result Task WordsError) (before after : Moment) (status : Status) : Type 0 where
   pub question : Question
   pub answer : Answer
   pub status_is : status ≡ answer.status
@@ -304,12 +304,12 @@ pub record Meant (job : Result Job WordsError) (before after : Moment) (status :
   pub wrote : WroteFile answer.file mid after.shelf
   pub said : after.out.written ≡ append_known before.out.written answer.text
   pub nothing_failed : NothingFailed before after
-  pub asked : OfQuestion (λ q. question ≡ q) job (files_at before.shelf)
-  pub asks : IsAsked job (files_at before.shelf) question
+  pub asked : OfQuestion (λ q. question ≡ q) task (files_at before.shelf)
+  pub asks : IsAsked task (files_at before.shelf) question
 
-pub meant : (job : Result Job WordsError) (before after : Moment) (status : Status) → (end : End) × IsEnd job before after status end → IsAnswered status → Meant job before after status
-meant (Ok job) before after status (answered answer, ended) is =
-    let behind_it = answer_of job (files_at before.shelf) before after status (answered answer) tt ended.1 in
+pub meant : (task : Result Task WordsError) (before after : Moment) (status : Status) → (end : End) × IsEnd task before after status end → IsAnswered status → Meant task before after status
+meant (Ok task) before after status (answered answer, ended) is =
+    let behind_it = answer_of task (files_at before.shelf) before after status (answered answer) tt ended.1 in
     let given = behind_it.ended.1 in
     record {
       question = ended.1.0;
@@ -325,16 +325,16 @@ meant (Ok job) before after status (answered answer, ended) is =
         out = given.out_faults;
         err = given.err;
       };
-      asked = of_question (λ q. ended.1.0 ≡ q) job (files_at before.shelf) ended.1.0 ended.1.1 refl;
+      asked = of_question (λ q. ended.1.0 ≡ q) task (files_at before.shelf) ended.1.0 ended.1.1 refl;
       asks = ended.1.1;
     }
-meant (Ok job) before after status (refused fault, ended) is = absurd (no_fault_status status (subst IsFaultStatus (sym ended.1.2.status_is) (status_of-is fault)) is)
-meant (Ok job) before after status (lacked, ended) is = absurd (no_fault_status status (subst IsFaultStatus (sym (lacking job (files_at before.shelf) before after status ended.1).lacks.status_is) tt) is)
-meant (Ok job) before after status (input_failed fault, ended) is = absurd (no_fault_status status (subst IsFaultStatus (sym ended.1.1.status_is) tt) is)
-meant (Ok job) before after status (ahead_failed fault, ended) is =
+meant (Ok task) before after status (refused fault, ended) is = absurd (no_fault_status status (subst IsFaultStatus (sym ended.1.2.status_is) (status_of-is fault)) is)
+meant (Ok task) before after status (lacked, ended) is = absurd (no_fault_status status (subst IsFaultStatus (sym (lacking task (files_at before.shelf) before after status ended.1).lacks.status_is) tt) is)
+meant (Ok task) before after status (input_failed fault, ended) is = absurd (no_fault_status status (subst IsFaultStatus (sym ended.1.1.status_is) tt) is)
+meant (Ok task) before after status (ahead_failed fault, ended) is =
     absurd (no_fault_status status (subst IsFaultStatus (sym (ahead_part ended.1.0 before after status fault ended.1.2).status_is) tt) is)
-meant (Ok job) before after status (file_failed answer fault, ended) is = absurd (no_fault_status status (subst IsFaultStatus (sym (answer_of job (files_at before.shelf) before after status (file_failed answer fault) tt ended.1).ended.1.status_is) tt) is)
-meant (Ok job) before after status (output_failed answer, ended) is = absurd (no_fault_status status (subst IsFaultStatus (sym (answer_of job (files_at before.shelf) before after status (output_failed answer) tt ended.1).ended.1.status_is) tt) is)
+meant (Ok task) before after status (file_failed answer fault, ended) is = absurd (no_fault_status status (subst IsFaultStatus (sym (answer_of task (files_at before.shelf) before after status (file_failed answer fault) tt ended.1).ended.1.status_is) tt) is)
+meant (Ok task) before after status (output_failed answer, ended) is = absurd (no_fault_status status (subst IsFaultStatus (sym (answer_of task (files_at before.shelf) before after status (output_failed answer) tt ended.1).ended.1.status_is) tt) is)
 meant (Err error) before after status (refused fault, ended) is = absurd (no_fault_status status (subst IsFaultStatus (sym ended.2.status_is) (status_of-is fault)) is)
 meant (Err error) before after status (lacked, ended) is = absurd (no_fault_status status (subst IsFaultStatus (sym ended.1.status_is) tt) is)
 meant (Err error) before after status (input_failed fault, ended) is = absurd ended
@@ -344,31 +344,16 @@ meant (Err error) before after status (file_failed answer fault, ended) is = abs
 meant (Err error) before after status (output_failed answer, ended) is = absurd ended
 
 -- what the status of an answer says holds of the question
-pub status_means : (Fact : Question → Type 0) (job : Result Job WordsError) (before after : Moment) (status : Status) → (end : End) × IsEnd job before after status end → IsAnswered status
-    → ((question : Question) → Holds question status → Fact question) → OfQuestion Fact job (files_at before.shelf)
-status_means Fact job before after status ended is means =
-    let given = meant job before after status ended is in
-    of_this Fact given.question job (files_at before.shelf) given.asked (means given.question (subst (Holds given.question) (sym given.status_is) given.right.holds))
+status_means : (Fact : Question → Type 0) (task : Result Task WordsError) (before after : Moment) (status : Status) → (end : End) × IsEnd task before after status end → IsAnswered status
+    → ((question : Question) → Holds question status → Fact question) → OfQuestion Fact task (files_at before.shelf)
+status_means Fact task before after status ended is means =
+    let given = meant task before after status ended is in
+    of_this Fact given.question task (files_at before.shelf) given.asked (means given.question (subst (Holds given.question) (sym given.status_is) given.right.holds))
 
-pub yes_means : (job : Result Job WordsError) (before after : Moment) (status : Status) → (end : End) × IsEnd job before after status end → status ≡ statuses.Done → OfQuestion YesHolds job (files_at before.shelf)
-yes_means job before after status ended is =
-    status_means YesHolds job before after status ended (subst IsAnswered (sym is) tt) (λ question holds. subst (Holds question) is holds)
-
-pub no_means : (job : Result Job WordsError) (before after : Moment) (status : Status) → (end : End) × IsEnd job before after status end → status ≡ statuses.Refused → OfQuestion NoHolds job (files_at before.shelf)
-no_means job before after status ended is =
-    status_means NoHolds job before after status ended (subst IsAnswered (sym is) tt) (λ question holds. subst (Holds question) is holds)
-
-pub found_means : (job : Result Job WordsError) (before after : Moment) (status : Status) → (end : End) × IsEnd job before after status end → status ≡ statuses.Pattern → OfQuestion SomeHolds job (files_at before.shelf)
-found_means job before after status ended is =
-    status_means SomeHolds job before after status ended (subst IsAnswered (sym is) tt) (λ question holds. subst (Holds question) is holds)
-
-pub none_means : (job : Result Job WordsError) (before after : Moment) (status : Status) → (end : End) × IsEnd job before after status end → status ≡ statuses.NoPattern → OfQuestion NoneHolds job (files_at before.shelf)
-none_means job before after status ended is =
-    status_means NoneHolds job before after status ended (subst IsAnswered (sym is) tt) (λ question holds. subst (Holds question) is holds)
-
-pub short_means : (job : Result Job WordsError) (before after : Moment) (status : Status) → (end : End) × IsEnd job before after status end → status ≡ statuses.Undecided → OfQuestion HasShortBudget job (files_at before.shelf)
-short_means job before after status ended is =
-    status_means HasShortBudget job before after status ended (subst IsAnswered (sym is) tt) (λ question holds. subst (Holds question) is holds)
+pub holds_at : (wanted : Status) → IsAnswered wanted → (task : Result Task WordsError) (before after : Moment) (status : Status) → (end : End) × IsEnd task before after status end → status ≡ wanted
+    → OfQuestion (λ question. Holds question wanted) task (files_at before.shelf)
+holds_at wanted given task before after status ended is =
+    status_means (λ question. Holds question wanted) task before after status ended (subst IsAnswered (sym is) given) (λ question holds. subst (Holds question) is holds)
 
 same-≤ : (m n : ℕ) → n ≡ m → m ≤ n
 same-≤ m n e = omega (arith, e)
@@ -384,27 +369,27 @@ from_ahead : (ahead : Option AnswerFile) (before mid : ShelfMoment) (count : ℕ
 from_ahead ahead before mid count wrote less = omega (arith, ahead_faults ahead before mid wrote, less)
 
 -- no count of faults falls
-pub counts_stay : (job : Result Job WordsError) (before after : Moment) (status : Status) → (end : End) × IsEnd job before after status end → CountsNeverFall before after
-counts_stay (Ok job) before after status (refused fault, ended) =
+pub counts_stay : (task : Result Task WordsError) (before after : Moment) (status : Status) → (end : End) × IsEnd task before after status end → CountsNeverFall before after
+counts_stay (Ok task) before after status (refused fault, ended) =
     let r = ended.1.2 in record { shelf = same-≤ _ _ r.shelf_faults; out = same_count _ _ r.out; err = r.err.counts.never_falls }
-counts_stay (Ok job) before after status (lacked, ended) =
-    let behind_it = lacking job (files_at before.shelf) before after status ended.1 in
+counts_stay (Ok task) before after status (lacked, ended) =
+    let behind_it = lacking task (files_at before.shelf) before after status ended.1 in
     let r = behind_it.lacks in
     record { shelf = from_ahead behind_it.ahead before.shelf behind_it.mid after.shelf.faults behind_it.wrote r.shelf_counts.never_falls; out = same_count _ _ r.out; err = r.err.counts.never_falls }
-counts_stay (Ok job) before after status (input_failed fault, ended) =
+counts_stay (Ok task) before after status (input_failed fault, ended) =
     let r = ended.1.1 in record { shelf = r.shelf_counts.never_falls; out = same_count _ _ r.out; err = r.err.counts.never_falls }
-counts_stay (Ok job) before after status (ahead_failed fault, ended) =
+counts_stay (Ok task) before after status (ahead_failed fault, ended) =
     let r = ahead_part ended.1.0 before after status fault ended.1.2 in record { shelf = r.shelf_counts.never_falls; out = same_count _ _ r.out; err = r.err.counts.never_falls }
-counts_stay (Ok job) before after status (answered answer, ended) =
-    let given = answer_of job (files_at before.shelf) before after status (answered answer) tt ended.1 in
+counts_stay (Ok task) before after status (answered answer, ended) =
+    let given = answer_of task (files_at before.shelf) before after status (answered answer) tt ended.1 in
     let r = given.ended.1 in
     record { shelf = from_ahead (ahead_of ended.1.0) before.shelf given.mid after.shelf.faults given.wrote (same-≤ _ _ r.shelf.faults); out = same-≤ _ _ r.out_faults; err = same_count _ _ r.err }
-counts_stay (Ok job) before after status (file_failed answer fault, ended) =
-    let given = answer_of job (files_at before.shelf) before after status (file_failed answer fault) tt ended.1 in
+counts_stay (Ok task) before after status (file_failed answer fault, ended) =
+    let given = answer_of task (files_at before.shelf) before after status (file_failed answer fault) tt ended.1 in
     let r = given.ended.1 in
     record { shelf = from_ahead (ahead_of ended.1.0) before.shelf given.mid after.shelf.faults given.wrote r.shelf_counts.never_falls; out = same_count _ _ r.out; err = r.err.counts.never_falls }
-counts_stay (Ok job) before after status (output_failed answer, ended) =
-    let given = answer_of job (files_at before.shelf) before after status (output_failed answer) tt ended.1 in
+counts_stay (Ok task) before after status (output_failed answer, ended) =
+    let given = answer_of task (files_at before.shelf) before after status (output_failed answer) tt ended.1 in
     let r = given.ended.1 in
     record { shelf = from_ahead (ahead_of ended.1.0) before.shelf given.mid after.shelf.faults given.wrote (same-≤ _ _ r.shelf.faults); out = r.out_counts.never_falls; err = r.err.counts.never_falls }
 counts_stay (Err error) before after status (refused fault, ended) =
@@ -424,20 +409,20 @@ same_shelf_faults : (before after : ShelfMoment) → after ≡ before → after.
 same_shelf_faults before after e = ap (λ (s : ShelfMoment). s.faults) e
 
 -- what failed is said: at any other status no call of the shelf or of the standard output failed
-pub no_call_failed : (job : Result Job WordsError) (before after : Moment) (status : Status) → (end : End) × IsEnd job before after status end → status ≢ statuses.Outside → NoCallFailed before after
-no_call_failed (Ok job) before after status (refused fault, ended) other = record { shelf = ended.1.2.shelf_faults; out = same_sink_faults _ _ ended.1.2.out }
-no_call_failed (Ok job) before after status (lacked, ended) other =
-    let behind_it = lacking job (files_at before.shelf) before after status ended.1 in
+pub no_call_failed : (task : Result Task WordsError) (before after : Moment) (status : Status) → (end : End) × IsEnd task before after status end → status ≢ statuses.Outside → NoCallFailed before after
+no_call_failed (Ok task) before after status (refused fault, ended) other = record { shelf = ended.1.2.shelf_faults; out = same_sink_faults _ _ ended.1.2.out }
+no_call_failed (Ok task) before after status (lacked, ended) other =
+    let behind_it = lacking task (files_at before.shelf) before after status ended.1 in
     record { shelf = behind_it.lacks.shelf_faults ∙ ahead_faults behind_it.ahead before.shelf behind_it.mid behind_it.wrote; out = same_sink_faults _ _ behind_it.lacks.out }
-no_call_failed (Ok job) before after status (input_failed fault, ended) other = absurd (other ended.1.1.status_is)
-no_call_failed (Ok job) before after status (ahead_failed fault, ended) other = absurd (other (ahead_part ended.1.0 before after status fault ended.1.2).status_is)
-no_call_failed (Ok job) before after status (answered answer, ended) other =
-    let given = answer_of job (files_at before.shelf) before after status (answered answer) tt ended.1 in
+no_call_failed (Ok task) before after status (input_failed fault, ended) other = absurd (other ended.1.1.status_is)
+no_call_failed (Ok task) before after status (ahead_failed fault, ended) other = absurd (other (ahead_part ended.1.0 before after status fault ended.1.2).status_is)
+no_call_failed (Ok task) before after status (answered answer, ended) other =
+    let given = answer_of task (files_at before.shelf) before after status (answered answer) tt ended.1 in
     record { shelf = given.ended.1.shelf.faults ∙ ahead_faults (ahead_of ended.1.0) before.shelf given.mid given.wrote; out = given.ended.1.out_faults }
-no_call_failed (Ok job) before after status (file_failed answer fault, ended) other =
-    absurd (other (answer_of job (files_at before.shelf) before after status (file_failed answer fault) tt ended.1).ended.1.status_is)
-no_call_failed (Ok job) before after status (output_failed answer, ended) other =
-    absurd (other (answer_of job (files_at before.shelf) before after status (output_failed answer) tt ended.1).ended.1.status_is)
+no_call_failed (Ok task) before after status (file_failed answer fault, ended) other =
+    absurd (other (answer_of task (files_at before.shelf) before after status (file_failed answer fault) tt ended.1).ended.1.status_is)
+no_call_failed (Ok task) before after status (output_failed answer, ended) other =
+    absurd (other (answer_of task (files_at before.shelf) before after status (output_failed answer) tt ended.1).ended.1.status_is)
 no_call_failed (Err error) before after status (refused fault, ended) other = record { shelf = same_shelf_faults _ _ ended.1; out = same_sink_faults _ _ ended.2.out }
 no_call_failed (Err error) before after status (lacked, ended) other = record { shelf = same_shelf_faults _ _ ended.0; out = same_sink_faults _ _ ended.1.out }
 no_call_failed (Err error) before after status (input_failed fault, ended) other = absurd ended
@@ -450,11 +435,11 @@ is_current : (written : Option AnswerFile) (before after : ShelfMoment) (file : 
 is_current written before after file wrote is = subst (λ (o : Option AnswerFile). KeepsOutput o before after) is wrote.output
 
 -- what stands on the standard output is a right answer's text
-pub says_answer : (job : Result Job WordsError) (before after : Moment) (status : Status) → (end : End) × IsEnd job before after status end → IsAnswered status
-    → OfQuestion (SaysAnswer before after status) job (files_at before.shelf)
-says_answer job before after status ended is =
-    let given = meant job before after status ended is in
-    of_this (SaysAnswer before after status) given.question job (files_at before.shelf) given.asked (record {
+pub says_answer : (task : Result Task WordsError) (before after : Moment) (status : Status) → (end : End) × IsEnd task before after status end → IsAnswered status
+    → OfQuestion (SaysAnswer before after status) task (files_at before.shelf)
+says_answer task before after status ended is =
+    let given = meant task before after status ended is in
+    of_this (SaysAnswer before after status) given.question task (files_at before.shelf) given.asked (record {
       answer = given.answer;
       right = given.right;
       status_is = given.status_is;

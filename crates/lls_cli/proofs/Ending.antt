@@ -2,14 +2,11 @@
 use Rattle.std.proofs.Common.{◌≡◌, ◌≢◌, ◌<◌, ◌^◌, Option, None, Some, Result, Ok, Err, refl, ap, sym, subst, ◌∙◌, inl, inr}
 use Rattle.std.specs.Option.{option_map}
 use Rattle.lls_base.specs.Faults.{Counts, Rose}
-use Rattle.lls_base.specs.Shelf.{Files}
 use Rattle.lls_base.proofs.Faults.{Counts-refl}
 use Rattle.lls_words.specs.declared.error.WordsError.{WordsError}
 use Rattle.lls_words.specs.declared.error.WordsError.TheVariants as words
-use Rattle.lls_words.specs.declared.job.Job.{Job}
-use Rattle.lls_words.specs.declared.job.Job.TheVariants as jobs
+use Rattle.lls_cli.specs.declared.task.Task.{Task}
 use Rattle.lls_cli.specs.Questions.{Question}
-use Rattle.lls_cli.specs.Questions as questions
 use Rattle.lls_cli.specs.declared.answer_file.AnswerFile.{AnswerFile}
 use Rattle.lls_cli.specs.declared.answer.Answer.{Answer}
 use Rattle.lls_cli.specs.declared.fault.Fault.{Fault}
@@ -19,11 +16,11 @@ use Rattle.lls_cli.specs.declared.fault.OutsideFault.TheVariants as outside
 use Rattle.lls_cli.specs.declared.status.Status.{Status}
 use Rattle.lls_cli.specs.declared.status.Status.TheVariants as statuses
 use Rattle.lls_cli.specs.Fault.{fault_line, words_fault}
-use Rattle.lls_cli.specs.Answer.{IsAnswer}
-use Rattle.lls_cli.specs.Question.{Asks, default_effort}
+use Rattle.lls_cli.specs.Answer.{IsAnswer, ahead_of}
+use Rattle.lls_cli.specs.Question.{Asking, of_none, of_one, of_two, asking_of, Asks}
 use Rattle.lls_cli.specs.Moment.{ShelfMoment, SinkMoment, Moment, moment, files_at}
-use Rattle.lls_cli.specs.Ends.{GrewBy, KeepsFiles, KeepsInput, LacksMemory, IsOfInput, WroteFile, FileFailed, LeavesPart, LeavesShelf, HasInputs, IsDecided, with_file, End, refused, lacked, input_failed, ahead_failed, answered, file_failed, output_failed, IsEndOf, IsEndBehind, Ends, ahead_of, IsEnd}
-use Rattle.lls_cli.specs.Steps.{Reads, Stops, ComesTo, Says, IsDelivery, LeavesPrinting}
+use Rattle.lls_cli.specs.Ends.{GrewBy, KeepsFiles, KeepsInput, LacksMemory, IsOfInput, WroteFile, FileFailed, LeavesPart, LeavesInput, ReadsInputs, HasInputs, IsDecided, with_file, End, refused, lacked, input_failed, ahead_failed, answered, file_failed, output_failed, IsEndOf, IsEndBehind, Ends, IsEnd}
+use Rattle.lls_cli.specs.Steps.{Reads, Stops, ComesTo, Says, IsDelivery}
 
 -- a right answer that was delivered
 pub delivered : (question : Question) (answer : Answer) (before after : Moment) (status : Status) → IsAnswer question answer
@@ -58,52 +55,43 @@ words_refused error shelf out err_before err_after status fits (inl said) =
     (refused (faults.Words error), (refl, refl, record { status_is = said.0; shelf = KeepsFiles-refl shelf; shelf_faults = refl; out = refl; err = said.1 }))
 words_refused error shelf out err_before err_after status fits (inr said) = (lacked, (refl, lacks shelf out err_before err_after status fits said.1 said.2))
 
-LeavesShelf-refl : (job : Job) (shelf : ShelfMoment) → LeavesShelf job shelf shelf
-LeavesShelf-refl (jobs.Rule rule) shelf = refl
-LeavesShelf-refl (jobs.Check one two rule demands form) shelf = tt
-LeavesShelf-refl (jobs.Judge one two rule demands rle) shelf = tt
-LeavesShelf-refl (jobs.Cnf one rule demands form) shelf = tt
-LeavesShelf-refl (jobs.Lrat one two) shelf = tt
-LeavesShelf-refl (jobs.Search one two rule demands form budget keep_all rle crew) shelf = tt
-LeavesShelf-refl (jobs.Sat one two budget keep_all) shelf = tt
-LeavesShelf-refl (jobs.Make seed size one two) shelf = KeepsInput-refl shelf
-LeavesShelf-refl (jobs.Least one two rule demands form budget keep_all rle) shelf = tt
-LeavesShelf-refl (jobs.Loose one two low high demands form budget keep_all rle) shelf = tt
-LeavesShelf-refl (jobs.LooseCheck one two low high demands form) shelf = tt
-LeavesShelf-refl (jobs.Trim one two three) shelf = tt
+LeavesInput-refl : (asking : Asking) (shelf : ShelfMoment) → LeavesInput asking shelf shelf
+LeavesInput-refl (of_none question) shelf = KeepsInput-refl shelf
+LeavesInput-refl (of_one name limit make) shelf = tt
+LeavesInput-refl (of_two one one_limit two two_limit make) shelf = tt
 
 -- want of memory while the words are read
-words_lack : (job : Result Job WordsError) (shelf : ShelfMoment) (out err_before err_after : SinkMoment) (status : Status) → shelf.faults < 2 ^ 64
-    → Says faults.Memory status err_before err_after → (end : End) × IsEnd job (moment shelf out err_before) (moment shelf out err_after) status end
-words_lack (Ok job) shelf out err_before err_after status fits (inl said) = (lacked, (LeavesShelf-refl job shelf, inl (lacks shelf out err_before err_after status fits said.0 said.1)))
-words_lack (Ok job) shelf out err_before err_after status fits (inr said) = (lacked, (LeavesShelf-refl job shelf, inl (lacks shelf out err_before err_after status fits said.1 said.2)))
+words_lack : (task : Result Task WordsError) (shelf : ShelfMoment) (out err_before err_after : SinkMoment) (status : Status) → shelf.faults < 2 ^ 64
+    → Says faults.Memory status err_before err_after → (end : End) × IsEnd task (moment shelf out err_before) (moment shelf out err_after) status end
+words_lack (Ok task) shelf out err_before err_after status fits (inl said) = (lacked, (LeavesInput-refl (asking_of task) shelf, inl (lacks shelf out err_before err_after status fits said.0 said.1)))
+words_lack (Ok task) shelf out err_before err_after status fits (inr said) = (lacked, (LeavesInput-refl (asking_of task) shelf, inl (lacks shelf out err_before err_after status fits said.1 said.2)))
 words_lack (Err error) shelf out err_before err_after status fits (inl said) = (lacked, (refl, lacks shelf out err_before err_after status fits said.0 said.1))
 words_lack (Err error) shelf out err_before err_after status fits (inr said) = (lacked, (refl, lacks shelf out err_before err_after status fits said.1 said.2))
 
--- a job whose reading stopped for want of memory, or where the line of a fault lacked it
-stopped_lacking : (job : Job) (before after : ShelfMoment) (out err_before err_after : SinkMoment) (status : Status)
-    → LeavesShelf job before after → KeepsFiles before after → Counts before.faults after.faults → after.faults ≡ before.faults → status ≡ statuses.Memory
+-- a task whose reading stopped for want of memory, or where the line of a fault lacked it
+stopped_lacking : (task : Task) (before after : ShelfMoment) (out err_before err_after : SinkMoment) (status : Status)
+    → LeavesInput (asking_of task) before after → KeepsFiles before after → Counts before.faults after.faults → after.faults ≡ before.faults → status ≡ statuses.Memory
     → GrewBy (fault_line faults.Memory) err_before err_after
-    → (end : End) × IsEnd (Ok job) (moment before out err_before) (moment after out err_after) status end
-stopped_lacking job before after out err_before err_after status leaves kept counts same is line =
+    → (end : End) × IsEnd (Ok task) (moment before out err_before) (moment after out err_after) status end
+stopped_lacking task before after out err_before err_after status leaves kept counts same is line =
     (lacked, (leaves, inl (record { status_is = is; shelf = kept; shelf_faults = same; shelf_counts = counts; out = refl; err = line })))
 
--- a job whose inputs were refused
-stopped_refused : (job : Job) (fault : Fault) (before after : ShelfMoment) (out err_before err_after : SinkMoment) (status : Status)
-    → IsDecided fault → LeavesShelf job before after → KeepsFiles before after → Counts before.faults after.faults
-    → Asks job (files_at before) (Err fault) × (after.faults ≡ before.faults) → Says fault status err_before err_after
-    → (end : End) × IsEnd (Ok job) (moment before out err_before) (moment after out err_after) status end
-stopped_refused job fault before after out err_before err_after status decided leaves kept counts asked (inl said) =
+-- a task whose inputs were refused
+stopped_refused : (task : Task) (fault : Fault) (before after : ShelfMoment) (out err_before err_after : SinkMoment) (status : Status)
+    → IsDecided fault → LeavesInput (asking_of task) before after → KeepsFiles before after → Counts before.faults after.faults
+    → Asks task (files_at before) (Err fault) × (after.faults ≡ before.faults) → Says fault status err_before err_after
+    → (end : End) × IsEnd (Ok task) (moment before out err_before) (moment after out err_after) status end
+stopped_refused task fault before after out err_before err_after status decided leaves kept counts asked (inl said) =
     (refused fault, (leaves, (decided, asked.0, record { status_is = said.0; shelf = kept; shelf_faults = asked.1; out = refl; err = said.1 })))
-stopped_refused job fault before after out err_before err_after status decided leaves kept counts asked (inr said) =
-    stopped_lacking job before after out err_before err_after status leaves kept counts asked.1 said.1 said.2
+stopped_refused task fault before after out err_before err_after status decided leaves kept counts asked (inr said) =
+    stopped_lacking task before after out err_before err_after status leaves kept counts asked.1 said.1 said.2
 
--- a job whose input failed
-stopped_failing : (job : Job) (fault : OutsideFault) (before after : ShelfMoment) (out err_before err_after : SinkMoment) (status : Status)
-    → LeavesShelf job before after → KeepsFiles before after → Counts before.faults after.faults → HasInputs job → IsOfInput (faults.Outside fault) after
+-- a task whose input failed
+stopped_failing : (task : Task) (fault : OutsideFault) (before after : ShelfMoment) (out err_before err_after : SinkMoment) (status : Status)
+    → LeavesInput (asking_of task) before after → KeepsFiles before after → Counts before.faults after.faults → HasInputs task → IsOfInput (faults.Outside fault) after
     → Rose before.faults after.faults → Says (faults.Outside fault) status err_before err_after
-    → (end : End) × IsEnd (Ok job) (moment before out err_before) (moment after out err_after) status end
-stopped_failing job fault before after out err_before err_after status leaves kept counts inputs of_input rose (inl said) = (
+    → (end : End) × IsEnd (Ok task) (moment before out err_before) (moment after out err_after) status end
+stopped_failing task fault before after out err_before err_after status leaves kept counts inputs of_input rose (inl said) = (
   input_failed (faults.Outside fault),
   (
     leaves,
@@ -121,81 +109,63 @@ stopped_failing job fault before after out err_before err_after status leaves ke
     ),
   ),
 )
-stopped_failing job fault before after out err_before err_after status leaves kept counts inputs of_input rose (inr said) = absurd said.0
+stopped_failing task fault before after out err_before err_after status leaves kept counts inputs of_input rose (inr said) = absurd said.0
 
--- a job whose reading stopped, and the fault was said
-pub stopped : (job : Job) (fault : Fault) (before after : ShelfMoment) (out err_before err_after : SinkMoment) (status : Status)
-    → LeavesShelf job before after → KeepsFiles before after → Counts before.faults after.faults → HasInputs job
-    → Stops fault (λ f. Asks job (files_at before) (Err f)) before after → Says fault status err_before err_after
-    → (end : End) × IsEnd (Ok job) (moment before out err_before) (moment after out err_after) status end
-stopped job faults.Memory before after out err_before err_after status leaves kept counts inputs stops (inl said) =
-    stopped_lacking job before after out err_before err_after status leaves kept counts stops said.0 said.1
-stopped job faults.Memory before after out err_before err_after status leaves kept counts inputs stops (inr said) =
-    stopped_lacking job before after out err_before err_after status leaves kept counts stops said.1 said.2
-stopped job (faults.Outside outside.OpenFailed) before after out err_before err_after status leaves kept counts inputs stops said =
-    stopped_failing job outside.OpenFailed before after out err_before err_after status leaves kept counts inputs stops.1 stops.0 said
-stopped job (faults.Outside outside.ReadFailed) before after out err_before err_after status leaves kept counts inputs stops said =
-    stopped_failing job outside.ReadFailed before after out err_before err_after status leaves kept counts inputs stops.1 stops.0 said
-stopped job (faults.Outside outside.NoFile) before after out err_before err_after status leaves kept counts inputs stops said =
-    stopped_refused job (faults.Outside outside.NoFile) before after out err_before err_after status tt leaves kept counts stops said
-stopped job (faults.Outside outside.CreateFailed) before after out err_before err_after status leaves kept counts inputs stops said = absurd stops
-stopped job (faults.Outside outside.WriteFailed) before after out err_before err_after status leaves kept counts inputs stops said = absurd stops
-stopped job (faults.Outside outside.OutFailed) before after out err_before err_after status leaves kept counts inputs stops said = absurd stops
-stopped job (faults.Words error) before after out err_before err_after status leaves kept counts inputs stops said = absurd stops
-stopped job (faults.Posed error) before after out err_before err_after status leaves kept counts inputs stops said =
-    stopped_refused job (faults.Posed error) before after out err_before err_after status tt leaves kept counts stops said
-stopped job (faults.Demands error) before after out err_before err_after status leaves kept counts inputs stops said =
-    stopped_refused job (faults.Demands error) before after out err_before err_after status tt leaves kept counts stops said
-stopped job (faults.Dimacs error) before after out err_before err_after status leaves kept counts inputs stops said =
-    stopped_refused job (faults.Dimacs error) before after out err_before err_after status tt leaves kept counts stops said
-stopped job (faults.NotPlain t y x) before after out err_before err_after status leaves kept counts inputs stops said =
-    stopped_refused job (faults.NotPlain t y x) before after out err_before err_after status tt leaves kept counts stops said
-stopped job (faults.Rle error) before after out err_before err_after status leaves kept counts inputs stops said =
-    stopped_refused job (faults.Rle error) before after out err_before err_after status tt leaves kept counts stops said
-stopped job (faults.TooLong limit) before after out err_before err_after status leaves kept counts inputs stops said =
-    stopped_refused job (faults.TooLong limit) before after out err_before err_after status tt leaves kept counts stops said
+-- a task whose reading stopped, and the fault was said
+pub stopped : (task : Task) (fault : Fault) (before after : ShelfMoment) (out err_before err_after : SinkMoment) (status : Status)
+    → LeavesInput (asking_of task) before after → KeepsFiles before after → Counts before.faults after.faults → HasInputs task
+    → Stops fault (λ f. Asks task (files_at before) (Err f)) before after → Says fault status err_before err_after
+    → (end : End) × IsEnd (Ok task) (moment before out err_before) (moment after out err_after) status end
+stopped task faults.Memory before after out err_before err_after status leaves kept counts inputs stops (inl said) =
+    stopped_lacking task before after out err_before err_after status leaves kept counts stops said.0 said.1
+stopped task faults.Memory before after out err_before err_after status leaves kept counts inputs stops (inr said) =
+    stopped_lacking task before after out err_before err_after status leaves kept counts stops said.1 said.2
+stopped task (faults.Outside outside.OpenFailed) before after out err_before err_after status leaves kept counts inputs stops said =
+    stopped_failing task outside.OpenFailed before after out err_before err_after status leaves kept counts inputs stops.1 stops.0 said
+stopped task (faults.Outside outside.ReadFailed) before after out err_before err_after status leaves kept counts inputs stops said =
+    stopped_failing task outside.ReadFailed before after out err_before err_after status leaves kept counts inputs stops.1 stops.0 said
+stopped task (faults.Outside outside.NoFile) before after out err_before err_after status leaves kept counts inputs stops said =
+    stopped_refused task (faults.Outside outside.NoFile) before after out err_before err_after status tt leaves kept counts stops said
+stopped task (faults.Outside outside.CreateFailed) before after out err_before err_after status leaves kept counts inputs stops said = absurd stops
+stopped task (faults.Outside outside.WriteFailed) before after out err_before err_after status leaves kept counts inputs stops said = absurd stops
+stopped task (faults.Outside outside.OutFailed) before after out err_before err_after status leaves kept counts inputs stops said = absurd stops
+stopped task (faults.Words error) before after out err_before err_after status leaves kept counts inputs stops said = absurd stops
+stopped task (faults.Posed error) before after out err_before err_after status leaves kept counts inputs stops said =
+    stopped_refused task (faults.Posed error) before after out err_before err_after status tt leaves kept counts stops said
+stopped task (faults.Demands error) before after out err_before err_after status leaves kept counts inputs stops said =
+    stopped_refused task (faults.Demands error) before after out err_before err_after status tt leaves kept counts stops said
+stopped task (faults.Dimacs error) before after out err_before err_after status leaves kept counts inputs stops said =
+    stopped_refused task (faults.Dimacs error) before after out err_before err_after status tt leaves kept counts stops said
+stopped task (faults.NotPlain t y x) before after out err_before err_after status leaves kept counts inputs stops said =
+    stopped_refused task (faults.NotPlain t y x) before after out err_before err_after status tt leaves kept counts stops said
+stopped task (faults.Rle error) before after out err_before err_after status leaves kept counts inputs stops said =
+    stopped_refused task (faults.Rle error) before after out err_before err_after status tt leaves kept counts stops said
+stopped task (faults.TooLong limit) before after out err_before err_after status leaves kept counts inputs stops said =
+    stopped_refused task (faults.TooLong limit) before after out err_before err_after status tt leaves kept counts stops said
 
 -- words that are no command line, or lack memory
-pub words_ended : (error : WordsError) (job : Result Job WordsError) (shelf : ShelfMoment) (out err_before err_after : SinkMoment) (status : Status) → shelf.faults < 2 ^ 64
-    → (error ≢ words.Memory → job ≡ Err error) → Says (words_fault error) status err_before err_after
-    → (end : End) × IsEnd job (moment shelf out err_before) (moment shelf out err_after) status end
-words_ended words.Memory job shelf out err_before err_after status fits read said = words_lack job shelf out err_before err_after status fits said
-words_ended words.NoCommand job shelf out err_before err_after status fits read said = rw (read (λ is. cc)) (words_refused words.NoCommand shelf out err_before err_after status fits said)
-words_ended words.UnknownCommand job shelf out err_before err_after status fits read said = rw (read (λ is. cc)) (words_refused words.UnknownCommand shelf out err_before err_after status fits said)
-words_ended (words.BadWord place) job shelf out err_before err_after status fits read said = rw (read (λ is. cc)) (words_refused (words.BadWord place) shelf out err_before err_after status fits said)
-words_ended (words.UnknownOption place) job shelf out err_before err_after status fits read said = rw (read (λ is. cc)) (words_refused (words.UnknownOption place) shelf out err_before err_after status fits said)
-words_ended (words.RepeatedOption place) job shelf out err_before err_after status fits read said = rw (read (λ is. cc)) (words_refused (words.RepeatedOption place) shelf out err_before err_after status fits said)
-words_ended (words.MissingValue place) job shelf out err_before err_after status fits read said = rw (read (λ is. cc)) (words_refused (words.MissingValue place) shelf out err_before err_after status fits said)
-words_ended (words.BadValue place) job shelf out err_before err_after status fits read said = rw (read (λ is. cc)) (words_refused (words.BadValue place) shelf out err_before err_after status fits said)
-words_ended (words.BadRule place fault) job shelf out err_before err_after status fits read said = rw (read (λ is. cc)) (words_refused (words.BadRule place fault) shelf out err_before err_after status fits said)
-words_ended (words.Operands expected found) job shelf out err_before err_after status fits read said = rw (read (λ is. cc)) (words_refused (words.Operands expected found) shelf out err_before err_after status fits said)
-words_ended (words.SameName place) job shelf out err_before err_after status fits read said = rw (read (λ is. cc)) (words_refused (words.SameName place) shelf out err_before err_after status fits said)
-words_ended (words.RulesCross nine) job shelf out err_before err_after status fits read said = rw (read (λ is. cc)) (words_refused (words.RulesCross nine) shelf out err_before err_after status fits said)
-words_ended (words.LooseBackground nine) job shelf out err_before err_after status fits read said = rw (read (λ is. cc)) (words_refused (words.LooseBackground nine) shelf out err_before err_after status fits said)
+pub words_ended : (error : WordsError) (task : Result Task WordsError) (shelf : ShelfMoment) (out err_before err_after : SinkMoment) (status : Status) → shelf.faults < 2 ^ 64
+    → (error ≢ words.Memory → task ≡ Err error) → Says (words_fault error) status err_before err_after
+    → (end : End) × IsEnd task (moment shelf out err_before) (moment shelf out err_after) status end
+words_ended words.Memory task shelf out err_before err_after status fits read said = words_lack task shelf out err_before err_after status fits said
+words_ended words.NoCommand task shelf out err_before err_after status fits read said = rw (read (λ is. cc)) (words_refused words.NoCommand shelf out err_before err_after status fits said)
+words_ended words.UnknownCommand task shelf out err_before err_after status fits read said = rw (read (λ is. cc)) (words_refused words.UnknownCommand shelf out err_before err_after status fits said)
+words_ended (words.BadWord place) task shelf out err_before err_after status fits read said = rw (read (λ is. cc)) (words_refused (words.BadWord place) shelf out err_before err_after status fits said)
+words_ended (words.UnknownOption place) task shelf out err_before err_after status fits read said = rw (read (λ is. cc)) (words_refused (words.UnknownOption place) shelf out err_before err_after status fits said)
+words_ended (words.RepeatedOption place) task shelf out err_before err_after status fits read said = rw (read (λ is. cc)) (words_refused (words.RepeatedOption place) shelf out err_before err_after status fits said)
+words_ended (words.MissingValue place) task shelf out err_before err_after status fits read said = rw (read (λ is. cc)) (words_refused (words.MissingValue place) shelf out err_before err_after status fits said)
+words_ended (words.BadValue place) task shelf out err_before err_after status fits read said = rw (read (λ is. cc)) (words_refused (words.BadValue place) shelf out err_before err_after status fits said)
+words_ended (words.BadRule place fault) task shelf out err_before err_after status fits read said = rw (read (λ is. cc)) (words_refused (words.BadRule place fault) shelf out err_before err_after status fits said)
+words_ended (words.Operands expected found) task shelf out err_before err_after status fits read said = rw (read (λ is. cc)) (words_refused (words.Operands expected found) shelf out err_before err_after status fits said)
+words_ended (words.SameName place) task shelf out err_before err_after status fits read said = rw (read (λ is. cc)) (words_refused (words.SameName place) shelf out err_before err_after status fits said)
+words_ended (words.RulesCross nine) task shelf out err_before err_after status fits read said = rw (read (λ is. cc)) (words_refused (words.RulesCross nine) shelf out err_before err_after status fits said)
+words_ended (words.LooseBackground nine) task shelf out err_before err_after status fits read said = rw (read (λ is. cc)) (words_refused (words.LooseBackground nine) shelf out err_before err_after status fits said)
 
--- the shelf is left alone by a job and by the answer to its question
-leaves_both : (job : Job) (question : Question) (files : Option Files) (before mid after : ShelfMoment)
-    → Asks job files (Ok question) → LeavesShelf job before mid → LeavesPrinting question mid after → LeavesShelf job before after
-leaves_both (jobs.Rule rule) question files before mid after asked first second =
-    let same : question ≡ questions.Print rule = cc in
-    let P : Question → Type 0 = λ q. LeavesPrinting q mid after in
-    let last : after ≡ mid = subst P same second in
-    last ∙ first
-leaves_both (jobs.Check one two rule demands form) question files before mid after asked first second = tt
-leaves_both (jobs.Judge one two rule demands rle) question files before mid after asked first second = tt
-leaves_both (jobs.Cnf one rule demands form) question files before mid after asked first second = tt
-leaves_both (jobs.Lrat one two) question files before mid after asked first second = tt
-leaves_both (jobs.Search one two rule demands form budget keep_all rle crew) question files before mid after asked first second = tt
-leaves_both (jobs.Sat one two budget keep_all) question files before mid after asked first second = tt
-leaves_both (jobs.Make seed size one two) question files before mid after asked first second =
-    let same : question ≡ questions.Make seed size one (default_effort two) = cc in
-    let P : Question → Type 0 = λ q. LeavesPrinting q mid after in
-    let last : KeepsInput mid after = subst P same second in
-    KeepsInput-trans first last
-leaves_both (jobs.Least one two rule demands form budget keep_all rle) question files before mid after asked first second = tt
-leaves_both (jobs.Loose one two low high demands form budget keep_all rle) question files before mid after asked first second = tt
-leaves_both (jobs.LooseCheck one two low high demands form) question files before mid after asked first second = tt
-leaves_both (jobs.Trim one two three) question files before mid after asked first second = tt
+-- the shelf's input is left alone twice
+leaves_both : (asking : Asking) (before mid after : ShelfMoment) → LeavesInput asking before mid → LeavesInput asking mid after → LeavesInput asking before after
+leaves_both (of_none question) before mid after first second = KeepsInput-trans first second
+leaves_both (of_one name limit make) before mid after first second = tt
+leaves_both (of_two one one_limit two two_limit make) before mid after first second = tt
 
 WroteFile-after : (file : Option AnswerFile) (before mid after : ShelfMoment) → KeepsFiles before mid → mid.faults ≡ before.faults → WroteFile file mid after → WroteFile file before after
 WroteFile-after None before mid after kept same wrote = record {
@@ -297,26 +267,26 @@ reads_nothing : (ahead : Option AnswerFile) (question : Question) (before after 
 reads_nothing None question before after status fault ended = ended
 reads_nothing (Some file) question before after status fault ended = ended.2
 
--- the end of a question that was asked is that of its job
-of_job : (job : Job) (question : Question) (before after : Moment) (status : Status) (end : End) → LeavesShelf job before.shelf after.shelf → Asks job (files_at before.shelf) (Ok question)
-    → Ends question before after status end → IsEnd (Ok job) before after status end
-of_job job question before after status (answered answer) leaves asked ended = (leaves, (question, asked, ended))
-of_job job question before after status (file_failed answer fault) leaves asked ended = (leaves, (question, asked, ended))
-of_job job question before after status (output_failed answer) leaves asked ended = (leaves, (question, asked, ended))
-of_job job question before after status (ahead_failed fault) leaves asked ended = (leaves, (question, asked, ended))
-of_job job question before after status lacked leaves asked ended = (leaves, inr (question, asked, ended))
-of_job job question before after status (refused fault) leaves asked ended = absurd (refuses_nothing (ahead_of question) question before after status fault ended)
-of_job job question before after status (input_failed fault) leaves asked ended = absurd (reads_nothing (ahead_of question) question before after status fault ended)
+-- the end of a question that was asked is that of its task
+of_task : (task : Task) (question : Question) (before after : Moment) (status : Status) (end : End) → LeavesInput (asking_of task) before.shelf after.shelf → Asks task (files_at before.shelf) (Ok question)
+    → Ends question before after status end → IsEnd (Ok task) before after status end
+of_task task question before after status (answered answer) leaves asked ended = (leaves, (question, asked, ended))
+of_task task question before after status (file_failed answer fault) leaves asked ended = (leaves, (question, asked, ended))
+of_task task question before after status (output_failed answer) leaves asked ended = (leaves, (question, asked, ended))
+of_task task question before after status (ahead_failed fault) leaves asked ended = (leaves, (question, asked, ended))
+of_task task question before after status lacked leaves asked ended = (leaves, inr (question, asked, ended))
+of_task task question before after status (refused fault) leaves asked ended = absurd (refuses_nothing (ahead_of question) question before after status fault ended)
+of_task task question before after status (input_failed fault) leaves asked ended = absurd (reads_nothing (ahead_of question) question before after status fault ended)
 
--- a question's end is that of the job that asked it
-pub job_ended : (job : Job) (question : Question) (before mid after : ShelfMoment) (out_before out_after err_before err_after : SinkMoment) (status : Status)
-    → Asks job (files_at before) (Ok question) → LeavesShelf job before mid → LeavesPrinting question mid after → KeepsFiles before mid → mid.faults ≡ before.faults
+-- a question's end is that of the task that asked it
+pub task_ended : (task : Task) (question : Question) (before mid after : ShelfMoment) (out_before out_after err_before err_after : SinkMoment) (status : Status)
+    → Asks task (files_at before) (Ok question) → LeavesInput (asking_of task) before mid → LeavesInput (asking_of task) mid after → KeepsFiles before mid → mid.faults ≡ before.faults
     → (end : End) × Ends question (moment mid out_before err_before) (moment after out_after err_after) status end
-    → (end : End) × IsEnd (Ok job) (moment before out_before err_before) (moment after out_after err_after) status end
-job_ended job question before mid after out_before out_after err_before err_after status asked leaves printing kept same (end, ended) = (
+    → (end : End) × IsEnd (Ok task) (moment before out_before err_before) (moment after out_after err_after) status end
+task_ended task question before mid after out_before out_after err_before err_after status asked leaves more kept same (end, ended) = (
   end,
-  of_job job question (moment before out_before err_before) (moment after out_after err_after) status end
-      (leaves_both job question (files_at before) before mid after asked leaves printing) asked
+  of_task task question (moment before out_before err_before) (moment after out_after err_after) status end
+      (leaves_both (asking_of task) before mid after leaves more) asked
       (IsEndBehind-after (ahead_of question) question before mid after out_before out_after err_before err_after status end kept same ended),
 )
 
@@ -332,34 +302,24 @@ behind_file file question before mid after out_before out_after err_before err_a
 behind_file file question before mid after out_before out_after err_before err_after status wrote (input_failed fault, ended) = absurd ended
 behind_file file question before mid after out_before out_after err_before err_after status wrote (ahead_failed fault, ended) = absurd ended
 
-leaves_shelf : (job : Job) (before after : ShelfMoment) → HasInputs job → LeavesShelf job before after
-leaves_shelf (jobs.Rule rule) before after inputs = absurd inputs
-leaves_shelf (jobs.Check one two rule demands form) before after inputs = tt
-leaves_shelf (jobs.Judge one two rule demands rle) before after inputs = tt
-leaves_shelf (jobs.Cnf one rule demands form) before after inputs = tt
-leaves_shelf (jobs.Lrat one two) before after inputs = tt
-leaves_shelf (jobs.Search one two rule demands form budget keep_all rle crew) before after inputs = tt
-leaves_shelf (jobs.Sat one two budget keep_all) before after inputs = tt
-leaves_shelf (jobs.Make seed size one two) before after inputs = absurd inputs
-leaves_shelf (jobs.Least one two rule demands form budget keep_all rle) before after inputs = tt
-leaves_shelf (jobs.Loose one two low high demands form budget keep_all rle) before after inputs = tt
-leaves_shelf (jobs.LooseCheck one two low high demands form) before after inputs = tt
-leaves_shelf (jobs.Trim one two three) before after inputs = tt
+leaves_input : (asking : Asking) (before after : ShelfMoment) → ReadsInputs asking → LeavesInput asking before after
+leaves_input (of_none question) before after inputs = absurd inputs
+leaves_input (of_one name limit make) before after inputs = tt
+leaves_input (of_two one one_limit two two_limit make) before after inputs = tt
 
--- the inputs of a job came to an answer, and it was given
-pub read_answered : (job : Job) (answer : Answer) (before mid after : ShelfMoment) (out_before out_after err_before err_after : SinkMoment) (status : Status) → HasInputs job
-    → Reads (ComesTo job (files_at before)) (Ok answer) before mid
+-- the inputs of a task came to an answer, and it was given
+pub read_answered : (task : Task) (answer : Answer) (before mid after : ShelfMoment) (out_before out_after err_before err_after : SinkMoment) (status : Status) → HasInputs task
+    → Reads (ComesTo task (files_at before)) (Ok answer) before mid
     → ((question : Question) → IsAnswer question answer → (end : End) × IsEndOf question (moment mid out_before err_before) (moment after out_after err_after) status end)
-    → ((question : Question) → IsAnswer question answer → LeavesPrinting question mid after)
-    → (end : End) × IsEnd (Ok job) (moment before out_before err_before) (moment after out_after err_after) status end
-read_answered job answer before mid after out_before out_after err_before err_after status inputs read ended printing =
+    → (end : End) × IsEnd (Ok task) (moment before out_before err_before) (moment after out_after err_after) status end
+read_answered task answer before mid after out_before out_after err_before err_after status inputs read ended =
     let (question, asked, none, right) = read.ok.0 in
-    job_ended job question before mid after out_before out_after err_before err_after status asked (leaves_shelf job before mid inputs) (printing question right) read.kept read.ok.1
+    task_ended task question before mid after out_before out_after err_before err_after status asked (leaves_input (asking_of task) before mid inputs) (leaves_input (asking_of task) mid after inputs) read.kept read.ok.1
     (subst (λ ahead. (end : End) × IsEndBehind ahead question (moment mid out_before err_before) (moment after out_after err_after) status end) (sym none) (ended question right))
 
 -- or to a fault, and it was said
-pub read_stopped : (job : Job) (fault : Fault) (before after : ShelfMoment) (out err_before err_after : SinkMoment) (status : Status) → HasInputs job
-    → Reads (ComesTo job (files_at before)) (Err fault) before after → Says fault status err_before err_after
-    → (end : End) × IsEnd (Ok job) (moment before out err_before) (moment after out err_after) status end
-read_stopped job fault before after out err_before err_after status inputs read said =
-    stopped job fault before after out err_before err_after status (leaves_shelf job before after inputs) read.kept read.counts inputs read.err said
+pub read_stopped : (task : Task) (fault : Fault) (before after : ShelfMoment) (out err_before err_after : SinkMoment) (status : Status) → HasInputs task
+    → Reads (ComesTo task (files_at before)) (Err fault) before after → Says fault status err_before err_after
+    → (end : End) × IsEnd (Ok task) (moment before out err_before) (moment after out err_after) status end
+read_stopped task fault before after out err_before err_after status inputs read said =
+    stopped task fault before after out err_before err_after status (leaves_input (asking_of task) before after inputs) read.kept read.counts inputs read.err said

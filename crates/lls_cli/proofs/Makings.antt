@@ -1,5 +1,5 @@
--- What the search of a made problem comes to is a right answer.
-use Rattle.std.proofs.Common.{◌≡◌, ℕ, List, length, sym, ap, subst, ◌∙◌}
+-- What the search of a made problem comes to is a right answer, and what that does.
+use Rattle.std.proofs.Common.{◌≡◌, ℕ, List, ◌∷◌, [], length, refl, sym, ap, subst, ◌∙◌, inl, inr}
 use Rattle.std.specs.Prelude.{codes}
 use Rattle.lls_lit.specs.Formula.{Cnf}
 use Rattle.lls_problem.specs.Solution.{IsSolution}
@@ -14,9 +14,15 @@ use Rattle.lls_cli.specs.Questions as questions
 use Rattle.lls_cli.specs.declared.effort.Effort.{Effort}
 use Rattle.lls_cli.specs.declared.answer_file.AnswerFile.{AnswerFile}
 use Rattle.lls_cli.specs.declared.answer.Answer.{Answer}
+use Rattle.lls_cli.specs.declared.status.Status.{Status}
 use Rattle.lls_cli.specs.declared.status.Status.TheVariants as statuses
-use Rattle.lls_cli.specs.Making.{summary_of, summary_text}
-use Rattle.lls_cli.specs.Answer.{IsAnswer, shown, shown_behind, solved, unsolved}
+use Rattle.lls_cli.specs.Making.{summary_of, summary_text, IsMaking, solved, unsolved, make_meaning}
+use Rattle.lls_cli.specs.Meaning.{leaves_log, says, shown, shown_behind}
+use Rattle.lls_cli.specs.Answer.{IsAnswer}
+use Rattle.lls_cli.specs.Claims.{search_file_at}
+use Rattle.lls_cli.specs.Moment.{ShelfMoment, files_at}
+use Rattle.lls_cli.specs.Ends.{WroteFile}
+use Rattle.lls_cli.proofs.Outputs.{IsLawful, WritesAtMost, log_left, one_name}
 use Rattle.lls_cli.proofs.Searches.{log_of, short_of}
 
 -- a made problem has two generations
@@ -47,3 +53,33 @@ unsolved_answer seed size name effort pair formula steps file answer is made_of 
     let spent : IsExhausted (formula_of (made_problem seed size) Rows) effort.budget steps = subst (λ (f : Cnf). IsExhausted f effort.budget steps) its exhausted in
     subst (IsAnswer (questions.Make seed size name effort)) (sym (given ∙ ap (shown_behind file statuses.Undecided) (summary-made seed size pair formula (codes "undecided") is made_of)))
     (record { answers = unsolved file (log_of (formula_of (made_problem seed size) Rows) effort steps file named kept spent); holds = short_of (formula_of (made_problem seed size) Rows) effort steps kept spent })
+
+making_writes : (seed size : ℕ) (name : List ℕ) (effort : Effort) (answer : Answer) → IsMaking seed size effort answer → WritesAtMost (make_meaning seed size name effort) answer
+making_writes seed size name effort _ solved = inl refl
+making_writes seed size name effort _ (unsolved file log) =
+    let named = one_name effort log.steps file log.log in inr (record { file = file; file_is = refl; at_status = named; at_failure = named })
+
+making_leaves : (seed size : ℕ) (effort : Effort) (answer : Answer) (before after : ShelfMoment) → IsMaking seed size effort answer → WroteFile answer.file before after
+    → leaves_log (formula_of (made_problem seed size) Rows) effort answer.status (files_at after)
+making_leaves seed size effort _ before after solved wrote = tt
+making_leaves seed size effort _ before after (unsolved file log) wrote = log_left (formula_of (made_problem seed size) Rows) effort file before after log wrote
+
+-- the statuses of its answers
+making_ahead : (seed size : ℕ) (name : List ℕ) (effort : Effort) (status : Status) (other : List ℕ) → says (make_meaning seed size name effort) status → search_file_at status other ≡ other ∷ []
+making_ahead seed size name effort statuses.Pattern other holds = refl
+making_ahead seed size name effort statuses.Undecided other holds = refl
+making_ahead seed size name effort statuses.Done other holds = absurd holds
+making_ahead seed size name effort statuses.Refused other holds = absurd holds
+making_ahead seed size name effort statuses.Words other holds = absurd holds
+making_ahead seed size name effort statuses.Content other holds = absurd holds
+making_ahead seed size name effort statuses.Outside other holds = absurd holds
+making_ahead seed size name effort statuses.Memory other holds = absurd holds
+making_ahead seed size name effort statuses.Limit other holds = absurd holds
+making_ahead seed size name effort statuses.NoPattern other holds = absurd holds
+
+pub make_lawful : (seed size : ℕ) (name : List ℕ) (effort : Effort) → IsLawful (make_meaning seed size name effort)
+make_lawful seed size name effort = record {
+  writes = making_writes seed size name effort;
+  leaves = making_leaves seed size effort;
+  ahead = λ status says file is. making_ahead seed size name effort status file.name says;
+}

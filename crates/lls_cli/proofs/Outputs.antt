@@ -1,116 +1,72 @@
 -- The file that an answer writes, if it writes one, and what it leaves there.
-use Rattle.std.proofs.Common.{◌≡◌, ℕ, Bool, List, [], ◌∷◌, None, Some, Result, Ok, Err, refl, ap, sym, subst, inl, inr, ◌⊎◌}
-use Rattle.lls_problem.specs.declared.judgement.Judgement.{Judgement}
-use Rattle.lls_problem.specs.declared.judgement.Judgement.TheVariants as judgements
+use Rattle.std.proofs.Common.{◌≡◌, ℕ, List, [], ◌∷◌, Option, None, Some, refl, ap, sym, subst, ◌⊎◌}
+use Rattle.std.specs.FinMap as map
+use Rattle.std.specs.Option.{option_map}
+use Rattle.lls_base.specs.Shelf.{Files}
+use Rattle.lls_base.proofs.FileMaps.{get-insert_same}
 use Rattle.lls_lit.specs.Formula.{Cnf}
-use Rattle.lls_lrat.specs.declared.error.CheckError.{CheckError}
 use Rattle.lls_prooflog.specs.declared.step.Step.{Step}
-use Rattle.lls_cli.specs.Questions.{Question}
-use Rattle.lls_cli.specs.Questions as questions
 use Rattle.lls_cli.specs.declared.effort.Effort.{Effort}
 use Rattle.lls_cli.specs.declared.answer_file.AnswerFile.{AnswerFile}
 use Rattle.lls_cli.specs.declared.answer.Answer.{Answer}
-use Rattle.lls_cli.specs.declared.asked.Asked.{Asked}
-use Rattle.lls_cli.specs.declared.asked.OpenAsked.{OpenAsked}
 use Rattle.lls_cli.specs.declared.status.Status.{Status}
 use Rattle.lls_cli.specs.declared.status.Status.TheVariants as statuses
-use Rattle.lls_cli.specs.Evidence.{HasLog}
-use Rattle.lls_cli.specs.Answer.{check_answer, judge_answer, Answers, IsDecision, IsFewest, IsFinding, IsMaking, IsOpening, IsTrim, satisfied, unsatisfied, unknown, found, absent, undecided, solved, unsolved, none_live, fewest, no_solution, at_most, unsettled, opened, no_rule, left_open, kept, not_accepted, by_pivot}
-use Rattle.lls_cli.specs.Claims.{log_at, certificate_at, trimmed_at}
+use Rattle.lls_cli.specs.Evidence.{HasLog, HasProof, HasSpentLog}
+use Rattle.lls_cli.specs.Meaning.{Meaning, OfFile, says}
+use Rattle.lls_cli.specs.Moment.{ShelfMoment, files_at}
+use Rattle.lls_cli.specs.Ends.{WroteFile}
+use Rattle.lls_cli.specs.Claims.{search_file_at}
+use Rattle.lls_cli.proofs.Changes.{wrote_some}
 
--- the file that the answer to a question may write, by its status
-abbrev pub written_at : Question → Status → List (List ℕ)
-written_at (questions.Search asked effort rle) status = log_at status effort.proof
-written_at (questions.Decide formula effort) status = log_at status effort.proof
-written_at (questions.Make seed size name effort) status = log_at status effort.proof
-written_at (questions.Least asked effort rle) status = certificate_at status effort.proof
-written_at (questions.Loose asked effort rle) status = log_at status effort.proof
-written_at (questions.Trim formula proof output) status = trimmed_at status output
-written_at question status = []
-
--- it is an answer's file, at its status and where the writing of it fails
-pub record Writes (question : Question) (answer : Answer) : Type 0 where
+-- an answer's file is the one that may have changed, at its status and where the writing of it fails
+pub record Writes (meaning : Meaning) (answer : Answer) : Type 0 where
   pub file : AnswerFile
   pub file_is : answer.file ≡ Some file
-  pub at_status : written_at question answer.status ≡ file.name ∷ []
-  pub at_failure : written_at question statuses.Outside ≡ file.name ∷ []
+  pub at_status : meaning.writes answer.status ≡ file.name ∷ []
+  pub at_failure : meaning.writes statuses.Outside ≡ file.name ∷ []
 
-abbrev pub WritesAtMost : Question → Answer → Type 0
-WritesAtMost question answer = (answer.file ≡ None) ⊎ Writes question answer
+abbrev pub WritesAtMost : Meaning → Answer → Type 0
+WritesAtMost meaning answer = (answer.file ≡ None) ⊎ Writes meaning answer
+
+-- a status at which a file that is written ahead may have changed
+abbrev pub MayWriteAhead : Option AnswerFile → Status → Type 0
+MayWriteAhead ahead status = (file : AnswerFile) → ahead ≡ Some file → search_file_at status file.name ≡ file.name ∷ []
+
+-- what every right answer does: it writes one file at most, leaves there what its status says, and has a status at which what is
+-- written ahead may stand
+pub record IsLawful (meaning : Meaning) : Type 0 where
+  pub writes : (answer : Answer) → meaning.answers answer → WritesAtMost meaning answer
+  pub leaves : (answer : Answer) (before after : ShelfMoment) → meaning.answers answer → WroteFile answer.file before after → meaning.leaves answer.status (files_at after)
+  pub ahead : (status : Status) → says meaning status → MayWriteAhead meaning.ahead status
+
+-- nothing is written ahead
+pub none_ahead : (status : Status) → MayWriteAhead None status
+none_ahead status file is = absurd cc
 
 -- the name of a log's file
-one_name : (effort : Effort) (steps : List Step) (file : AnswerFile) → HasLog effort steps file → effort.proof ∷ [] ≡ file.name ∷ []
+pub one_name : (effort : Effort) (steps : List Step) (file : AnswerFile) → HasLog effort steps file → effort.proof ∷ [] ≡ file.name ∷ []
 one_name effort steps file log = ap (λ (f : AnswerFile). f.name ∷ []) (sym log.file_is)
 
-check_writes : (question : Question) (verdict : Result (Unit {0}) CheckError) → WritesAtMost question (check_answer verdict)
-check_writes question (Ok accepted) = inl refl
-check_writes question (Err error) = inl refl
+of_inserted : (Fact : AnswerFile → Type 0) (file : AnswerFile) (files : Option Files) → Fact file → OfFile Fact file.name (option_map (λ known. map.insert known file.name file.bytes) files)
+of_inserted Fact file None fact = tt
+of_inserted Fact file (Some files) fact = (file.bytes, get-insert_same files file.name file.bytes, fact)
 
-judge_writes : (question : Question) (judgement : Judgement) → WritesAtMost question (judge_answer judgement)
-judge_writes question judgements.Meets = inl refl
-judge_writes question judgements.Size = inl refl
-judge_writes question (judgements.Cell t y x) = inl refl
-judge_writes question (judgements.Name t y x) = inl refl
-judge_writes question (judgements.Symmetry t y x) = inl refl
-judge_writes question (judgements.Background t) = inl refl
-judge_writes question (judgements.Moved t y x) = inl refl
-judge_writes question (judgements.Rule t y x) = inl refl
-judge_writes question (judgements.Population t n) = inl refl
-judge_writes question judgements.Same = inl refl
+-- a file that was written whole stands there
+pub of_written : (Fact : AnswerFile → Type 0) (file : AnswerFile) (name : List ℕ) (before after : ShelfMoment) → file.name ≡ name → Fact file
+    → WroteFile (Some file) before after → OfFile Fact name (files_at after)
+of_written Fact file name before after named fact wrote =
+    subst (λ n. OfFile Fact n (files_at after)) named (subst (OfFile Fact file.name) (sym (wrote_some (Some file) file before after refl wrote)) (of_inserted Fact file (files_at before) fact))
 
-finding_writes : (asked : Asked) (effort : Effort) (rle : Bool) (answer : Answer) → IsFinding asked effort rle answer → WritesAtMost (questions.Search asked effort rle) answer
-finding_writes asked effort rle _ (found history is law) = inl refl
-finding_writes asked effort rle _ (absent file proof) =
-    let name = one_name effort proof.steps file proof.log in inr (record { file = file; file_is = refl; at_status = name; at_failure = name })
-finding_writes asked effort rle _ (undecided file log) =
-    let name = one_name effort log.steps file log.log in inr (record { file = file; file_is = refl; at_status = name; at_failure = name })
+pub named_by : (effort : Effort) (steps : List Step) (file : AnswerFile) → HasLog effort steps file → file.name ≡ effort.proof
+named_by effort steps file log = ap (λ (f : AnswerFile). f.name) log.file_is
 
-decision_writes : (formula : Cnf) (effort : Effort) (answer : Answer) → IsDecision formula effort answer → WritesAtMost (questions.Decide formula effort) answer
-decision_writes formula effort _ (satisfied values is) = inl refl
-decision_writes formula effort _ (unsatisfied file proof) =
-    let name = one_name effort proof.steps file proof.log in inr (record { file = file; file_is = refl; at_status = name; at_failure = name })
-decision_writes formula effort _ (unknown file log) =
-    let name = one_name effort log.steps file log.log in inr (record { file = file; file_is = refl; at_status = name; at_failure = name })
+-- the file of a proof, and that of a log
+pub proof_left : (formula : Cnf) (effort : Effort) (file : AnswerFile) (before after : ShelfMoment) → HasProof formula effort file → WroteFile (Some file) before after
+    → OfFile (HasProof formula effort) effort.proof (files_at after)
+proof_left formula effort file before after proof wrote =
+    of_written (HasProof formula effort) file effort.proof before after (named_by effort proof.steps file proof.log) proof wrote
 
-making_writes : (seed size : ℕ) (name : List ℕ) (effort : Effort) (answer : Answer) → IsMaking seed size effort answer → WritesAtMost (questions.Make seed size name effort) answer
-making_writes seed size name effort _ solved = inl refl
-making_writes seed size name effort _ (unsolved file log) =
-    let named = one_name effort log.steps file log.log in inr (record { file = file; file_is = refl; at_status = named; at_failure = named })
-
-fewest_writes : (asked : Asked) (effort : Effort) (rle : Bool) (answer : Answer) → IsFewest asked effort rle answer → WritesAtMost (questions.Least asked effort rle) answer
-fewest_writes asked effort rle _ (none_live history is none) = inl refl
-fewest_writes asked effort rle _ (fewest history n file is above proof) =
-    let name = one_name effort proof.steps file proof.log in inr (record { file = file; file_is = refl; at_status = name; at_failure = name })
-fewest_writes asked effort rle _ (no_solution file proof) =
-    let name = one_name effort proof.steps file proof.log in inr (record { file = file; file_is = refl; at_status = name; at_failure = name })
-fewest_writes asked effort rle _ (at_most history n file above log) =
-    let name = one_name effort log.steps file log.log in inr (record { file = file; file_is = refl; at_status = name; at_failure = name })
-fewest_writes asked effort rle _ (unsettled file log) =
-    let name = one_name effort log.steps file log.log in inr (record { file = file; file_is = refl; at_status = name; at_failure = name })
-
-opening_writes : (asked : OpenAsked) (effort : Effort) (rle : Bool) (answer : Answer) → IsOpening asked effort rle answer → WritesAtMost (questions.Loose asked effort rle) answer
-opening_writes asked effort rle _ (opened history rule is) = inl refl
-opening_writes asked effort rle _ (no_rule file proof) =
-    let name = one_name effort proof.steps file proof.log in inr (record { file = file; file_is = refl; at_status = name; at_failure = name })
-opening_writes asked effort rle _ (left_open file log) =
-    let name = one_name effort log.steps file log.log in inr (record { file = file; file_is = refl; at_status = name; at_failure = name })
-
-trim_writes : (formula : Cnf) (proof output : List ℕ) (answer : Answer) → IsTrim formula proof output answer → WritesAtMost (questions.Trim formula proof output) answer
-trim_writes formula proof output _ (kept file has) =
-    let name = ap (λ (f : AnswerFile). f.name ∷ []) (sym has.file_is) in inr (record { file = file; file_is = refl; at_status = name; at_failure = name })
-trim_writes formula proof output _ (not_accepted error is) = inl refl
-trim_writes formula proof output _ (by_pivot line accepted first) = inl refl
-
-pub writes : (question : Question) (answer : Answer) → Answers question answer → WritesAtMost question answer
-writes (questions.Check asked bytes) answer right = subst (WritesAtMost (questions.Check asked bytes)) (sym right) (check_writes _ _)
-writes (questions.Refute formula bytes) answer right = subst (WritesAtMost (questions.Refute formula bytes)) (sym right) (check_writes _ _)
-writes (questions.Judge problem history) answer right = subst (WritesAtMost (questions.Judge problem history)) (sym right.2) (judge_writes _ right.0)
-writes (questions.Search asked effort rle) answer right = finding_writes asked effort rle answer right
-writes (questions.Decide formula effort) answer right = decision_writes formula effort answer right
-writes (questions.Encode asked) answer right = inl (ap (λ (a : Answer). a.file) right)
-writes (questions.Print rule) answer right = inl (ap (λ (a : Answer). a.file) right)
-writes (questions.Make seed size name effort) answer right = making_writes seed size name effort answer right
-writes (questions.Least asked effort rle) answer right = fewest_writes asked effort rle answer right
-writes (questions.Loose asked effort rle) answer right = opening_writes asked effort rle answer right
-writes (questions.LooseCheck asked bytes) answer right = subst (WritesAtMost (questions.LooseCheck asked bytes)) (sym right) (check_writes _ _)
-writes (questions.Trim formula proof output) answer right = trim_writes formula proof output answer right
+pub log_left : (formula : Cnf) (effort : Effort) (file : AnswerFile) (before after : ShelfMoment) → HasSpentLog formula effort file → WroteFile (Some file) before after
+    → OfFile (HasSpentLog formula effort) effort.proof (files_at after)
+log_left formula effort file before after log wrote =
+    of_written (HasSpentLog formula effort) file effort.proof before after (named_by effort log.steps file log.log) log wrote

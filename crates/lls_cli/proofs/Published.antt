@@ -16,19 +16,26 @@ use Rattle.lls_problem.specs.Solution.{IsAbsent}
 use Rattle.lls_least.specs.Fewer.{fewer, live_cells}
 use Rattle.lls_least.proofs.Solutions.{solution-fewer, live_cells-fewer}
 use Rattle.lls_words.specs.declared.error.WordsError.{WordsError}
-use Rattle.lls_words.specs.declared.crew_plan.CrewPlan.{CrewPlan}
-use Rattle.lls_words.specs.declared.job.Job.{Job}
-use Rattle.lls_words.specs.declared.job.Job.TheVariants as jobs
+use Rattle.lls_cli.specs.declared.effort.Effort.{Effort}
+use Rattle.lls_cli.specs.declared.task.Further.{Further}
+use Rattle.lls_cli.specs.declared.task.ProblemSource.{ProblemSource}
+use Rattle.lls_cli.specs.declared.task.Source.{Source}
+use Rattle.lls_cli.specs.declared.task.Source.TheVariants as sources
+use Rattle.lls_cli.specs.declared.task.Task.{Task}
+use Rattle.lls_cli.specs.declared.task.Task.TheVariants as tasks
+use Rattle.lls_cli.specs.Subject.{Subject, asked_with}
+use Rattle.lls_cli.specs.Subject as subjects
 use Rattle.lls_cli.specs.Questions.{Question}
 use Rattle.lls_cli.specs.Questions as questions
 use Rattle.lls_cli.specs.declared.asked.Asked.{Asked}
 use Rattle.lls_cli.specs.declared.status.Status.{Status}
 use Rattle.lls_cli.specs.declared.status.Status.TheVariants as statuses
 use Rattle.lls_cli.specs.declared.fault.Fault.{Fault}
-use Rattle.lls_cli.specs.Question.{asked_with, opened_with, demanded, effort_of, input_from, input_of, problem_in, roomy_problem_in, small_problem_in, with_room, proof_limit, search_limit, question_of}
-use Rattle.lls_cli.specs.Fewest.{IsOfFewest}
+use Rattle.lls_cli.specs.Question.{demanded, input_from, input_of, problem_in, roomy_problem_in, with_room, proof_limit, search_limit, source_file, source_limit, subject_from}
+use Rattle.lls_cli.specs.Fewest.{asked_fewer, IsOfFewest}
+use Rattle.lls_cli.specs.Meaning.{certificate_at, log_at}
 use Rattle.lls_cli.specs.Answer.{NoneHolds, YesHolds}
-use Rattle.lls_cli.specs.Claims.{OfQuestion, LeavesCertificate, LeavesProof, ChangesOnly, IsPublished, Publishes, PublishesFewest, demands_fewer, certificate_at, log_at, outputs_of_words}
+use Rattle.lls_cli.specs.Claims.{OfQuestion, LeavesCertificate, LeavesProof, ChangesOnly, IsPublished, Publishes, PublishesFewest, demands_fewer, source_fewer, outputs_of_words}
 use Rattle.lls_cli.proofs.Apart.{AreApart}
 use Rattle.lls_cli.proofs.Made.{made_is}
 
@@ -47,26 +54,22 @@ both : {A B : Type 0} (part : Result A Fault) (more : A → Result B Fault) (val
 both (Ok x) more value is = record { first = x; first_is = refl; value_is = is }
 both (Err fault) more value is = absurd cc
 
--- a job that makes something of a search file, and asks about a proof
-abbrev pub AsksAbout : {P : Type 0} → Job → (List ℕ → Result P Fault) → (P → List ℕ → Question) → List ℕ → List ℕ → Type 0
-AsksAbout job make question search_file proof =
-    (files : Files) → question_of job files ≡ and_then (and_then (input_of files search_file search_limit) make) (λ part. and_then (input_of files proof proof_limit) (λ text. Ok (question part text)))
-
--- what the search file was made into it is made into again, and the proof stands whole
-published : {P : Type 0} (job : Job) (make : List ℕ → Result P Fault) (question : P → List ℕ → Question) (search_file proof : List ℕ) (part : P) (before after : Files) (bytes : List ℕ)
-    → AsksAbout job make question search_file proof → search_file ≢ proof → ChangesOnly (proof ∷ []) (Some before) (Some after)
-    → and_then (input_of before search_file search_limit) make ≡ Ok part → map.get after proof ≡ Some bytes → YesHolds (question part bytes) → IsPublished job (question part) proof after
-published job make question search_file proof part before after bytes asks apart only made stands holds =
-    let stays : Some (map.get after search_file) ≡ Some (map.get before search_file) = only search_file (All-cons (λ changed. search_file ≢ changed) proof [] apart (All-nil (λ changed. search_file ≢ changed))) in
-    let same : map.get after search_file ≡ map.get before search_file = cc in
+-- what the first file was made into it is made into again, and the proof stands whole: so the check asks about both
+published : (source : Source) (proof : List ℕ) (subject : Subject) (before after : Files) (bytes : List ℕ)
+    → source_file source ≢ proof → ChangesOnly (proof ∷ []) (Some before) (Some after)
+    → subject_from source (input_of before (source_file source) (source_limit source)) ≡ Ok subject → map.get after proof ≡ Some bytes → YesHolds (questions.Check subject bytes)
+    → IsPublished (tasks.Check source proof) (questions.Check subject) proof after
+published source proof subject before after bytes apart only made stands holds =
+    let file = source_file source in
+    let stays : Some (map.get after file) ≡ Some (map.get before file) = only file (All-cons (λ changed. file ≢ changed) proof [] apart (All-nil (λ changed. file ≢ changed))) in
+    let same : map.get after file ≡ map.get before file = cc in
     record {
       bytes = bytes;
       stands = stands;
       asked = λ fits.
-          asks after
-          ∙ ap (λ first. and_then (and_then first make) (λ p. and_then (input_of after proof proof_limit) (λ text. Ok (question p text)))) (ap (input_from search_limit) same)
-          ∙ ap (λ read. and_then read (λ p. and_then (input_of after proof proof_limit) (λ text. Ok (question p text)))) made
-          ∙ ap (λ second. and_then second (λ text. Ok (question part text))) (input_within after proof bytes proof_limit stands fits);
+          ap (λ found. and_then (subject_from source (input_from (source_limit source) found)) (λ s. and_then (input_of after proof proof_limit) (λ text. Ok (questions.Check s text)))) same
+          ∙ ap (λ read. and_then read (λ s. and_then (input_of after proof proof_limit) (λ text. Ok (questions.Check s text)))) made
+          ∙ ap (λ second. and_then second (λ text. Ok (questions.Check subject text))) (input_within after proof bytes proof_limit stands fits);
       holds = holds;
     }
 
@@ -86,84 +89,59 @@ roomy-problem : (input : Result (List ℕ) Fault) (rule : List Bool) (demands : 
     → and_then input (roomy_problem_in rule demands) ≡ Ok problem → and_then input (problem_in rule demands) ≡ Ok problem
 roomy-problem input rule demands problem is = narrowed input (problem_in rule demands) with_room problem (λ p q same. kept_unless _ _ p q same) is
 
+-- a problem that a source's file makes is what the source is about
+problem_subject : (source : ProblemSource) (form : Form) (input : Result (List ℕ) Fault) (problem : PosedProblem) → and_then input (problem_in source.rule source.demands) ≡ Ok problem
+    → subject_from (sources.Problem source form) input ≡ Ok (subjects.Problem (asked_with form problem))
+problem_subject source form input problem is = ap (λ part. and_then part (λ p. Ok (subjects.Problem (asked_with form p)))) is
+
 -- what was asked once isn't another thing
 asked_again : (first second : Question) (answer : Result Question Fault) → answer ≡ Ok first → answer ≡ Ok second → first ≡ second
 asked_again first second answer one two = let same : Ok first ≡ Ok second = sym one ∙ two in cc
 
-search_publishes : (search_file proof : List ℕ) (rule : List Bool) (demands : Demands) (form : Form) (budget : ℕ) (keep_all rle : Bool) (crew : Option CrewPlan) (before after : Files) → search_file ≢ proof
-    → OfQuestion NoneHolds (Ok (jobs.Search search_file proof rule demands form budget keep_all rle crew)) (Some before)
-    → OfQuestion (LeavesProof (Some after)) (Ok (jobs.Search search_file proof rule demands form budget keep_all rle crew)) (Some before)
-    → ChangesOnly (proof ∷ []) (Some before) (Some after)
-    → Publishes (Ok (jobs.Search search_file proof rule demands form budget keep_all rle crew)) (Some before) (Some after)
-search_publishes search_file proof rule demands form budget keep_all rle crew before after apart nowhere leaves only =
-    let effort = effort_of budget keep_all proof in
-    let read = both (and_then (input_of before search_file search_limit) (problem_in rule demands)) (λ problem. Ok (questions.Search (asked_with form problem) effort rle)) leaves.0 leaves.1 in
+search_publishes : (source : Source) (effort : Effort) (further : Further) (before after : Files) → source_file source ≢ effort.proof
+    → OfQuestion NoneHolds (Ok (tasks.Search source effort further)) (Some before)
+    → OfQuestion (LeavesProof (Some after)) (Ok (tasks.Search source effort further)) (Some before)
+    → ChangesOnly (effort.proof ∷ []) (Some before) (Some after)
+    → Publishes (Ok (tasks.Search source effort further)) (Some before) (Some after)
+search_publishes source effort further before after apart nowhere leaves only =
+    let read = both (subject_from source (input_of before (source_file source) (source_limit source))) (λ subject. Ok (questions.Search subject effort further.rle)) leaves.0 leaves.1 in
+    let subject = read.first in
+    let is : leaves.0 ≡ questions.Search subject effort further.rle = let value = read.value_is in cc in
+    let file = subst (LeavesProof (Some after)) is leaves.2 in
+    let none = subst NoneHolds (asked_again nowhere.0 leaves.0 _ nowhere.1 leaves.1 ∙ is) nowhere.2 in
+    (subject, published source effort.proof subject before after file.0 apart only read.first_is file.1 (file.2.accepted, none))
+
+least_publishes : (source : ProblemSource) (form : Form) (effort : Effort) (further : Further) (before after : Files) → source.file ≢ effort.proof
+    → OfQuestion NoneHolds (Ok (tasks.Least source form effort further)) (Some before)
+    → OfQuestion (LeavesProof (Some after)) (Ok (tasks.Least source form effort further)) (Some before)
+    → ChangesOnly (effort.proof ∷ []) (Some before) (Some after)
+    → Publishes (Ok (tasks.Least source form effort further)) (Some before) (Some after)
+least_publishes source form effort further before after apart nowhere leaves only =
+    let input = input_of before source.file search_limit in
+    let read = both (and_then input (roomy_problem_in source.rule source.demands)) (λ problem. Ok (questions.Least (asked_with form problem) effort further.rle)) leaves.0 leaves.1 in
     let about = asked_with form read.first in
-    let is : leaves.0 ≡ questions.Search about effort rle = let value = read.value_is in cc in
+    let is : leaves.0 ≡ questions.Least about effort further.rle = let value = read.value_is in cc in
     let file = subst (LeavesProof (Some after)) is leaves.2 in
-    let none = subst NoneHolds (asked_again nowhere.0 leaves.0 _ nowhere.1 leaves.1 ∙ is) nowhere.2 in (
-      about,
-      published (jobs.Check search_file proof rule demands form) (problem_in rule demands) (λ problem text. questions.Check (asked_with form problem) text) search_file proof read.first before after file.0
-          (λ files. refl) apart only read.first_is file.1 (file.2.accepted, none),
-    )
+    let none = subst NoneHolds (asked_again nowhere.0 leaves.0 _ nowhere.1 leaves.1 ∙ is) nowhere.2 in
+    let made = problem_subject source form input read.first (roomy-problem input source.rule source.demands read.first read.first_is) in
+    (about, published (sources.Problem source form) effort.proof (subjects.Problem about) before after file.0 apart only made file.1 (file.2.accepted, none))
 
-least_publishes : (search_file proof : List ℕ) (rule : List Bool) (demands : Demands) (form : Form) (budget : ℕ) (keep_all rle : Bool) (before after : Files) → search_file ≢ proof
-    → OfQuestion NoneHolds (Ok (jobs.Least search_file proof rule demands form budget keep_all rle)) (Some before)
-    → OfQuestion (LeavesProof (Some after)) (Ok (jobs.Least search_file proof rule demands form budget keep_all rle)) (Some before)
-    → ChangesOnly (proof ∷ []) (Some before) (Some after)
-    → Publishes (Ok (jobs.Least search_file proof rule demands form budget keep_all rle)) (Some before) (Some after)
-least_publishes search_file proof rule demands form budget keep_all rle before after apart nowhere leaves only =
-    let effort = effort_of budget keep_all proof in
-    let read = both (and_then (input_of before search_file search_limit) (roomy_problem_in rule demands)) (λ problem. Ok (questions.Least (asked_with form problem) effort rle)) leaves.0 leaves.1 in
-    let about = asked_with form read.first in
-    let is : leaves.0 ≡ questions.Least about effort rle = let value = read.value_is in cc in
-    let file = subst (LeavesProof (Some after)) is leaves.2 in
-    let none = subst NoneHolds (asked_again nowhere.0 leaves.0 _ nowhere.1 leaves.1 ∙ is) nowhere.2 in (
-      about,
-      published (jobs.Check search_file proof rule demands form) (problem_in rule demands) (λ problem text. questions.Check (asked_with form problem) text) search_file proof read.first before after file.0
-          (λ files. refl) apart only (roomy-problem (input_of before search_file search_limit) rule demands read.first read.first_is) file.1 (file.2.accepted, none),
-    )
-
-loose_publishes : (search_file proof : List ℕ) (low high : List Bool) (demands : Demands) (form : Form) (budget : ℕ) (keep_all rle : Bool) (before after : Files) → search_file ≢ proof
-    → OfQuestion NoneHolds (Ok (jobs.Loose search_file proof low high demands form budget keep_all rle)) (Some before)
-    → OfQuestion (LeavesProof (Some after)) (Ok (jobs.Loose search_file proof low high demands form budget keep_all rle)) (Some before)
-    → ChangesOnly (proof ∷ []) (Some before) (Some after)
-    → Publishes (Ok (jobs.Loose search_file proof low high demands form budget keep_all rle)) (Some before) (Some after)
-loose_publishes search_file proof low high demands form budget keep_all rle before after apart nowhere leaves only =
-    let effort = effort_of budget keep_all proof in
-    let read = both (and_then (input_of before search_file search_limit) (small_problem_in low demands)) (λ problem. Ok (questions.Loose (opened_with high form problem) effort rle)) leaves.0 leaves.1 in
-    let about = opened_with high form read.first in
-    let is : leaves.0 ≡ questions.Loose about effort rle = let value = read.value_is in cc in
-    let file = subst (LeavesProof (Some after)) is leaves.2 in
-    let none = subst NoneHolds (asked_again nowhere.0 leaves.0 _ nowhere.1 leaves.1 ∙ is) nowhere.2 in (
-      about,
-      published (jobs.LooseCheck search_file proof low high demands form) (small_problem_in low demands) (λ problem text. questions.LooseCheck (opened_with high form problem) text) search_file proof read.first before after file.0
-          (λ files. refl) apart only read.first_is file.1 (file.2.accepted, none),
-    )
-
-pub publishes : (job : Result Job WordsError) (before after : Option Files) (status : Status) → status ≡ statuses.NoPattern → AreApart job → OfQuestion NoneHolds job before → OfQuestion (LeavesProof after) job before
-    → ChangesOnly (outputs_of_words job status) before after → Publishes job before after
-publishes (Ok (jobs.Search one two rule demands form budget keep_all rle crew)) (Some before) (Some after) status is apart nowhere leaves only =
-    search_publishes one two rule demands form budget keep_all rle crew before after apart nowhere leaves (subst (λ s. ChangesOnly (log_at s two) (Some before) (Some after)) is only)
-publishes (Ok (jobs.Search one two rule demands form budget keep_all rle crew)) (Some before) None status is apart nowhere leaves only = tt
-publishes (Ok (jobs.Search one two rule demands form budget keep_all rle crew)) None after status is apart nowhere leaves only = tt
-publishes (Ok (jobs.Least one two rule demands form budget keep_all rle)) (Some before) (Some after) status is apart nowhere leaves only =
-    least_publishes one two rule demands form budget keep_all rle before after apart nowhere leaves (subst (λ s. ChangesOnly (certificate_at s two) (Some before) (Some after)) is only)
-publishes (Ok (jobs.Least one two rule demands form budget keep_all rle)) (Some before) None status is apart nowhere leaves only = tt
-publishes (Ok (jobs.Least one two rule demands form budget keep_all rle)) None after status is apart nowhere leaves only = tt
-publishes (Ok (jobs.Loose one two low high demands form budget keep_all rle)) (Some before) (Some after) status is apart nowhere leaves only =
-    loose_publishes one two low high demands form budget keep_all rle before after apart nowhere leaves (subst (λ s. ChangesOnly (log_at s two) (Some before) (Some after)) is only)
-publishes (Ok (jobs.Loose one two low high demands form budget keep_all rle)) (Some before) None status is apart nowhere leaves only = tt
-publishes (Ok (jobs.Loose one two low high demands form budget keep_all rle)) None after status is apart nowhere leaves only = tt
-publishes (Ok (jobs.Sat one two budget keep_all)) before after status is apart nowhere leaves only = tt
-publishes (Ok (jobs.Check one two rule demands form)) before after status is apart nowhere leaves only = tt
-publishes (Ok (jobs.Judge one two rule demands rle)) before after status is apart nowhere leaves only = tt
-publishes (Ok (jobs.Cnf one rule demands form)) before after status is apart nowhere leaves only = tt
-publishes (Ok (jobs.Lrat one two)) before after status is apart nowhere leaves only = tt
-publishes (Ok (jobs.Rule rule)) before after status is apart nowhere leaves only = tt
-publishes (Ok (jobs.Make seed size one two)) before after status is apart nowhere leaves only = tt
-publishes (Ok (jobs.LooseCheck one two low high demands form)) before after status is apart nowhere leaves only = tt
-publishes (Ok (jobs.Trim one two three)) before after status is apart nowhere leaves only = tt
+pub publishes : (task : Result Task WordsError) (before after : Option Files) (status : Status) → status ≡ statuses.NoPattern → AreApart task → OfQuestion NoneHolds task before → OfQuestion (LeavesProof after) task before
+    → ChangesOnly (outputs_of_words task status) before after → Publishes task before after
+publishes (Ok (tasks.Search source effort further)) (Some before) (Some after) status is apart nowhere leaves only =
+    search_publishes source effort further before after apart nowhere leaves (subst (λ s. ChangesOnly (log_at s effort.proof) (Some before) (Some after)) is only)
+publishes (Ok (tasks.Search source effort further)) (Some before) None status is apart nowhere leaves only = tt
+publishes (Ok (tasks.Search source effort further)) None after status is apart nowhere leaves only = tt
+publishes (Ok (tasks.Least source form effort further)) (Some before) (Some after) status is apart nowhere leaves only =
+    least_publishes source form effort further before after apart nowhere leaves (subst (λ s. ChangesOnly (certificate_at s effort.proof) (Some before) (Some after)) is only)
+publishes (Ok (tasks.Least source form effort further)) (Some before) None status is apart nowhere leaves only = tt
+publishes (Ok (tasks.Least source form effort further)) None after status is apart nowhere leaves only = tt
+publishes (Ok (tasks.Check source proof)) before after status is apart nowhere leaves only = tt
+publishes (Ok (tasks.Judge source pattern rle)) before after status is apart nowhere leaves only = tt
+publishes (Ok (tasks.Encode source)) before after status is apart nowhere leaves only = tt
+publishes (Ok (tasks.Print rule)) before after status is apart nowhere leaves only = tt
+publishes (Ok (tasks.Make seed size file effort)) before after status is apart nowhere leaves only = tt
+publishes (Ok (tasks.Trim formula proof output)) before after status is apart nowhere leaves only = tt
 publishes (Err error) before after status is apart nowhere leaves only = tt
 
 demanded-ok : (made : Result PosedProblem DemandError) (problem : PosedProblem) → demanded made ≡ Ok problem → made ≡ Ok problem
@@ -191,45 +169,41 @@ none_below asked history n is live other solution =
     let few = live_cells-fewer asked.problem n other solution in
     omega (arith, more, few, live)
 
-fewest_publishes : (search_file proof : List ℕ) (rule : List Bool) (demands : Demands) (form : Form) (budget : ℕ) (keep_all rle : Bool) (before after : Files) → search_file ≢ proof
-    → OfQuestion (LeavesCertificate (Some after)) (Ok (jobs.Least search_file proof rule demands form budget keep_all rle)) (Some before)
-    → ChangesOnly (proof ∷ []) (Some before) (Some after)
-    → PublishesFewest (Ok (jobs.Least search_file proof rule demands form budget keep_all rle)) (Some before) (Some after)
-fewest_publishes search_file proof rule demands form budget keep_all rle before after apart leaves only =
-    let effort = effort_of budget keep_all proof in
-    let read = both (and_then (input_of before search_file search_limit) (roomy_problem_in rule demands)) (λ problem. Ok (questions.Least (asked_with form problem) effort rle)) leaves.0 leaves.1 in
+fewest_publishes : (source : ProblemSource) (form : Form) (effort : Effort) (further : Further) (before after : Files) → source.file ≢ effort.proof
+    → OfQuestion (LeavesCertificate (Some after)) (Ok (tasks.Least source form effort further)) (Some before)
+    → ChangesOnly (effort.proof ∷ []) (Some before) (Some after)
+    → PublishesFewest (Ok (tasks.Least source form effort further)) (Some before) (Some after)
+fewest_publishes source form effort further before after apart leaves only =
+    let input = input_of before source.file search_limit in
+    let read = both (and_then input (roomy_problem_in source.rule source.demands)) (λ problem. Ok (questions.Least (asked_with form problem) effort further.rle)) leaves.0 leaves.1 in
     let about = asked_with form read.first in
-    let is : leaves.0 ≡ questions.Least about effort rle = let value = read.value_is in cc in
+    let is : leaves.0 ≡ questions.Least about effort further.rle = let value = read.value_is in cc in
     let certified = subst (LeavesCertificate (Some after)) is leaves.2 in
-    let made = roomy-problem (input_of before search_file search_limit) rule demands read.first read.first_is in (
+    let made = roomy-problem input source.rule source.demands read.first read.first_is in (
       about,
       (
         certified.0,
         certified.1.fewest,
         λ n live.
             let own = certified.1.proof n live in
-            published (jobs.Check search_file proof rule (demands_fewer demands n) form) (problem_in rule (demands_fewer demands n)) (λ problem text. questions.Check (asked_with form problem) text)
-            search_file proof (fewer read.first n) before after own.1.0
-            (λ files. refl) apart only (bounded_problem (input_of before search_file search_limit) rule demands read.first n made own.0.posed) own.1.1
+            let again = bounded_problem input source.rule source.demands read.first n made own.0.posed in
+            published (sources.Problem (source_fewer source n) form) effort.proof (subjects.Problem (asked_fewer about n)) before after own.1.0 apart only
+            (problem_subject (source_fewer source n) form input (fewer read.first n) again) own.1.1
             (own.1.2.accepted, none_below about certified.0 n certified.1.fewest live),
       ),
     )
 
-pub publishes_fewest : (job : Result Job WordsError) (before after : Option Files) (status : Status) → status ≡ statuses.Pattern → AreApart job → OfQuestion (LeavesCertificate after) job before
-    → ChangesOnly (outputs_of_words job status) before after → PublishesFewest job before after
-publishes_fewest (Ok (jobs.Least one two rule demands form budget keep_all rle)) (Some before) (Some after) status is apart leaves only =
-    fewest_publishes one two rule demands form budget keep_all rle before after apart leaves (subst (λ s. ChangesOnly (certificate_at s two) (Some before) (Some after)) is only)
-publishes_fewest (Ok (jobs.Least one two rule demands form budget keep_all rle)) (Some before) None status is apart leaves only = tt
-publishes_fewest (Ok (jobs.Least one two rule demands form budget keep_all rle)) None after status is apart leaves only = tt
-publishes_fewest (Ok (jobs.Loose one two low high demands form budget keep_all rle)) before after status is apart leaves only = tt
-publishes_fewest (Ok (jobs.Search one two rule demands form budget keep_all rle crew)) before after status is apart leaves only = tt
-publishes_fewest (Ok (jobs.Sat one two budget keep_all)) before after status is apart leaves only = tt
-publishes_fewest (Ok (jobs.Check one two rule demands form)) before after status is apart leaves only = tt
-publishes_fewest (Ok (jobs.Judge one two rule demands rle)) before after status is apart leaves only = tt
-publishes_fewest (Ok (jobs.Cnf one rule demands form)) before after status is apart leaves only = tt
-publishes_fewest (Ok (jobs.Lrat one two)) before after status is apart leaves only = tt
-publishes_fewest (Ok (jobs.Rule rule)) before after status is apart leaves only = tt
-publishes_fewest (Ok (jobs.Make seed size one two)) before after status is apart leaves only = tt
-publishes_fewest (Ok (jobs.LooseCheck one two low high demands form)) before after status is apart leaves only = tt
-publishes_fewest (Ok (jobs.Trim one two three)) before after status is apart leaves only = tt
+pub publishes_fewest : (task : Result Task WordsError) (before after : Option Files) (status : Status) → status ≡ statuses.Pattern → AreApart task → OfQuestion (LeavesCertificate after) task before
+    → ChangesOnly (outputs_of_words task status) before after → PublishesFewest task before after
+publishes_fewest (Ok (tasks.Least source form effort further)) (Some before) (Some after) status is apart leaves only =
+    fewest_publishes source form effort further before after apart leaves (subst (λ s. ChangesOnly (certificate_at s effort.proof) (Some before) (Some after)) is only)
+publishes_fewest (Ok (tasks.Least source form effort further)) (Some before) None status is apart leaves only = tt
+publishes_fewest (Ok (tasks.Least source form effort further)) None after status is apart leaves only = tt
+publishes_fewest (Ok (tasks.Search source effort further)) before after status is apart leaves only = tt
+publishes_fewest (Ok (tasks.Check source proof)) before after status is apart leaves only = tt
+publishes_fewest (Ok (tasks.Judge source pattern rle)) before after status is apart leaves only = tt
+publishes_fewest (Ok (tasks.Encode source)) before after status is apart leaves only = tt
+publishes_fewest (Ok (tasks.Print rule)) before after status is apart leaves only = tt
+publishes_fewest (Ok (tasks.Make seed size file effort)) before after status is apart leaves only = tt
+publishes_fewest (Ok (tasks.Trim formula proof output)) before after status is apart leaves only = tt
 publishes_fewest (Err error) before after status is apart leaves only = tt

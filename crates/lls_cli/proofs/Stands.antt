@@ -1,79 +1,53 @@
--- The search file of a made problem stands whole once the problem is answered.
-use Rattle.std.proofs.Common.{◌≡◌, ◌≢◌, ℕ, List, Option, None, Some, Result, Ok, Err, refl, ap, sym, ◌∙◌}
+-- A file that is written before the answer is looked for stands whole once the question is answered.
+use Rattle.std.proofs.Common.{◌≡◌, ◌≢◌, ℕ, List, [], ◌∷◌, Option, None, Some, Result, Ok, Err, refl, ap, sym, subst, ◌∙◌}
 use Rattle.std.specs.FinMap as map
 use Rattle.std.specs.Option.{option_map}
-use Rattle.lls_base.specs.Results.{and_then}
 use Rattle.lls_base.specs.Shelf.{Files}
 use Rattle.lls_base.proofs.FileMaps.{get-insert_same}
 use Rattle.lls_words.specs.declared.error.WordsError.{WordsError}
-use Rattle.lls_words.specs.declared.job.Job.{Job}
-use Rattle.lls_words.specs.declared.job.Job.TheVariants as jobs
+use Rattle.lls_cli.specs.declared.task.Task.{Task}
+use Rattle.lls_cli.specs.declared.task.Task.TheVariants as tasks
 use Rattle.lls_cli.specs.Questions.{Question}
 use Rattle.lls_cli.specs.Questions as questions
-use Rattle.lls_cli.specs.declared.effort.Effort.{Effort}
 use Rattle.lls_cli.specs.declared.answer_file.AnswerFile.{AnswerFile}
 use Rattle.lls_cli.specs.declared.answer.Answer.{Answer}
 use Rattle.lls_cli.specs.declared.status.Status.{Status}
 use Rattle.lls_cli.specs.declared.status.Status.TheVariants as statuses
-use Rattle.lls_cli.specs.Question.{asked_with, default_effort, effort_of, formula_in, roomy_problem_in, Asks}
-use Rattle.lls_cli.specs.Answer.{Answers}
-use Rattle.lls_cli.specs.Making.{made_file}
+use Rattle.lls_cli.specs.Answer.{ahead_of, meaning_of}
 use Rattle.lls_cli.specs.Moment.{ShelfMoment, Moment, files_at}
-use Rattle.lls_cli.specs.Ends.{WroteFile, End, ahead_of, IsEnd}
-use Rattle.lls_cli.specs.Claims.{OfQuestion, IsAnswered, HasWhole, outputs_of}
+use Rattle.lls_cli.specs.Ends.{WroteFile, End, IsEnd}
+use Rattle.lls_cli.specs.Claims.{OfQuestion, IsAnswered, HasWhole}
 use Rattle.lls_cli.proofs.Apart.{AreApart, IsApart}
 use Rattle.lls_cli.proofs.Behind.{WroteAhead}
 use Rattle.lls_cli.proofs.Consequences.{IsAsked, meant, of_this}
 use Rattle.lls_cli.proofs.Changes.{Same, wrote_some}
-use Rattle.lls_cli.proofs.Files.{and_then-both, outputs_asked, asked_outputs, answer_leaves}
-use Rattle.lls_cli.proofs.Outputs.{writes}
+use Rattle.lls_cli.proofs.Files.{answer_leaves}
+use Rattle.lls_cli.proofs.Laws.{lawful}
+use Rattle.lls_cli.proofs.Tasks.{IsOf, is_of}
 
 -- the files that a question writes have different names
 abbrev NamesApart : Question → Type 0
-NamesApart (questions.Make seed size name effort) = name ≢ effort.proof
-NamesApart question = Unit {0}
+NamesApart question = (file : AnswerFile) → ahead_of question ≡ Some file → (name : List ℕ) → (meaning_of question).writes statuses.Outside ≡ name ∷ [] → file.name ≢ name
 
-made_apart : (job : Job) (files : Option Files) (seed size : ℕ) (name : List ℕ) (effort : Effort) → IsApart job → Asks job files (Ok (questions.Make seed size name effort)) → name ≢ effort.proof
-made_apart job files seed size name effort apart asked = by_job job apart asked (asked_outputs job files (questions.Make seed size name effort) statuses.Pattern asked) where
-  by_job : (job : Job) → IsApart job → Asks job files (Ok (questions.Make seed size name effort)) → outputs_asked (questions.Make seed size name effort) statuses.Pattern ≡ outputs_of job statuses.Pattern → name ≢ effort.proof
-  by_job (jobs.Make other_seed other_size search_file proof) apart asked same = λ equal.
-      let is : questions.Make seed size name effort ≡ questions.Make other_seed other_size search_file (default_effort proof) = cc in
-      let names : name ≡ search_file = cc in
-      let efforts : effort ≡ default_effort proof = cc in
-      let proofs : effort.proof ≡ proof = ap (λ (e : Effort). e.proof) efforts in
-      apart (sym names ∙ (equal ∙ proofs))
-  by_job (jobs.Check one two rule demands form) apart asked same = absurd cc
-  by_job (jobs.Judge one two rule demands rle) apart asked same = absurd cc
-  by_job (jobs.Search one two rule demands form budget keep_all rle crew) apart asked same = absurd cc
-  by_job (jobs.Sat one two budget keep_all) apart asked same = absurd cc
-  by_job (jobs.Cnf one rule demands form) apart asked same = absurd cc
-  by_job (jobs.Lrat one two) apart asked same = absurd cc
-  by_job (jobs.Rule rule) apart asked same = absurd cc
-  by_job (jobs.Least one two rule demands form budget keep_all rle) apart asked same =
-      let first = and_then-both (and_then asked.input (roomy_problem_in rule demands)) (λ problem. Ok (questions.Least (asked_with form problem) (effort_of budget keep_all two) rle)) (questions.Make seed size name effort) asked.made in
-      let other = first.1 in
-      absurd cc
-  by_job (jobs.Loose one two low high demands form budget keep_all rle) apart asked same = absurd cc
-  by_job (jobs.LooseCheck one two low high demands form) apart asked same = absurd cc
-  by_job (jobs.Trim one two three) apart asked same =
-      let first = and_then-both (and_then asked.first formula_in) (λ formula. and_then asked.second (λ proof. Ok (questions.Trim formula proof three))) (questions.Make seed size name effort) asked.made in
-      let second = and_then-both asked.second (λ proof. Ok (questions.Trim first.0 proof three)) (questions.Make seed size name effort) first.1 in
-      let other = second.1 in
-      absurd cc
+one_file : (question : Question) → ahead_of question ≡ None → NamesApart question
+one_file question none file is = absurd cc
 
-names_apart : (job : Result Job WordsError) (files : Option Files) (question : Question) → AreApart job → IsAsked job files question → NamesApart question
-names_apart (Ok job) files (questions.Make seed size name effort) apart asked = made_apart job files seed size name effort apart asked
-names_apart (Ok job) files (questions.Check of bytes) apart asked = tt
-names_apart (Ok job) files (questions.Refute formula bytes) apart asked = tt
-names_apart (Ok job) files (questions.Judge problem history) apart asked = tt
-names_apart (Ok job) files (questions.Search of effort rle) apart asked = tt
-names_apart (Ok job) files (questions.Decide formula effort) apart asked = tt
-names_apart (Ok job) files (questions.Encode of) apart asked = tt
-names_apart (Ok job) files (questions.Print rule) apart asked = tt
-names_apart (Ok job) files (questions.Least of effort rle) apart asked = tt
-names_apart (Ok job) files (questions.Loose of effort rle) apart asked = tt
-names_apart (Ok job) files (questions.LooseCheck of bytes) apart asked = tt
-names_apart (Ok job) files (questions.Trim formula bytes output) apart asked = tt
+asked_apart : (task : Task) (question : Question) → IsApart task → IsOf task question → NamesApart question
+asked_apart (tasks.Check source proof) question apart is = subst NamesApart (sym is.2) (one_file (questions.Check is.0 is.1) refl)
+asked_apart (tasks.Search source effort further) question apart is = subst NamesApart (sym is.1) (one_file (questions.Search is.0 effort further.rle) refl)
+asked_apart (tasks.Judge source pattern rle) question apart is = subst NamesApart (sym is.2) (one_file (questions.Judge is.0 is.1) refl)
+asked_apart (tasks.Encode source) question apart is = subst NamesApart (sym is.1) (one_file (questions.Encode is.0) refl)
+asked_apart (tasks.Print rule) question apart is = subst NamesApart (sym is) (one_file (questions.Print rule) refl)
+asked_apart (tasks.Make seed size file effort) question apart is =
+    subst NamesApart (sym is) (λ ahead named other written equal.
+    let first : file ≡ ahead.name = cc in
+    let second : effort.proof ≡ other = cc in
+    apart (first ∙ equal ∙ sym second))
+asked_apart (tasks.Least source form effort further) question apart is = subst NamesApart (sym is.1) (one_file (questions.Least is.0 effort further.rle) refl)
+asked_apart (tasks.Trim formula proof output) question apart is = subst NamesApart (sym is.2) (one_file (questions.Trim is.0 is.1 output) refl)
+
+names_apart : (task : Result Task WordsError) (files : Option Files) (question : Question) → AreApart task → IsAsked task files question → NamesApart question
+names_apart (Ok task) files question apart asked = asked_apart task question apart (is_of task files question asked)
 names_apart (Err error) files question apart asked = absurd asked
 
 nothing_ahead : (files : Option Files) → HasWhole files None
@@ -91,28 +65,17 @@ stands_from file (Some known) mid (Some files) is same =
     let equal : map.get files file.name ≡ map.get (map.insert known file.name file.bytes) file.name = cc in
     equal ∙ get-insert_same known file.name file.bytes
 
-stands_in : (question : Question) (answer : Answer) (before mid after : ShelfMoment) → NamesApart question → Answers question answer → WroteAhead (ahead_of question) before mid
-    → WroteFile answer.file mid after → HasWhole (files_at after) (ahead_of question)
-stands_in (questions.Make seed size name effort) answer before mid after apart right ahead wrote =
-    let file = made_file seed size name in
-    stands_from file (files_at before) (files_at mid) (files_at after) (wrote_some (Some file) file before mid refl ahead)
-    (answer_leaves (questions.Make seed size name effort) answer mid after name (writes (questions.Make seed size name effort) answer right)
-    (λ other is. let same : effort.proof ≡ other = cc in λ equal. apart (equal ∙ sym same)) wrote)
-stands_in (questions.Check asked bytes) answer before mid after apart right ahead wrote = nothing_ahead (files_at after)
-stands_in (questions.Refute formula bytes) answer before mid after apart right ahead wrote = nothing_ahead (files_at after)
-stands_in (questions.Judge problem history) answer before mid after apart right ahead wrote = nothing_ahead (files_at after)
-stands_in (questions.Search asked effort rle) answer before mid after apart right ahead wrote = nothing_ahead (files_at after)
-stands_in (questions.Decide formula effort) answer before mid after apart right ahead wrote = nothing_ahead (files_at after)
-stands_in (questions.Encode asked) answer before mid after apart right ahead wrote = nothing_ahead (files_at after)
-stands_in (questions.Print rule) answer before mid after apart right ahead wrote = nothing_ahead (files_at after)
-stands_in (questions.Least asked effort rle) answer before mid after apart right ahead wrote = nothing_ahead (files_at after)
-stands_in (questions.Loose asked effort rle) answer before mid after apart right ahead wrote = nothing_ahead (files_at after)
-stands_in (questions.LooseCheck asked bytes) answer before mid after apart right ahead wrote = nothing_ahead (files_at after)
-stands_in (questions.Trim formula bytes output) answer before mid after apart right ahead wrote = nothing_ahead (files_at after)
+stands_in : (question : Question) (answer : Answer) (before mid after : ShelfMoment) (ahead : Option AnswerFile) → ahead_of question ≡ ahead → NamesApart question → (meaning_of question).answers answer
+    → WroteAhead ahead before mid → WroteFile answer.file mid after → HasWhole (files_at after) ahead
+stands_in question answer before mid after None is apart right wrote_ahead wrote = nothing_ahead (files_at after)
+stands_in question answer before mid after (Some file) is apart right wrote_ahead wrote =
+    stands_from file (files_at before) (files_at mid) (files_at after) (wrote_some (Some file) file before mid refl wrote_ahead)
+    (answer_leaves (meaning_of question) answer mid after file.name ((lawful question).writes answer right) (λ other written. apart file is other written) wrote)
 
-pub stands : (job : Result Job WordsError) (before after : Moment) (status : Status) → AreApart job → (end : End) × IsEnd job before after status end → IsAnswered status
-    → OfQuestion (λ question. HasWhole (files_at after.shelf) (ahead_of question)) job (files_at before.shelf)
-stands job before after status apart ended is =
-    let given = meant job before after status ended is in
-    of_this (λ question. HasWhole (files_at after.shelf) (ahead_of question)) given.question job (files_at before.shelf) given.asked
-    (stands_in given.question given.answer before.shelf given.mid after.shelf (names_apart job (files_at before.shelf) given.question apart given.asks) given.right.answers given.ahead given.wrote)
+pub stands : (task : Result Task WordsError) (before after : Moment) (status : Status) → AreApart task → (end : End) × IsEnd task before after status end → IsAnswered status
+    → OfQuestion (λ question. HasWhole (files_at after.shelf) (ahead_of question)) task (files_at before.shelf)
+stands task before after status apart ended is =
+    let given = meant task before after status ended is in
+    of_this (λ question. HasWhole (files_at after.shelf) (ahead_of question)) given.question task (files_at before.shelf) given.asked
+    (stands_in given.question given.answer before.shelf given.mid after.shelf (ahead_of given.question) refl (names_apart task (files_at before.shelf) given.question apart given.asks)
+    given.right.answers given.ahead given.wrote)

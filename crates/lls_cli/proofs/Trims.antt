@@ -1,5 +1,5 @@
--- What a trim comes to is a right answer.
-use Rattle.std.proofs.Common.{◌≡◌, ℕ, ◌+◌, ◌++◌, true, List, [], ◌∷◌, map, length, Some, Ok, Err, refl, sym, ap, subst, ◌∙◌}
+-- What a trim comes to is a right answer, and what that does.
+use Rattle.std.proofs.Common.{◌≡◌, ℕ, ◌+◌, ◌++◌, true, List, [], ◌∷◌, map, length, Some, Ok, Err, refl, sym, ap, subst, ◌∙◌, inl, inr}
 use Rattle.std.specs.Prelude.{codes}
 use Rattle.std.specs.List.{enumerate_from, list_all}
 use Rattle.lls_lit.specs.Formula.{Cnf}
@@ -23,8 +23,12 @@ use Rattle.lls_cli.specs.Questions as questions
 use Rattle.lls_cli.specs.declared.answer.Answer.{Answer}
 use Rattle.lls_cli.specs.declared.answer_file.AnswerFile.{AnswerFile}
 use Rattle.lls_cli.specs.declared.status.Status.TheVariants as statuses
-use Rattle.lls_cli.specs.Answer.{IsAnswer, said, shown_behind, kept, not_accepted, by_pivot}
-use Rattle.lls_cli.specs.Trimming.{HasTrimmed, inferences_in, kept_text}
+use Rattle.lls_cli.specs.Meaning.{said, shown_behind}
+use Rattle.lls_cli.specs.Trimming.{HasTrimmed, inferences_in, kept_text, IsTrim, kept, not_accepted, by_pivot, leaves_trimmed, trim_meaning}
+use Rattle.lls_cli.specs.Answer.{IsAnswer}
+use Rattle.lls_cli.specs.Moment.{ShelfMoment, files_at}
+use Rattle.lls_cli.specs.Ends.{WroteFile}
+use Rattle.lls_cli.proofs.Outputs.{IsLawful, WritesAtMost, none_ahead, of_written}
 
 -- a text that is read as steps has a step on each line
 placed_from-steps : (line : ℕ) (steps : List Step) → placed_from line (map (λ step. Ok (Some step)) steps) ≡ enumerate_from line steps
@@ -86,3 +90,23 @@ by_pivot_answer formula proof output line answer accepted first is =
       answers = by_pivot line accepted first;
       holds = λ fine none. none first.place line first.rat;
     })
+
+trim_writes : (formula : Cnf) (proof output : List ℕ) (answer : Answer) → IsTrim formula proof output answer → WritesAtMost (trim_meaning formula proof output) answer
+trim_writes formula proof output _ (kept file has) =
+    let name = ap (λ (f : AnswerFile). f.name ∷ []) (sym has.file_is) in inr (record { file = file; file_is = refl; at_status = name; at_failure = name })
+trim_writes formula proof output _ (not_accepted error is) = inl refl
+trim_writes formula proof output _ (by_pivot line accepted first) = inl refl
+
+trim_leaves : (formula : Cnf) (proof output : List ℕ) (answer : Answer) (before after : ShelfMoment) → IsTrim formula proof output answer → WroteFile answer.file before after
+    → leaves_trimmed formula proof output answer.status (files_at after)
+trim_leaves formula proof output _ before after (kept file has) wrote =
+    of_written (HasTrimmed formula proof output) file output before after (ap (λ (f : AnswerFile). f.name) has.file_is) has wrote
+trim_leaves formula proof output _ before after (not_accepted error is) wrote = tt
+trim_leaves formula proof output _ before after (by_pivot line accepted first) wrote = tt
+
+pub trim_lawful : (formula : Cnf) (proof output : List ℕ) → IsLawful (trim_meaning formula proof output)
+trim_lawful formula proof output = record {
+  writes = trim_writes formula proof output;
+  leaves = trim_leaves formula proof output;
+  ahead = λ status says. none_ahead status;
+}

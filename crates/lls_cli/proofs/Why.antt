@@ -2,7 +2,7 @@
 use Rattle.std.proofs.Common.{◌≡◌, Option, Result, Ok, Err, refl, sym, ◌∙◌}
 use Rattle.lls_base.specs.Shelf.{Files}
 use Rattle.lls_words.specs.declared.error.WordsError.{WordsError}
-use Rattle.lls_words.specs.declared.job.Job.{Job}
+use Rattle.lls_cli.specs.declared.task.Task.{Task}
 use Rattle.lls_cli.specs.declared.answer_file.AnswerFile.{AnswerFile}
 use Rattle.lls_cli.specs.declared.fault.Fault.{Fault}
 use Rattle.lls_cli.specs.declared.fault.Fault.TheVariants as faults
@@ -44,21 +44,21 @@ file_says : (written : Option AnswerFile) (fault : Fault) (before after : Moment
 file_says written fault before after status failed =
     (fault, failed.status_is ∙ sym (part_status fault failed.file (files_at before.shelf) (files_at after.shelf) failed.part), failed.err)
 
-pub says_why : (job : Result Job WordsError) (before after : Moment) (status : Status) → (end : End) × IsEnd job before after status end → IsFaultStatus status → SaysWhy status before.err after.err
-says_why (Ok job) before after status (refused fault, ended) is = (fault, ended.1.2.status_is, ended.1.2.err)
-says_why (Ok job) before after status (lacked, ended) is =
-    let lacks = (lacking job (files_at before.shelf) before after status ended.1).lacks in (faults.Memory, lacks.status_is, lacks.err)
-says_why (Ok job) before after status (input_failed fault, ended) is =
+pub says_why : (task : Result Task WordsError) (before after : Moment) (status : Status) → (end : End) × IsEnd task before after status end → IsFaultStatus status → SaysWhy status before.err after.err
+says_why (Ok task) before after status (refused fault, ended) is = (fault, ended.1.2.status_is, ended.1.2.err)
+says_why (Ok task) before after status (lacked, ended) is =
+    let lacks = (lacking task (files_at before.shelf) before after status ended.1).lacks in (faults.Memory, lacks.status_is, lacks.err)
+says_why (Ok task) before after status (input_failed fault, ended) is =
     let failed = ended.1.1 in (fault, failed.status_is ∙ sym (input_status fault after.shelf failed.of_input), failed.err)
-says_why (Ok job) before after status (ahead_failed fault, ended) is = file_says _ fault before after status (ahead_part ended.1.0 before after status fault ended.1.2)
-says_why (Ok job) before after status (answered answer, ended) is =
-    let given = answer_of job (files_at before.shelf) before after status (answered answer) tt ended.1 in
+says_why (Ok task) before after status (ahead_failed fault, ended) is = file_says _ fault before after status (ahead_part ended.1.0 before after status fault ended.1.2)
+says_why (Ok task) before after status (answered answer, ended) is =
+    let given = answer_of task (files_at before.shelf) before after status (answered answer) tt ended.1 in
     absurd (no_fault_status status is (is_answered ended.1.0 answer status given.ended.0 given.ended.1.status_is))
-says_why (Ok job) before after status (file_failed answer fault, ended) is =
-    let given = answer_of job (files_at before.shelf) before after status (file_failed answer fault) tt ended.1 in
+says_why (Ok task) before after status (file_failed answer fault, ended) is =
+    let given = answer_of task (files_at before.shelf) before after status (file_failed answer fault) tt ended.1 in
     file_says answer.file fault _ after status given.ended.1
-says_why (Ok job) before after status (output_failed answer, ended) is =
-    let failed = (answer_of job (files_at before.shelf) before after status (output_failed answer) tt ended.1).ended.1 in
+says_why (Ok task) before after status (output_failed answer, ended) is =
+    let failed = (answer_of task (files_at before.shelf) before after status (output_failed answer) tt ended.1).ended.1 in
     (faults.Outside outside.OutFailed, failed.status_is, failed.err)
 says_why (Err error) before after status (refused fault, ended) is = (fault, ended.2.status_is, ended.2.err)
 says_why (Err error) before after status (lacked, ended) is = (faults.Memory, ended.1.status_is, ended.1.err)

@@ -6,10 +6,8 @@ use Rattle.std.specs.Option.{option_map}
 use Rattle.lls_base.specs.Faults.{Counts, Rose}
 use Rattle.lls_base.specs.Shelf.{Files, known_rest, known_target}
 use Rattle.lls_words.specs.declared.error.WordsError.{WordsError}
-use Rattle.lls_words.specs.declared.job.Job.{Job}
-use Rattle.lls_words.specs.declared.job.Job.TheVariants as jobs
+use Rattle.lls_cli.specs.declared.task.Task.{Task}
 use Rattle.lls_cli.specs.Questions.{Question}
-use Rattle.lls_cli.specs.Questions as questions
 use Rattle.lls_cli.specs.declared.answer_file.AnswerFile.{AnswerFile}
 use Rattle.lls_cli.specs.declared.answer.Answer.{Answer}
 use Rattle.lls_cli.specs.declared.fault.Fault.{Fault}
@@ -18,9 +16,8 @@ use Rattle.lls_cli.specs.declared.fault.OutsideFault.TheVariants as outside
 use Rattle.lls_cli.specs.declared.status.Status.{Status}
 use Rattle.lls_cli.specs.declared.status.Status.TheVariants as statuses
 use Rattle.lls_cli.specs.Fault.{fault_line, status_of}
-use Rattle.lls_cli.specs.Question.{Asks}
-use Rattle.lls_cli.specs.Making.{made_file}
-use Rattle.lls_cli.specs.Answer.{IsAnswer}
+use Rattle.lls_cli.specs.Question.{Asking, of_none, asking_of, Asks}
+use Rattle.lls_cli.specs.Answer.{IsAnswer, ahead_of}
 use Rattle.lls_cli.specs.Moment.{ShelfMoment, SinkMoment, Moment, with_shelf, files_at}
 
 -- a sink grew by some first bytes of a text, and by all of it but where its count of faults rose
@@ -151,11 +148,6 @@ IsEndOf question before after status (refused fault) = ⊥
 IsEndOf question before after status (input_failed fault) = ⊥
 IsEndOf question before after status (ahead_failed fault) = ⊥
 
--- the file that is written before the answer is looked for: a made problem's search file, and no other
-abbrev pub ahead_of : Question → Option AnswerFile
-ahead_of (questions.Make seed size name effort) = Some (made_file seed size name)
-ahead_of question = None
-
 -- how a question ends behind its file: the file wasn't made or written whole; or there was no memory to make it; or it stands whole,
 -- and the question ends from there
 abbrev pub IsEndBehind : Option AnswerFile → Question → Moment → Moment → Status → End → Type 0
@@ -169,35 +161,36 @@ IsEndBehind (Some file) question before after status end =
 abbrev pub Ends : Question → Moment → Moment → Status → End → Type 0
 Ends question before after status end = IsEndBehind (ahead_of question) question before after status end
 
--- the jobs that read files
-abbrev pub HasInputs : Job → Type 0
-HasInputs (jobs.Rule rule) = ⊥
-HasInputs (jobs.Make seed size search_file proof) = ⊥
-HasInputs job = Unit {0}
+-- a task that reads files
+abbrev pub ReadsInputs : Asking → Type 0
+ReadsInputs (of_none question) = ⊥
+ReadsInputs asking = Unit {0}
+
+abbrev pub HasInputs : Task → Type 0
+HasInputs task = ReadsInputs (asking_of task)
 
 -- the shelf's current input is as before, and as much of it is left
 pub record KeepsInput (before after : ShelfMoment) : Type 0 where
   pub rest : known_rest after.told ≡ known_rest before.told
   pub has_input : after.has_input ≡ before.has_input
 
--- the jobs that read no files: the printing of a rule leaves the shelf alone, and the making of a problem its input
-abbrev pub LeavesShelf : Job → ShelfMoment → ShelfMoment → Type 0
-LeavesShelf (jobs.Rule rule) before after = after ≡ before
-LeavesShelf (jobs.Make seed size search_file proof) before after = KeepsInput before after
-LeavesShelf job before after = Unit {0}
+-- a task that reads none leaves the shelf's input alone
+abbrev pub LeavesInput : Asking → ShelfMoment → ShelfMoment → Type 0
+LeavesInput (of_none question) before after = KeepsInput before after
+LeavesInput asking before after = Unit {0}
 
--- how a job ends
-abbrev pub IsEndOfJob : Job → Moment → Moment → Status → End → Type 0
-IsEndOfJob job before after status (refused fault) = IsDecided fault × Asks job (files_at before.shelf) (Err fault) × Refused fault before after status
-IsEndOfJob job before after status (input_failed fault) = HasInputs job × InputFailed fault before after status
-IsEndOfJob job before after status lacked =
-    LacksMemory before after status ⊎ ((question : Question) × Asks job (files_at before.shelf) (Ok question) × Ends question before after status lacked)
-IsEndOfJob job before after status end =
-    (question : Question) × Asks job (files_at before.shelf) (Ok question) × Ends question before after status end
+-- how a task ends
+abbrev pub IsEndOfTask : Task → Moment → Moment → Status → End → Type 0
+IsEndOfTask task before after status (refused fault) = IsDecided fault × Asks task (files_at before.shelf) (Err fault) × Refused fault before after status
+IsEndOfTask task before after status (input_failed fault) = HasInputs task × InputFailed fault before after status
+IsEndOfTask task before after status lacked =
+    LacksMemory before after status ⊎ ((question : Question) × Asks task (files_at before.shelf) (Ok question) × Ends question before after status lacked)
+IsEndOfTask task before after status end =
+    (question : Question) × Asks task (files_at before.shelf) (Ok question) × Ends question before after status end
 
 -- how a command line ends
-abbrev pub IsEnd : Result Job WordsError → Moment → Moment → Status → End → Type 0
-IsEnd (Ok job) before after status end = LeavesShelf job before.shelf after.shelf × IsEndOfJob job before after status end
+abbrev pub IsEnd : Result Task WordsError → Moment → Moment → Status → End → Type 0
+IsEnd (Ok task) before after status end = LeavesInput (asking_of task) before.shelf after.shelf × IsEndOfTask task before after status end
 IsEnd (Err error) before after status (refused fault) = (fault ≡ faults.Words error) × (after.shelf ≡ before.shelf) × Refused fault before after status
 IsEnd (Err error) before after status lacked = (after.shelf ≡ before.shelf) × LacksMemory before after status
 IsEnd (Err error) before after status end = ⊥

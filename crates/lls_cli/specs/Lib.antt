@@ -1,4 +1,7 @@
 pub mod CommandLine
+pub mod Task
+pub mod Subject
+pub mod Seen
 pub mod Status
 pub mod Fault
 pub mod Question
@@ -14,10 +17,14 @@ pub mod Making
 pub mod Fewest
 pub mod Opened
 pub mod Trimming
+pub mod Meaning
+pub mod Checks
+pub mod Finding
 pub mod Answer
 pub mod Shown
 pub mod Moment
 pub mod Outside
 pub mod Ends
 pub mod Claims
+pub mod Run
 pub mod Steps

@@ -1,5 +1,7 @@
 -- A made problem: the search file that it is written to, and what is said of the search for its solution.
-use Rattle.std.specs.Prelude.{◌≤◌, ℕ, ◌*◌, ◌++◌, Bool, true, false, List, codes, count_by, decimal, length, take}
+use Rattle.std.specs.Prelude.{◌≤◌, ℕ, ◌*◌, ◌++◌, Bool, true, false, List, codes, count_by, decimal, length, take, Some}
+use Rattle.lls_grid.specs.History.{History}
+use Rattle.lls_problem.specs.Solution.{IsSolution}
 use Rattle.lls_lit.specs.Formula.{Cnf}
 use Rattle.lls_grid.specs.Changes.{population}
 use Rattle.lls_search_file.specs.declared.cell.Kind.{Kind}
@@ -10,7 +12,12 @@ use Rattle.lls_gen.specs.declared.making.Made.{Made}
 use Rattle.lls_gen.specs.Made.{made, made_problem, most_size}
 use Rattle.lls_problem.specs.declared.form.Form.TheVariants.{Rows}
 use Rattle.lls_encode.specs.Formula.{formula_of}
+use Rattle.lls_cli.specs.declared.effort.Effort.{Effort}
 use Rattle.lls_cli.specs.declared.answer_file.AnswerFile.{AnswerFile}
+use Rattle.lls_cli.specs.declared.answer.Answer.{Answer}
+use Rattle.lls_cli.specs.declared.status.Status.TheVariants as statuses
+use Rattle.lls_cli.specs.Evidence.{HasSpentLog}
+use Rattle.lls_cli.specs.Meaning.{Meaning, IsShort, answered_by, leaves_log, log_at, shown, shown_behind}
 
 -- a size that a problem can be made of
 abbrev pub IsSize : ℕ → Type 0
@@ -47,3 +54,19 @@ summary_of made formula answer = problem_lines made ++ search_lines formula answ
 -- what is said of a problem by its seed and size; its formula has a clause for each forbidden row
 abbrev pub summary_text : ℕ → ℕ → List ℕ → List ℕ
 summary_text seed size answer = summary_of (made seed size) (formula_of (made_problem seed size) Rows) answer
+
+-- how the search of a made problem ends: it has a solution, so it is found, or the file has a spent log of its formula
+pub data IsMaking (seed size : ℕ) (effort : Effort) : Answer → Type 0 where
+  solved : IsMaking seed size effort (shown statuses.Pattern (summary_text seed size (codes "pattern")))
+  unsolved : (file : AnswerFile) → HasSpentLog (formula_of (made_problem seed size) Rows) effort file
+      → IsMaking seed size effort (shown_behind file statuses.Undecided (summary_text seed size (codes "undecided")))
+
+-- its search file is written ahead, and that there is nothing is never said
+abbrev pub make_meaning : ℕ → ℕ → List ℕ → Effort → Meaning
+make_meaning seed size name effort = record (answered_by (IsMaking seed size effort)) {
+  ahead = Some (made_file seed size name);
+  some = (history : History) × IsSolution (made_problem seed size) history;
+  short = IsShort (formula_of (made_problem seed size) Rows) effort;
+  writes = λ status. log_at status effort.proof;
+  leaves = leaves_log (formula_of (made_problem seed size) Rows) effort;
+}

@@ -1,4 +1,4 @@
--- What a job asks, once its inputs are read, and the first refusal where they ask nothing. This file alone knows the
+-- What a task asks, once its inputs are read, and the first refusal where they ask nothing. This file alone knows the
 -- order of refusals: the first input, its length, its grammar and its demands; then the second, its length and its grammar.
 use Rattle.std.specs.Prelude.{◌≡◌, ◌≤◌, ℕ, nat_lt, Bool, true, false, List, length, Option, None, Some, Result, Ok, Err, if◌then◌else◌}
 use Rattle.std.specs.FinMap as map
@@ -21,38 +21,20 @@ use Rattle.lls_search_file.specs.Plain.{plain_of}
 use Rattle.lls_problem.specs.declared.demands.Demands.{Demands}
 use Rattle.lls_problem.specs.declared.demands.DemandError.{DemandError}
 use Rattle.lls_problem.specs.declared.demands.DemandError.TheVariants.{Counters}
-use Rattle.lls_problem.specs.declared.form.Form.{Form}
 use Rattle.lls_problem.specs.Bounds.{most_counters}
 use Rattle.lls_problem.specs.Problem.{PosedProblem, problem_made}
-use Rattle.lls_encode.specs.Formula.{formula_of}
 use Rattle.lls_least.specs.Fewer.{counters_with_one_more}
-use Rattle.lls_open.specs.Formula.{open_formula}
-use Rattle.lls_words.specs.Values.{default_budget}
-use Rattle.lls_words.specs.declared.job.Job.{Job}
-use Rattle.lls_words.specs.declared.job.Job.TheVariants as jobs
+use Rattle.lls_cli.specs.Subject.{Subject, asked_with, opened_with}
+use Rattle.lls_cli.specs.Subject as subjects
+use Rattle.lls_cli.specs.declared.task.Source.{Source}
+use Rattle.lls_cli.specs.declared.task.Source.TheVariants as sources
+use Rattle.lls_cli.specs.declared.task.Task.{Task}
+use Rattle.lls_cli.specs.declared.task.Task.TheVariants as tasks
 use Rattle.lls_cli.specs.Questions.{Question}
 use Rattle.lls_cli.specs.Questions as questions
-use Rattle.lls_cli.specs.declared.effort.Effort.{Effort}
 use Rattle.lls_cli.specs.declared.fault.Fault.{Fault}
 use Rattle.lls_cli.specs.declared.fault.Fault.TheVariants as faults
 use Rattle.lls_cli.specs.declared.fault.OutsideFault.TheVariants as outside
-use Rattle.lls_cli.specs.declared.asked.Asked.{Asked}
-use Rattle.lls_cli.specs.declared.asked.OpenAsked.{OpenAsked}
-
--- what is asked about a problem: the problem, and the form of its formula
-abbrev pub asked_with : Form → PosedProblem → Asked
-asked_with form problem = record { problem = problem; form = form }
-
--- the formula that is asked about
-abbrev pub formula_asked : Asked → Cnf
-formula_asked asked = formula_of asked.problem asked.form
-
--- the same of a problem whose rule is left open below a high one
-abbrev pub opened_with : List Bool → Form → PosedProblem → OpenAsked
-opened_with high form problem = record { problem = problem; high = high; form = form }
-
-abbrev pub formula_opened : OpenAsked → Cnf
-formula_opened asked = open_formula asked.problem asked.high asked.form
 
 -- how many bytes an input has at most: a search file or a pattern; a proof; a formula
 abbrev pub search_limit : ℕ
@@ -138,75 +120,46 @@ formula_read (Err fault) = Err (faults.Dimacs fault)
 abbrev pub formula_in : List ℕ → Result Cnf Fault
 formula_in bytes = formula_read (dimacs bytes)
 
--- what two inputs ask, or one: a check, a judging, the text of a formula
-abbrev pub check_question : List Bool → Demands → Form → Result (List ℕ) Fault → Result (List ℕ) Fault → Result Question Fault
-check_question rule demands form first second =
-    and_then (and_then first (problem_in rule demands)) (λ problem. and_then second (λ proof. Ok (questions.Check (asked_with form problem) proof)))
+-- what a check or a search is about, by what was read of its file
+abbrev pub source_file : Source → List ℕ
+source_file (sources.Problem source form) = source.file
+source_file (sources.Rules source high form) = source.file
+source_file (sources.Formula name) = name
 
-abbrev pub judge_question : List Bool → Demands → Bool → Result (List ℕ) Fault → Result (List ℕ) Fault → Result Question Fault
-judge_question rule demands rle first second =
-    and_then (and_then first (problem_in rule demands)) (λ problem. and_then (and_then second (pattern_in rle problem)) (λ history. Ok (questions.Judge problem history)))
+abbrev pub source_limit : Source → ℕ
+source_limit (sources.Problem source form) = search_limit
+source_limit (sources.Rules source high form) = search_limit
+source_limit (sources.Formula name) = formula_limit
 
-abbrev pub refute_question : Result (List ℕ) Fault → Result (List ℕ) Fault → Result Question Fault
-refute_question first second =
-    and_then (and_then first formula_in) (λ formula. and_then second (λ proof. Ok (questions.Refute formula proof)))
+abbrev pub subject_from : Source → Result (List ℕ) Fault → Result Subject Fault
+subject_from (sources.Problem source form) input =
+    and_then (and_then input (problem_in source.rule source.demands)) (λ problem. Ok (subjects.Problem (asked_with form problem)))
+subject_from (sources.Rules source high form) input =
+    and_then (and_then input (small_problem_in source.rule source.demands)) (λ problem. Ok (subjects.Rules (opened_with high form problem)))
+subject_from (sources.Formula name) input = and_then (and_then input formula_in) (λ formula. Ok (subjects.Formula formula))
 
-abbrev pub search_question : List Bool → Demands → Form → Effort → Bool → Result (List ℕ) Fault → Result Question Fault
-search_question rule demands form effort rle input = and_then (and_then input (problem_in rule demands)) (λ problem. Ok (questions.Search (asked_with form problem) effort rle))
-
-abbrev pub decide_question : Effort → Result (List ℕ) Fault → Result Question Fault
-decide_question effort input = and_then (and_then input formula_in) (λ formula. Ok (questions.Decide formula effort))
-
-abbrev pub effort_of : ℕ → Bool → List ℕ → Effort
-effort_of budget keep_all proof = record { budget = budget; keep_all = keep_all; proof = proof }
-
--- how a search is made whose words say nothing of it
-abbrev pub default_effort : List ℕ → Effort
-default_effort proof = effort_of default_budget false proof
-
-abbrev pub encode_question : List Bool → Demands → Form → Result (List ℕ) Fault → Result Question Fault
-encode_question rule demands form input = and_then (and_then input (problem_in rule demands)) (λ problem. Ok (questions.Encode (asked_with form problem)))
-
-abbrev pub least_question : List Bool → Demands → Form → Effort → Bool → Result (List ℕ) Fault → Result Question Fault
-least_question rule demands form effort rle input =
-    and_then (and_then input (roomy_problem_in rule demands)) (λ problem. Ok (questions.Least (asked_with form problem) effort rle))
-
-abbrev pub loose_question : List Bool → List Bool → Demands → Form → Effort → Bool → Result (List ℕ) Fault → Result Question Fault
-loose_question low high demands form effort rle input =
-    and_then (and_then input (small_problem_in low demands)) (λ problem. Ok (questions.Loose (opened_with high form problem) effort rle))
-
-abbrev pub loose_check_question : List Bool → List Bool → Demands → Form → Result (List ℕ) Fault → Result (List ℕ) Fault → Result Question Fault
-loose_check_question low high demands form first second =
-    and_then (and_then first (small_problem_in low demands)) (λ problem. and_then second (λ proof. Ok (questions.LooseCheck (opened_with high form problem) proof)))
-
-abbrev pub trim_question : List ℕ → Result (List ℕ) Fault → Result (List ℕ) Fault → Result Question Fault
-trim_question output first second =
-    and_then (and_then first formula_in) (λ formula. and_then second (λ proof. Ok (questions.Trim formula proof output)))
-
--- what a job asks of its inputs: of none, of one or of two, each by its name and with at most so many bytes, and the question that
+-- what a task asks of its inputs: of none, of one or of two, each by its name and with at most so many bytes, and the question that
 -- what was read of them makes
 pub data Asking : Type 0 where
   of_none : Question → Asking
   of_one : List ℕ → ℕ → (Result (List ℕ) Fault → Result Question Fault) → Asking
   of_two : List ℕ → ℕ → List ℕ → ℕ → (Result (List ℕ) Fault → Result (List ℕ) Fault → Result Question Fault) → Asking
 
-abbrev pub asking_of : Job → Asking
-asking_of (jobs.Check search_file proof rule demands form) = of_two search_file search_limit proof proof_limit (check_question rule demands form)
-asking_of (jobs.Judge search_file pattern rule demands rle) = of_two search_file search_limit pattern search_limit (judge_question rule demands rle)
-asking_of (jobs.Search search_file proof rule demands form budget keep_all rle crew) =
-    of_one search_file search_limit (search_question rule demands form (effort_of budget keep_all proof) rle)
-asking_of (jobs.Sat formula proof budget keep_all) = of_one formula formula_limit (decide_question (effort_of budget keep_all proof))
-asking_of (jobs.Cnf search_file rule demands form) = of_one search_file search_limit (encode_question rule demands form)
-asking_of (jobs.Lrat formula proof) = of_two formula formula_limit proof proof_limit refute_question
-asking_of (jobs.Rule rule) = of_none (questions.Print rule)
-asking_of (jobs.Make seed size search_file proof) = of_none (questions.Make seed size search_file (default_effort proof))
-asking_of (jobs.Least search_file proof rule demands form budget keep_all rle) =
-    of_one search_file search_limit (least_question rule demands form (effort_of budget keep_all proof) rle)
-asking_of (jobs.Loose search_file proof low high demands form budget keep_all rle) =
-    of_one search_file search_limit (loose_question low high demands form (effort_of budget keep_all proof) rle)
-asking_of (jobs.LooseCheck search_file proof low high demands form) =
-    of_two search_file search_limit proof proof_limit (loose_check_question low high demands form)
-asking_of (jobs.Trim formula proof output) = of_two formula formula_limit proof proof_limit (trim_question output)
+abbrev pub asking_of : Task → Asking
+asking_of (tasks.Check source proof) = of_two (source_file source) (source_limit source) proof proof_limit
+    (λ first second. and_then (subject_from source first) (λ subject. and_then second (λ bytes. Ok (questions.Check subject bytes))))
+asking_of (tasks.Search source effort further) = of_one (source_file source) (source_limit source)
+    (λ input. and_then (subject_from source input) (λ subject. Ok (questions.Search subject effort further.rle)))
+asking_of (tasks.Judge source pattern rle) = of_two source.file search_limit pattern search_limit
+    (λ first second. and_then (and_then first (problem_in source.rule source.demands)) (λ problem. and_then (and_then second (pattern_in rle problem)) (λ history. Ok (questions.Judge problem history))))
+asking_of (tasks.Encode source) = of_one (source_file source) (source_limit source)
+    (λ input. and_then (subject_from source input) (λ subject. Ok (questions.Encode subject)))
+asking_of (tasks.Print rule) = of_none (questions.Print rule)
+asking_of (tasks.Make seed size file effort) = of_none (questions.Make seed size file effort)
+asking_of (tasks.Least source form effort further) = of_one source.file search_limit
+    (λ input. and_then (and_then input (roomy_problem_in source.rule source.demands)) (λ problem. Ok (questions.Least (asked_with form problem) effort further.rle)))
+asking_of (tasks.Trim formula proof output) = of_two formula formula_limit proof proof_limit
+    (λ first second. and_then (and_then first formula_in) (λ cnf. and_then second (λ bytes. Ok (questions.Trim cnf bytes output))))
 
 -- the question, or the first refusal, where each input is read so, by its name and its limit
 abbrev pub question_by : (List ℕ → ℕ → Result (List ℕ) Fault) → Asking → Result Question Fault
@@ -214,9 +167,9 @@ question_by read (of_none question) = Ok question
 question_by read (of_one name limit make) = make (read name limit)
 question_by read (of_two one one_limit two two_limit make) = make (read one one_limit) (read two two_limit)
 
--- what a job asks of these files, or the first refusal
-abbrev pub question_of : Job → Files → Result Question Fault
-question_of job files = question_by (input_of files) (asking_of job)
+-- what a task asks of these files, or the first refusal
+abbrev pub question_of : Task → Files → Result Question Fault
+question_of task files = question_by (input_of files) (asking_of task)
 
 -- what an input can be read as, whatever its file says
 abbrev pub CanBeRead : ℕ → Result (List ℕ) Fault → Type 0
@@ -250,5 +203,5 @@ AsksBy files (of_none asked) question = question ≡ Ok asked
 AsksBy files (of_one name limit make) question = MadeOfOne files name limit make question
 AsksBy files (of_two one one_limit two two_limit make) question = MadeOf files one one_limit two two_limit make question
 
-abbrev pub Asks : Job → Option Files → Result Question Fault → Type 0
-Asks job files question = AsksBy files (asking_of job) question
+abbrev pub Asks : Task → Option Files → Result Question Fault → Type 0
+Asks task files question = AsksBy files (asking_of task) question

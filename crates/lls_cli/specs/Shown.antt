@@ -1,29 +1,26 @@
--- For private contracts alone: the answers that there is nothing, with a proof in the file.
-use Rattle.std.specs.Prelude.{◌≡◌}
-use Rattle.lls_lit.specs.Formula.{Cnf}
-use Rattle.lls_problem.specs.Solution.{IsAbsent}
-use Rattle.lls_open.specs.Between.{IsOpenlyAbsent}
+-- For private contracts alone: the answer that there is nothing, with a proof in the file, and the problem that a proof of the fewest is of.
+use Rattle.std.specs.Prelude.{◌≡◌, ℕ, suc, Option, None, Some}
+use Rattle.lls_grid.specs.History.{History}
+use Rattle.lls_least.specs.Fewer.{live_cells}
 use Rattle.lls_cli.specs.declared.answer.Answer.{Answer}
 use Rattle.lls_cli.specs.declared.answer_file.AnswerFile.{AnswerFile}
-use Rattle.lls_cli.specs.declared.asked.Asked.{Asked}
-use Rattle.lls_cli.specs.declared.asked.OpenAsked.{OpenAsked}
 use Rattle.lls_cli.specs.declared.effort.Effort.{Effort}
-use Rattle.lls_cli.specs.Question.{formula_asked, formula_opened}
-use Rattle.lls_cli.specs.Answer.{none_behind}
+use Rattle.lls_cli.specs.declared.status.Status.TheVariants as statuses
 use Rattle.lls_cli.specs.Evidence.{HasProof}
+use Rattle.lls_cli.specs.Meaning.{shown_behind}
+use Rattle.lls_cli.specs.declared.asked.Asked.{Asked}
+use Rattle.lls_cli.specs.Fewest.{asked_fewer}
+use Rattle.lls_cli.specs.Subject.{Subject, subject_formula, HasNone, none_text}
+use Rattle.lls_cli.specs.Subject as subjects
 
--- an answer behind the file of a proof for the formula
-pub record ShowsBy (formula : Cnf) (effort : Effort) (answer : Answer) : Type 0 where
+-- there is nothing, behind the file of the proof
+pub record ShowsNone (subject : Subject) (effort : Effort) (answer : Answer) : Type 0 where
   pub file : AnswerFile
-  pub answer_is : answer ≡ none_behind file
-  pub proof : HasProof formula effort file
+  pub answer_is : answer ≡ shown_behind file statuses.NoPattern (none_text subject)
+  pub proof : HasProof (subject_formula subject) effort file
+  pub absent : HasNone subject
 
--- that the problem has no solution
-pub record ShowsNone (asked : Asked) (effort : Effort) (answer : Answer) : Type 0 where
-  pub by : ShowsBy (formula_asked asked) effort answer
-  pub absent : IsAbsent asked.problem
-
--- or none by any rule between the two
-pub record ShowsNoRule (asked : OpenAsked) (effort : Effort) (answer : Answer) : Type 0 where
-  pub by : ShowsBy (formula_opened asked) effort answer
-  pub absent : IsOpenlyAbsent asked.problem asked.high
+-- the problem with one live cell less than a history, where that has some
+abbrev pub IsFewer : Asked → History → Option Subject → Type 0
+IsFewer asked history None = live_cells history ≡ 0
+IsFewer asked history (Some subject) = (n : ℕ) × (live_cells history ≡ suc n) × (subject ≡ subjects.Problem (asked_fewer asked n))

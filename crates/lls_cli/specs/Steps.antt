@@ -7,10 +7,9 @@ use Rattle.lls_base.specs.declared.reading.ReadError.TheVariants as reads
 use Rattle.lls_base.specs.declared.sink.Failed.{Failed}
 use Rattle.lls_base.specs.declared.writing.FileFault.{FileFault}
 use Rattle.lls_base.specs.declared.writing.FileFault.TheVariants as writes
-use Rattle.lls_words.specs.declared.job.Job.{Job}
 use Rattle.lls_base.specs.Shelf.{Files}
+use Rattle.lls_cli.specs.declared.task.Task.{Task}
 use Rattle.lls_cli.specs.Questions.{Question}
-use Rattle.lls_cli.specs.Questions as questions
 use Rattle.lls_cli.specs.declared.answer_file.AnswerFile.{AnswerFile}
 use Rattle.lls_cli.specs.declared.answer.Answer.{Answer}
 use Rattle.lls_cli.specs.declared.fault.Fault.{Fault}
@@ -21,9 +20,9 @@ use Rattle.lls_cli.specs.declared.status.Status.{Status}
 use Rattle.lls_cli.specs.declared.status.Status.TheVariants as statuses
 use Rattle.lls_cli.specs.Fault.{fault_line, status_of}
 use Rattle.lls_cli.specs.Question.{Asks}
-use Rattle.lls_cli.specs.Answer.{IsAnswer}
+use Rattle.lls_cli.specs.Answer.{IsAnswer, ahead_of}
 use Rattle.lls_cli.specs.Moment.{ShelfMoment, SinkMoment, Moment, files_at}
-use Rattle.lls_cli.specs.Ends.{GrewBy, KeepsFiles, KeepsInput, LeavesPart, Delivered, FileFailed, OutputFailed, End, refused, lacked, input_failed, ahead_failed, ahead_of, answered, file_failed, output_failed}
+use Rattle.lls_cli.specs.Ends.{GrewBy, KeepsFiles, LeavesPart, Delivered, FileFailed, OutputFailed, End, refused, lacked, input_failed, ahead_failed, answered, file_failed, output_failed}
 
 -- why reading stopped: since a call of the shelf failed; or for want of memory, or for what the inputs say, and no call failed
 abbrev pub Stops : Fault → (Fault → Type 0) → ShelfMoment → ShelfMoment → Type 0
@@ -43,10 +42,10 @@ pub record Reads {X : Type 0} (Says : Result X Fault → Type 0) (result : Resul
   pub ok : IfOk result (λ value. Says (Ok value) × (after.faults ≡ before.faults))
   pub err : IfErr result (λ fault. Stops fault (λ f. Says (Err f)) before after)
 
--- what the inputs of a job come to: a right answer to what they ask, before which no file is written, or the first refusal
-abbrev pub ComesTo : Job → Option Files → Result Answer Fault → Type 0
-ComesTo job files (Ok answer) = (question : Question) × Asks job files (Ok question) × (ahead_of question ≡ None) × IsAnswer question answer
-ComesTo job files (Err fault) = Asks job files (Err fault)
+-- what the inputs of a task come to: a right answer to what they ask, before which no file is written, or the first refusal
+abbrev pub ComesTo : Task → Option Files → Result Answer Fault → Type 0
+ComesTo task files (Ok answer) = (question : Question) × Asks task files (Ok question) × (ahead_of question ≡ None) × IsAnswer question answer
+ComesTo task files (Err fault) = Asks task files (Err fault)
 
 -- a whole write to a sink. After a failure it has first bytes of the text
 pub record Writes (text : List ℕ) (result : Result (Unit {0}) Failed) (before after : SinkMoment) : Type 0 where
@@ -94,14 +93,3 @@ IsDelivery answer before after status lacked = ⊥
 IsDelivery answer before after status (refused fault) = ⊥
 IsDelivery answer before after status (input_failed fault) = ⊥
 IsDelivery answer before after status (ahead_failed fault) = ⊥
-
--- an answer without a file leaves the shelf alone
-abbrev pub LeavesAlone : Option AnswerFile → ShelfMoment → ShelfMoment → Type 0
-LeavesAlone None before after = after ≡ before
-LeavesAlone (Some file) before after = Unit {0}
-
--- and so does the printing of a rule; what is said of a made problem leaves the input alone
-abbrev pub LeavesPrinting : Question → ShelfMoment → ShelfMoment → Type 0
-LeavesPrinting (questions.Print rule) before after = after ≡ before
-LeavesPrinting (questions.Make seed size name effort) before after = KeepsInput before after
-LeavesPrinting question before after = Unit {0}

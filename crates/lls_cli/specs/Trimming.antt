@@ -1,16 +1,26 @@
 -- A trim: what its file has, and what it says.
-use Rattle.std.specs.Prelude.{◌≡◌, ℕ, true, ◌++◌, List, codes, decimal, map}
+use Rattle.std.specs.Prelude.{◌≡◌, ℕ, true, ◌++◌, List, [], ◌∷◌, codes, decimal, length, map, Option, Err}
 use Rattle.std.specs.List.{list_all}
-use Rattle.lls_lit.specs.Formula.{Cnf}
+use Rattle.lls_base.specs.Shelf.{Files}
+use Rattle.lls_lit.specs.Formula.{Cnf, IsUnsatisfiable}
 use Rattle.lls_prooflog.specs.declared.step.Step.{Step}
 use Rattle.lls_prooflog.specs.Log.{log_text}
 use Rattle.lls_prooflog.specs.Spent.{is_addition}
-use Rattle.lls_lrat.specs.Verdict.{Accepted, verdict}
+use Rattle.lls_lrat.specs.declared.error.CheckError.{CheckError}
+use Rattle.lls_lrat.specs.Verdict.{Accepted, verdict, answer_of}
+use Rattle.lls_trim.specs.declared.error.TrimError.TheVariants.{RatStep}
+use Rattle.lls_trim.specs.FaultText.{trim_error_text}
+use Rattle.lls_trim.specs.Needed.{IsFirstRat, NeedsNoRat}
 use Rattle.lls_trim.specs.Placed.{steps_of_text}
 use Rattle.lls_trim.specs.Inferences.{Inference, inferences_of}
 use Rattle.lls_trim.specs.Kept.{AreUsed, EndsEmpty, IsSublist, clauses_added}
 use Rattle.lls_trim.specs.Trimmed.{IsTrimmed}
 use Rattle.lls_cli.specs.declared.answer_file.AnswerFile.{AnswerFile}
+use Rattle.lls_cli.specs.declared.answer.Answer.{Answer}
+use Rattle.lls_cli.specs.declared.status.Status.{Status}
+use Rattle.lls_cli.specs.declared.status.Status.TheVariants as statuses
+use Rattle.lls_cli.specs.Checks.{check_answer}
+use Rattle.lls_cli.specs.Meaning.{Meaning, OfFile, answered_by, leaves_none, said, shown_behind}
 
 -- the additions of a proof, up to and with the first empty one, each with what it comes from
 abbrev pub inferences_in : Cnf → List ℕ → List Inference
@@ -32,3 +42,33 @@ pub record HasTrimmed (formula : Cnf) (proof output : List ℕ) (file : AnswerFi
 -- how many additions are kept, of how many, as a line
 abbrev pub kept_text : ℕ → ℕ → List ℕ
 kept_text kept given = codes "kept " ++ decimal kept ++ codes " of " ++ decimal given ++ codes "\n"
+
+-- how a trim ends: with what the empty clause rests on in the file; with the first fault of a proof that isn't accepted; or with the first
+-- addition that it rests on and that isn't by unit propagation
+pub data IsTrim (formula : Cnf) (proof output : List ℕ) : Answer → Type 0 where
+  kept : (file : AnswerFile) (has : HasTrimmed formula proof output file)
+      → IsTrim formula proof output (shown_behind file statuses.Done (kept_text (length has.steps) (length (inferences_in formula proof))))
+  not_accepted : (error : CheckError) → answer_of (verdict formula proof) ≡ Err error → IsTrim formula proof output (check_answer (Err error))
+  by_pivot : (line : ℕ) → verdict formula proof ≡ Accepted → IsFirstRat (inferences_in formula proof) line
+      → IsTrim formula proof output (said statuses.Refused (codes "refused: " ++ trim_error_text (RatStep line)))
+
+-- the file of a trimmed proof, at the statuses at which it may have changed
+abbrev pub trimmed_at : Status → List ℕ → List (List ℕ)
+trimmed_at statuses.Outside name = name ∷ []
+trimmed_at statuses.Done name = name ∷ []
+trimmed_at status name = []
+
+-- what a trim leaves where it is done
+abbrev pub leaves_trimmed : Cnf → List ℕ → List ℕ → Status → Option Files → Type 0
+leaves_trimmed formula proof output statuses.Done files = OfFile (HasTrimmed formula proof output) output files
+leaves_trimmed formula proof output status files = leaves_none status files
+
+-- yes says that the proof is accepted and rests on unit propagation alone, so no assignment satisfies the formula; no says that it isn't
+-- accepted, or rests on something else too
+abbrev pub trim_meaning : Cnf → List ℕ → List ℕ → Meaning
+trim_meaning formula proof output = record (answered_by (IsTrim formula proof output)) {
+  yes = (verdict formula proof ≡ Accepted) × NeedsNoRat (inferences_in formula proof) × IsUnsatisfiable formula;
+  no = verdict formula proof ≡ Accepted → NeedsNoRat (inferences_in formula proof) → ⊥;
+  writes = λ status. trimmed_at status output;
+  leaves = leaves_trimmed formula proof output;
+}

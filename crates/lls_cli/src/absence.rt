@@ -1,54 +1,53 @@
 // Absences, which a checked formula stands behind.
-ghost use Rattle.std.specs.Prelude.{◌≡◌};
+ghost use Rattle.std.specs.Prelude.{◌≡◌, codes};
+ghost use Rattle.lls_lit.specs.Formula.{IsUnsatisfiable};
 ghost use Rattle.lls_problem.specs.Solution.{IsAbsent};
 ghost use Rattle.lls_encode.specs.Formula.{formula_of};
 ghost use Rattle.lls_open.specs.Between.{AreEnds, IsOpenlyAbsent};
 ghost use Rattle.lls_open.specs.Formula.{open_formula};
 ghost use Rattle.lls_cli.specs.Absence.{no_pattern};
 ghost use Rattle.lls_cli.specs.Moment.{sink_at};
-ghost use Rattle.lls_cli.specs.Question.{formula_asked, formula_opened};
 ghost use Rattle.lls_cli.specs.Steps.{Writes};
+ghost use Rattle.lls_cli.specs.Subject.{none_text, subject_formula};
 
-use crate::asked::{Asked, OpenAsked};
+use crate::subject::Subject;
 use lls_base::{Failed, Sink, write_all};
 use lls_lrat::Checked;
 use lls_problem::{Form, Problem};
 use lls_rule::Rule;
 use std::marker::Model;
 
-/// That a problem has no solution: no assignment satisfies its formula, in the form that is asked about.
+/// That there is nothing of what a search is about: no assignment satisfies its formula.
 #[derive(Drop)]
 pub struct Absence<'f> {
     proof: Checked<'f>,
-    asked: &'f Asked,
+    subject: &'f Subject,
 }
 
 impl<'f> Model for Absence<'f> {
     ghost use Rattle.std.specs.Prelude.{◌≡◌};
-    ghost use Rattle.lls_cli.specs.declared.asked.Asked.{Asked};
-    ghost use Rattle.lls_cli.specs.Question.{formula_asked};
+    ghost use Rattle.lls_cli.specs.Subject.{Subject, subject_formula};
 
-    ghost Value = { Asked };
+    ghost Value = { Subject };
 
-    ghost view = { λ absence. absence.asked.now };
+    ghost view = { λ absence. absence.subject.now };
 
-    ghost invariant = { λ absence. absence.proof ≡ formula_asked absence.asked.now };
+    ghost invariant = { λ absence. absence.proof ≡ subject_formula absence.subject.now };
 }
 
 impl<'f> Absence<'f> {
-    pub fn new(proof: Checked<'f>, asked: &'f Asked) -> Absence<'f>
-        requires { proof ≡ formula_asked asked.now }
-        ensures { result ≡ asked.now }
+    pub fn new(proof: Checked<'f>, subject: &'f Subject) -> Absence<'f>
+        requires { proof ≡ subject_formula subject.now }
+        ensures { result ≡ subject.now }
     {
-        Absence { proof, asked }
+        Absence { proof, subject }
     }
 
     /// Writes the words of the absence to a sink. After a failure it has taken some first bytes of them.
     pub fn print<O: Sink>(&self, out: &mut O) -> Result<(), Failed>
-        ensures { Writes no_pattern result (sink_at O.Sink out.old) (sink_at O.Sink out.new) }
+        ensures { Writes (none_text self.now) result (sink_at O.Sink out.old) (sink_at O.Sink out.new) }
     {
-        let asked = self.asked;
-        print_none(&self.proof, &asked.problem, asked.form, out)
+        self.subject.print_absence(&self.proof, out)
     }
 }
 
@@ -68,46 +67,7 @@ pub fn print_none<'f, O: Sink>(
     let _formula = proof.formula();
     let _posed = problem.posed();
     let _demands = problem.demands();
-    write_all(out, b"no pattern\n")
-}
-
-/// That a problem has no solution by any rule between two: no assignment satisfies the formula of the open rule.
-#[derive(Drop)]
-pub struct OpenAbsence<'f> {
-    proof: Checked<'f>,
-    asked: &'f OpenAsked,
-}
-
-impl<'f> Model for OpenAbsence<'f> {
-    ghost use Rattle.std.specs.Prelude.{◌≡◌};
-    ghost use Rattle.lls_open.specs.Between.{AreEnds};
-    ghost use Rattle.lls_cli.specs.declared.asked.OpenAsked.{OpenAsked};
-    ghost use Rattle.lls_cli.specs.Question.{formula_opened};
-
-    ghost Value = { OpenAsked };
-
-    ghost view = { λ absence. absence.asked.now };
-
-    ghost invariant = { λ absence. (absence.proof ≡ formula_opened absence.asked.now)
-        × AreEnds absence.asked.now.problem.rule absence.asked.now.high };
-}
-
-impl<'f> OpenAbsence<'f> {
-    pub fn new(proof: Checked<'f>, asked: &'f OpenAsked) -> OpenAbsence<'f>
-        requires formula { proof ≡ formula_opened asked.now }
-        requires ends { AreEnds asked.now.problem.rule asked.now.high }
-        ensures { result ≡ asked.now }
-    {
-        OpenAbsence { proof, asked }
-    }
-
-    /// Writes the words of the absence to a sink. After a failure it has taken some first bytes of them.
-    pub fn print<O: Sink>(&self, out: &mut O) -> Result<(), Failed>
-        ensures { Writes no_pattern result (sink_at O.Sink out.old) (sink_at O.Sink out.new) }
-    {
-        let asked = self.asked;
-        print_no_rule(&self.proof, &asked.problem, &asked.high, asked.form, out)
-    }
+    print_no_pattern(out)
 }
 
 /// Says that no rule between a problem's and a high one has a solution. Whoever calls it has a proof that no assignment satisfies the
@@ -128,5 +88,23 @@ pub fn print_no_rule<'f, O: Sink>(
     let _formula = proof.formula();
     let _posed = problem.posed();
     let _demands = problem.demands();
+    print_no_pattern(out)
+}
+
+// Writes the words of a problem's absence.
+fn print_no_pattern<O: Sink>(out: &mut O) -> Result<(), Failed>
+    ensures { Writes no_pattern result (sink_at O.Sink out.old) (sink_at O.Sink out.new) }
+{
     write_all(out, b"no pattern\n")
+}
+
+/// Says that no assignment satisfies a checked formula, as the SAT competitions ask for it. After a failure the sink has taken some
+/// first bytes of the words.
+pub fn print_unsatisfiable<'f, O: Sink>(proof: &Checked<'f>, out: &mut O) -> Result<(), Failed>
+    ensures absent { IsUnsatisfiable proof.now }
+    ensures written { Writes (codes "s UNSATISFIABLE\n") result (sink_at O.Sink out.old) (sink_at O.Sink out.new) }
+{
+    // What the type of a checked formula keeps is known from here on.
+    let _formula = proof.formula();
+    write_all(out, b"s UNSATISFIABLE\n")
 }

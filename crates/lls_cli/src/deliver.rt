@@ -7,7 +7,7 @@ ghost use Rattle.lls_cli.specs.Ends.{End, GrewBy, IsEndOf, KeepsInput, WroteFile
 ghost use Rattle.lls_cli.specs.Fault.{fault_line};
 ghost use Rattle.lls_cli.specs.Moment.{shelf_at, sink_at};
 ghost use Rattle.lls_cli.specs.Outside.{BorrowsSame, moment_of};
-ghost use Rattle.lls_cli.specs.Steps.{IsDelivery, LeavesAlone, LeavesPrinting, Says, Unwritten, file_fault};
+ghost use Rattle.lls_cli.specs.Steps.{IsDelivery, Says, Unwritten, file_fault};
 
 use crate::answer::Answer;
 use crate::answer_file::AnswerFile;
@@ -75,7 +75,6 @@ pub fn write_answer_file<S: Shelf>(
     shelf: &mut S,
 ) -> Result<(), OutsideFault>
     ensures written { OnOk result (WroteFile file.now (shelf_at S.Shelf shelf.old) (shelf_at S.Shelf shelf.new)) }
-    ensures shelf { LeavesAlone file.now (shelf_at S.Shelf shelf.old) (shelf_at S.Shelf shelf.new) }
     ensures unwritten { IfErr result (λ fault. Unwritten file.now fault (shelf_at S.Shelf shelf.old) (shelf_at S.Shelf shelf.new)) }
     ensures input { KeepsInput (shelf_at S.Shelf shelf.old) (shelf_at S.Shelf shelf.new) }
 {
@@ -94,7 +93,6 @@ fn deliver<'f, S: Shelf, O: Sink, E: Sink>(
     outside: &mut Outside<S, O, E>,
 ) -> Status
     ensures end { (end : End) × IsDelivery answer.now (moment_of S.Shelf O.Sink E.Sink outside.old) (moment_of S.Shelf O.Sink E.Sink outside.new) result end }
-    ensures shelf { LeavesAlone answer.now.file (moment_of S.Shelf O.Sink E.Sink outside.old).shelf (moment_of S.Shelf O.Sink E.Sink outside.new).shelf }
     ensures input { KeepsInput (moment_of S.Shelf O.Sink E.Sink outside.old).shelf (moment_of S.Shelf O.Sink E.Sink outside.new).shelf }
     ensures same { BorrowsSame outside.old outside.new }
 {
@@ -114,8 +112,7 @@ pub fn give<'f, S: Shelf, O: Sink, E: Sink>(
 ) -> Status
     ensures end { (question : questions.Question) → IfOk answer.entry (IsAnswer question)
         → (end : End) × IsEndOf question (moment_of S.Shelf O.Sink E.Sink outside.old) (moment_of S.Shelf O.Sink E.Sink outside.new) result end }
-    ensures shelf { (question : questions.Question) → IfOk answer.entry (IsAnswer question)
-        → LeavesPrinting question (moment_of S.Shelf O.Sink E.Sink outside.old).shelf (moment_of S.Shelf O.Sink E.Sink outside.new).shelf }
+    ensures input { KeepsInput (moment_of S.Shelf O.Sink E.Sink outside.old).shelf (moment_of S.Shelf O.Sink E.Sink outside.new).shelf }
     ensures in_hand { IfOk answer.entry (λ given. (end : End)
         × IsDelivery given (moment_of S.Shelf O.Sink E.Sink outside.old) (moment_of S.Shelf O.Sink E.Sink outside.new) result end) }
     ensures same { BorrowsSame outside.old outside.new }

@@ -1,4 +1,6 @@
 // How a search is made.
+ghost use Rattle.std.specs.Prelude.{◌≡◌};
+
 use lls_base::Name;
 
 /// How a search is made.
@@ -10,4 +12,16 @@ pub struct Effort {
     pub keep_all: bool,
     /// The file of its log.
     pub proof: Name,
+}
+
+impl Effort {
+    pub fn new(budget: u32, keep_all: bool, proof: Name) -> Effort
+        ensures { result ≡ record { budget = budget; keep_all = keep_all; proof = proof } }
+    {
+        Effort {
+            budget,
+            keep_all,
+            proof,
+        }
+    }
 }

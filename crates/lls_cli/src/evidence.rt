@@ -5,18 +5,17 @@ ghost use Rattle.lls_prooflog.specs.Log.{ReadsAs, log_text};
 ghost use Rattle.lls_prooflog.specs.UnitWalk.{numbered};
 ghost use Rattle.lls_prooflog.specs.Steps.{are_accepted};
 ghost use Rattle.lls_lrat.specs.Verdict.{Accepted, verdict};
-ghost use Rattle.lls_open.specs.Between.{AreEnds};
 ghost use Rattle.lls_cli.specs.Evidence.{HasProof, IsEvidence};
-ghost use Rattle.lls_cli.specs.Question.{formula_asked, formula_opened};
-ghost use Rattle.lls_cli.specs.Shown.{ShowsNoRule, ShowsNone};
+ghost use Rattle.lls_cli.specs.Shown.{ShowsNone};
+ghost use Rattle.lls_cli.specs.Subject.{subject_formula};
 
-use crate::absence::{Absence, OpenAbsence};
+use crate::absence::Absence;
 use crate::answer::Answer;
 use crate::answer_file::AnswerFile;
-use crate::asked::{Asked, OpenAsked};
 use crate::bytes::Bytes;
 use crate::effort::Effort;
 use crate::status::Status;
+use crate::subject::Subject;
 use crate::text::Text;
 use lls_base::{Memory, Name};
 use lls_cnf::Formula;
@@ -64,51 +63,20 @@ pub fn proof_file<'f>(
     Ok((checked, file))
 }
 
-/// The answer that a problem has no solution, by an accepted log over the problem's formula.
+/// The answer that there is nothing of what a search is about, by an accepted log over its formula.
 pub fn absence_of<'f>(
     alloc: Global,
-    asked: &'f Asked,
-    formula: &'f Formula,
+    subject: &'f Subject,
     log: &Log,
     effort: Effort,
 ) -> Result<Answer<'f>, Memory>
-    requires formula { formula.now ≡ formula_asked asked.now }
-    requires evidence { IsEvidence formula.now effort log.now.steps }
-    ensures { IfOk result (ShowsNone asked.now effort) }
+    requires { IsEvidence (subject_formula subject.now) effort log.now.steps }
+    ensures { IfOk result (ShowsNone subject.now effort) }
 {
-    // What the type of a problem keeps is known from here on.
-    let problem = &asked.problem;
-    let _posed = problem.posed();
-    let _demands = problem.demands();
-    let (checked, file) = proof_file(alloc, formula, log, effort)?;
+    let (checked, file) = proof_file(alloc, subject.formula(), log, effort)?;
     Ok(Answer {
         status: Status::NoPattern,
-        text: Text::absence(Absence::new(checked, asked)),
-        file: Some(file),
-    })
-}
-
-/// The answer that no rule between two has a solution, by an accepted log over the formula of the open rule.
-pub fn no_rule_of<'f>(
-    alloc: Global,
-    asked: &'f OpenAsked,
-    formula: &'f Formula,
-    log: &Log,
-    effort: Effort,
-) -> Result<Answer<'f>, Memory>
-    requires formula { formula.now ≡ formula_opened asked.now }
-    requires ends { AreEnds asked.now.problem.rule asked.now.high }
-    requires evidence { IsEvidence formula.now effort log.now.steps }
-    ensures { IfOk result (ShowsNoRule asked.now effort) }
-{
-    // What the type of a problem keeps is known from here on.
-    let problem = &asked.problem;
-    let _posed = problem.posed();
-    let _demands = problem.demands();
-    let (checked, file) = proof_file(alloc, formula, log, effort)?;
-    Ok(Answer {
-        status: Status::NoPattern,
-        text: Text::open_absence(OpenAbsence::new(checked, asked)),
+        text: Text::absence(Absence::new(checked, subject)),
         file: Some(file),
     })
 }

@@ -1,21 +1,21 @@
 // The search for a solution with the fewest live cells in generation 0.
-ghost use Rattle.std.specs.Prelude.{◌≡◌, ◌<◌, ◌≤◌, length, IfOk};
+ghost use Rattle.std.specs.Prelude.{◌≡◌, ◌<◌, ◌≤◌, Bool, length, IfOk};
 ghost use Rattle.lls_hensel.specs.Isotropy.{IsIsotropic};
 ghost use Rattle.lls_least.specs.Fewer.{LeavesRoom};
-ghost use Rattle.lls_least.specs.Least.{HasFewest, IsShown};
-ghost use Rattle.lls_problem.specs.Bounds.{grid_size};
+ghost use Rattle.lls_least.specs.Least.{HasFewest, IsAtMost, IsShown};
+ghost use Rattle.lls_problem.specs.Solution.{IsSolution};
+ghost use Rattle.lls_prooflog.specs.Spent.{IsSpent};
 ghost use Rattle.lls_solver.specs.Searching.{KeepsAll};
 ghost use Rattle.lls_solver.specs.declared.solving.TheConstants.{MOST_BUDGET};
 ghost use Rattle.lls_cli.specs.Questions as questions;
 ghost use Rattle.lls_cli.specs.Answer.{IsAnswer};
 ghost use Rattle.lls_cli.specs.Ends.{End, IsEndOf};
-ghost use Rattle.lls_cli.specs.Evidence.{HasProof, IsEvidence};
-ghost use Rattle.lls_cli.specs.Fewest.{asked_fewer, counted_text};
+ghost use Rattle.lls_cli.specs.Fewest.{counted_text};
 ghost use Rattle.lls_cli.specs.Outside.{BorrowsSame, moment_of};
-ghost use Rattle.lls_cli.specs.Question.{formula_asked};
+ghost use Rattle.lls_cli.specs.Shown.{IsFewer};
+ghost use Rattle.lls_cli.specs.Subject.{formula_asked};
 
 use crate::answer::Answer;
-use crate::answer_file::AnswerFile;
 use crate::asked::Asked;
 use crate::deliver::{give, lack};
 use crate::effort::Effort;
@@ -23,10 +23,9 @@ use crate::evidence::{absence_of, log_file, proof_file};
 use crate::outside::Outside;
 use crate::pattern::print_pattern;
 use crate::status::Status;
+use crate::subject::Subject;
 use crate::text::Text;
 use lls_base::{Memory, Shelf, Sink};
-use lls_cnf::Formula;
-use lls_encode::encode;
 use lls_grid::History;
 use lls_least::{Least, fewer, least};
 use lls_prooflog::Log;
@@ -52,29 +51,27 @@ fn counted(
     Ok(text)
 }
 
-// The file of a log that shows that no solution has at most `k` live cells in generation 0. The log is checked before.
-fn certificate(
-    alloc: Global,
-    asked: &Asked,
-    k: u32,
-    log: &Log,
-    effort: Effort,
-) -> Result<AnswerFile, Memory>
+// The problem in which generation 0 has one live cell less than a solution, with its formula. No solution has less than none.
+fn fewer_than(alloc: Global, asked: &Asked, history: &History) -> Result<Option<Subject>, Memory>
     requires room { LeavesRoom asked.now.problem }
-    requires below { k < grid_size asked.now.problem.posed }
-    requires evidence { IsEvidence (formula_asked (asked_fewer asked.now k)) effort log.now.steps }
-    ensures { IfOk result (HasProof (formula_asked (asked_fewer asked.now k)) effort) }
+    requires solution { IsSolution asked.now.problem history.now }
+    ensures { IfOk result (IsFewer asked.now history.now) }
 {
-    let bounded = fewer(alloc, &asked.problem, k)?;
-    let formula = encode(alloc, &bounded, asked.form)?;
-    let (_checked, file) = proof_file(alloc, &formula, log, effort)?;
-    Ok(file)
+    // What the type of a problem keeps is known from here on.
+    let _posed = asked.problem.posed();
+    let live = history.population(0);
+    if live == 0 {
+        return Ok(None);
+    }
+    let problem = fewer(alloc, &asked.problem, live - 1)?;
+    Ok(Some(Subject::of_problem(alloc, problem, asked.form)?))
 }
 
-// The answer of a solution with the fewest live cells, and of the log that shows that none has fewer.
+// The answer of a solution with the fewest live cells, by the log that shows that the problem with fewer has none.
 fn shown<'f>(
     alloc: Global,
     asked: &Asked,
+    fewer: &'f Option<Subject>,
     effort: Effort,
     rle: bool,
     history: &History,
@@ -85,79 +82,107 @@ fn shown<'f>(
     requires shown { IsShown asked.now.problem asked.now.form effort.budget history.now log.now.steps }
     requires fewest { HasFewest asked.now.problem history.now }
     requires kept { KeepsAll effort.keep_all log.now.steps }
+    requires fewer { IsFewer asked.now history.now fewer.now }
     ensures { IfOk result (IsAnswer (questions.Least asked.now effort rle)) }
 {
     // What the type of a problem keeps is known from here on.
     let problem = &asked.problem;
     let _posed = problem.posed();
     let _demands = problem.demands();
-    let text = Text::plain(counted(alloc, "least", history, problem.rule(), rle)?);
     let status = Status::Pattern;
-    let live = history.population(0);
-    if live == 0 {
-        return Ok(Answer {
+    let text = counted(alloc, "least", history, problem.rule(), rle)?;
+    match fewer {
+        None => Ok(Answer {
             status,
-            text,
+            text: Text::plain(text),
             file: None,
-        });
-    }
-    let file = Some(certificate(alloc, asked, live - 1, log, effort)?);
-    Ok(Answer { status, text, file })
-}
-
-// The answer to the search for a solution with the fewest live cells, where the formula is the problem's.
-fn fewest<'f>(
-    alloc: Global,
-    asked: &'f Asked,
-    formula: &'f Formula,
-    effort: Effort,
-    rle: bool,
-) -> Result<Answer<'f>, Memory>
-    requires formula { formula.now ≡ formula_asked asked.now }
-    requires room { LeavesRoom asked.now.problem }
-    requires budget { effort.budget ≤ MOST_BUDGET }
-    requires isotropic { IsIsotropic asked.now.problem.rule }
-    ensures { IfOk result (IsAnswer (questions.Least asked.now effort rle)) }
-{
-    // What the type of a problem keeps is known from here on.
-    let problem = &asked.problem;
-    let _posed = problem.posed();
-    let _demands = problem.demands();
-    match least(alloc, problem, asked.form, effort.budget, effort.keep_all)? {
-        Least::Shown { history, log } => shown(alloc, asked, effort, rle, &history, &log),
-        Least::Absent { log } => absence_of(alloc, asked, formula, &log, effort),
-        Least::AtMost { history, log } => {
-            let text = counted(alloc, "at most", &history, problem.rule(), rle)?;
-            let file = log_file(alloc, &log, effort.proof)?;
+        }),
+        Some(fewer) => {
+            let (checked, file) = proof_file(alloc, fewer.formula(), log, effort)?;
             Ok(Answer {
-                status: Status::Undecided,
-                text: Text::plain(text),
+                status,
+                text: Text::certified(checked, text),
                 file: Some(file),
             })
         }
-        Least::Unsettled { log } => {
-            let file = log_file(alloc, &log, effort.proof)?;
-            Answer::of_text(alloc, Status::Undecided, b"undecided\n", Some(file))
-        }
     }
+}
+
+// The answer of a solution of which the budget didn't tell whether one has fewer live cells.
+fn at_most(
+    alloc: Global,
+    asked: &Asked,
+    effort: Effort,
+    rle: bool,
+    history: &History,
+    log: &Log,
+) -> Result<Answer<'static>, Memory>
+    requires room { LeavesRoom asked.now.problem }
+    requires isotropic { IsIsotropic asked.now.problem.rule }
+    requires most { IsAtMost asked.now.problem asked.now.form effort.budget history.now log.now.steps }
+    requires kept { KeepsAll effort.keep_all log.now.steps }
+    ensures { IfOk result (IsAnswer (questions.Least asked.now effort rle)) }
+{
+    // What the type of a problem keeps is known from here on.
+    let problem = &asked.problem;
+    let _posed = problem.posed();
+    let _demands = problem.demands();
+    let text = counted(alloc, "at most", history, problem.rule(), rle)?;
+    let file = log_file(alloc, log, effort.proof)?;
+    Ok(Answer {
+        status: Status::Undecided,
+        text: Text::plain(text),
+        file: Some(file),
+    })
+}
+
+// The answer of a budget that was spent before there was a solution.
+fn unsettled(alloc: Global, effort: Effort, log: &Log) -> Result<Answer<'static>, Memory>
+    ensures { (asked : Asked) (rle : Bool) → IsSpent (formula_asked asked) log.now.steps effort.budget → KeepsAll effort.keep_all log.now.steps
+        → IfOk result (IsAnswer (questions.Least asked effort rle)) }
+{
+    let file = log_file(alloc, log, effort.proof)?;
+    Answer::of_text(alloc, Status::Undecided, b"undecided\n", Some(file))
 }
 
 /// Searches a solution with the fewest live cells, and gives what comes of it.
 pub fn give_fewest<S: Shelf, O: Sink, E: Sink>(
     alloc: Global,
-    asked: &Asked,
+    asked: Asked,
     effort: Effort,
     rle: bool,
     outside: &mut Outside<S, O, E>,
 ) -> Status
-    requires room { LeavesRoom asked.now.problem }
+    requires room { LeavesRoom asked.problem }
     requires budget { effort.budget ≤ MOST_BUDGET }
-    requires isotropic { IsIsotropic asked.now.problem.rule }
-    ensures end { (end : End) × IsEndOf (questions.Least asked.now effort rle) (moment_of S.Shelf O.Sink E.Sink outside.old) (moment_of S.Shelf O.Sink E.Sink outside.new) result end }
+    requires isotropic { IsIsotropic asked.problem.rule }
+    ensures end { (end : End) × IsEndOf (questions.Least asked effort rle) (moment_of S.Shelf O.Sink E.Sink outside.old) (moment_of S.Shelf O.Sink E.Sink outside.new) result end }
     ensures same { BorrowsSame outside.old outside.new }
 {
-    match encode(alloc, &asked.problem, asked.form) {
-        Ok(formula) => give(fewest(alloc, asked, &formula, effort, rle), outside),
+    match least(
+        alloc,
+        &asked.problem,
+        asked.form,
+        effort.budget,
+        effort.keep_all,
+    ) {
+        Ok(Least::Shown { history, log }) => match fewer_than(alloc, &asked, &history) {
+            Ok(fewer) => {
+                let answer = shown(alloc, &asked, &fewer, effort, rle, &history, &log);
+                give(answer, outside)
+            }
+            Err(Memory) => lack(outside.err),
+        },
+        Ok(Least::Absent { log }) => {
+            match Subject::of_problem(alloc, asked.problem, asked.form) {
+                Ok(subject) => give(absence_of(alloc, &subject, &log, effort), outside),
+                Err(Memory) => lack(outside.err),
+            }
+        }
+        Ok(Least::AtMost { history, log }) => {
+            give(at_most(alloc, &asked, effort, rle, &history, &log), outside)
+        }
+        Ok(Least::Unsettled { log }) => give(unsettled(alloc, effort, &log), outside),
         Err(Memory) => lack(outside.err),
     }
 }

@@ -5,11 +5,15 @@ ghost use Rattle.lls_search_file.specs.Reading.{posed_of};
 ghost use Rattle.lls_least.specs.Fewer.{LeavesRoom};
 ghost use Rattle.lls_words.specs.Job.{AreWithinLimits};
 ghost use Rattle.lls_cli.specs.Moment.{files_of, shelf_at};
-ghost use Rattle.lls_cli.specs.Question.{IsInput, MadeOfOne, posed_in, problem_in, roomy_problem_in, small_problem_in, most_open_cells, formula_in, history_in, pattern_in, pictured_in};
+ghost use Rattle.lls_cli.specs.Question.{IsInput, MadeOfOne, posed_in, problem_in, roomy_problem_in, small_problem_in, most_open_cells, formula_in, history_in, pattern_in, pictured_in, source_file, source_limit, subject_from};
 ghost use Rattle.lls_cli.specs.Steps.{Reads, input_fault};
+ghost use Rattle.lls_cli.specs.Subject.{CanBePrinted};
+ghost use Rattle.lls_cli.specs.Task.{IsPrintable, KeepsSource};
 
 use crate::bytes::Bytes;
 use crate::fault::{Fault, OutsideFault};
+use crate::subject::Subject;
+use crate::task::{ProblemSource, Source};
 use lls_base::{Name, ReadError, Shelf, read_all};
 use lls_cnf::{DimacsError, Formula, MOST_DIMACS_BYTES, read_dimacs};
 use lls_grid::History;
@@ -89,34 +93,30 @@ fn problem_input(
 pub fn read_problem<S: Shelf>(
     alloc: Global,
     shelf: &mut S,
-    search: &Name,
-    rule: Rule,
-    demands: Demands,
+    source: ProblemSource,
 ) -> Result<Problem, Fault>
-    requires { AreWithinLimits demands }
-    ensures read { Reads (MadeOfOne (files_of S.Shelf shelf.old) search.now SEARCH_LIMIT
-        (λ first. and_then first (problem_in rule demands))) result (shelf_at S.Shelf shelf.old) (shelf_at S.Shelf shelf.new) }
-    ensures rule { IfOk result (λ problem. problem.rule ≡ rule) }
+    requires { AreWithinLimits source.demands }
+    ensures read { Reads (MadeOfOne (files_of S.Shelf shelf.old) source.file SEARCH_LIMIT
+        (λ first. and_then first (problem_in source.rule source.demands))) result (shelf_at S.Shelf shelf.old) (shelf_at S.Shelf shelf.new) }
+    ensures rule { IfOk result (λ problem. problem.rule ≡ source.rule) }
 {
-    let bytes = read_input(alloc, shelf, search, SEARCH_LIMIT)?;
-    problem_input(alloc, bytes.items(), rule, demands)
+    let bytes = read_input(alloc, shelf, &source.file, SEARCH_LIMIT)?;
+    problem_input(alloc, bytes.items(), source.rule, source.demands)
 }
 
 /// The problem of a search file, where there is room for a counter of all cells of a generation besides those of its bounds.
 pub fn read_roomy_problem<S: Shelf>(
     alloc: Global,
     shelf: &mut S,
-    search: &Name,
-    rule: Rule,
-    demands: Demands,
+    source: ProblemSource,
 ) -> Result<Problem, Fault>
-    requires { AreWithinLimits demands }
-    ensures read { Reads (MadeOfOne (files_of S.Shelf shelf.old) search.now SEARCH_LIMIT
-        (λ first. and_then first (roomy_problem_in rule demands))) result (shelf_at S.Shelf shelf.old) (shelf_at S.Shelf shelf.new) }
-    ensures rule { IfOk result (λ problem. problem.rule ≡ rule) }
+    requires { AreWithinLimits source.demands }
+    ensures read { Reads (MadeOfOne (files_of S.Shelf shelf.old) source.file SEARCH_LIMIT
+        (λ first. and_then first (roomy_problem_in source.rule source.demands))) result (shelf_at S.Shelf shelf.old) (shelf_at S.Shelf shelf.new) }
+    ensures rule { IfOk result (λ problem. problem.rule ≡ source.rule) }
     ensures room { IfOk result LeavesRoom }
 {
-    let problem = read_problem(alloc, shelf, search, rule, demands)?;
+    let problem = read_problem(alloc, shelf, source)?;
     let counters = counters_with_one_more(&problem);
     if counters > u64::from(Bounds::MOST_COUNTERS) {
         return Err(Fault::Demands(DemandError::Counters(u128::from(counters))));
@@ -128,17 +128,15 @@ pub fn read_roomy_problem<S: Shelf>(
 pub fn read_small_problem<S: Shelf>(
     alloc: Global,
     shelf: &mut S,
-    search: &Name,
-    rule: Rule,
-    demands: Demands,
+    source: ProblemSource,
 ) -> Result<Problem, Fault>
-    requires { AreWithinLimits demands }
-    ensures read { Reads (MadeOfOne (files_of S.Shelf shelf.old) search.now SEARCH_LIMIT
-        (λ first. and_then first (small_problem_in rule demands))) result (shelf_at S.Shelf shelf.old) (shelf_at S.Shelf shelf.new) }
-    ensures rule { IfOk result (λ problem. problem.rule ≡ rule) }
+    requires { AreWithinLimits source.demands }
+    ensures read { Reads (MadeOfOne (files_of S.Shelf shelf.old) source.file SEARCH_LIMIT
+        (λ first. and_then first (small_problem_in source.rule source.demands))) result (shelf_at S.Shelf shelf.old) (shelf_at S.Shelf shelf.new) }
+    ensures rule { IfOk result (λ problem. problem.rule ≡ source.rule) }
     ensures few { IfOk result (λ problem. length problem.posed.cells ≤ most_open_cells) }
 {
-    let problem = read_problem(alloc, shelf, search, rule, demands)?;
+    let problem = read_problem(alloc, shelf, source)?;
     let cells = problem.posed().cells.items().len();
     if cells > MOST_OPEN_CELLS {
         return Err(Fault::Posed(PosedFault::TooManyCells(cells as u64)));
@@ -169,6 +167,30 @@ pub fn read_formula<S: Shelf>(
 {
     let bytes = read_input(alloc, shelf, formula, MOST_DIMACS_BYTES as u64)?;
     formula_input(alloc, bytes.items())
+}
+
+/// What a check or a search is about, with its formula.
+pub fn read_subject<S: Shelf>(
+    alloc: Global,
+    shelf: &mut S,
+    source: Source,
+) -> Result<Subject, Fault>
+    requires { KeepsSource source }
+    ensures read { Reads (MadeOfOne (files_of S.Shelf shelf.old) (source_file source) (source_limit source) (subject_from source))
+        result (shelf_at S.Shelf shelf.old) (shelf_at S.Shelf shelf.new) }
+    ensures printable { IfOk result (λ subject. IsPrintable source → CanBePrinted subject) }
+{
+    match source {
+        Source::Problem(source, form) => {
+            let problem = read_problem(alloc, shelf, source)?;
+            Ok(Subject::of_problem(alloc, problem, form)?)
+        }
+        Source::Rules(source, high, form) => {
+            let problem = read_small_problem(alloc, shelf, source)?;
+            Ok(Subject::of_rules(alloc, problem, high, form)?)
+        }
+        Source::Formula(file) => Ok(Subject::of_formula(read_formula(alloc, shelf, &file)?)),
+    }
 }
 
 // The history of a pattern's bytes.

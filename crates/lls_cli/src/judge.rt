@@ -1,7 +1,8 @@
 // The judging of a history.
 ghost use Rattle.std.specs.Prelude.{◌≡◌, IfOk};
 ghost use Rattle.lls_cli.specs.Questions as questions;
-ghost use Rattle.lls_cli.specs.Answer.{judge_answer, IsAnswer};
+ghost use Rattle.lls_cli.specs.Answer.{IsAnswer};
+ghost use Rattle.lls_cli.specs.Checks.{judge_answer};
 
 use crate::answer::Answer;
 use crate::status::Status;

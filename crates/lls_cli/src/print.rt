@@ -6,24 +6,22 @@ ghost use Rattle.lls_cli.specs.Questions as questions;
 ghost use Rattle.lls_cli.specs.Answer.{IsAnswer};
 
 use crate::answer::Answer;
-use crate::asked::Asked;
 use crate::status::Status;
+use crate::subject::Subject;
 use crate::text::Text;
 use lls_base::Memory;
 use lls_cnf::print_dimacs;
-use lls_encode::encode;
 use lls_hensel::PrintRuleError;
 use lls_rule::Rule;
 use std::alloc::Global;
 
-/// The formula of a problem in DIMACS CNF.
-pub fn print_formula(alloc: Global, asked: &Asked) -> Result<Answer<'static>, Memory>
-    ensures { IfOk result (IsAnswer (questions.Encode asked.now)) }
+/// The formula of what a search is about, in DIMACS CNF.
+pub fn print_formula(alloc: Global, subject: &Subject) -> Result<Answer<'static>, Memory>
+    ensures { IfOk result (IsAnswer (questions.Encode subject.now)) }
 {
-    let formula = encode(alloc, &asked.problem, asked.form)?;
     Ok(Answer {
         status: Status::Done,
-        text: Text::plain(print_dimacs(alloc, &formula)?),
+        text: Text::plain(print_dimacs(alloc, subject.formula())?),
         file: None,
     })
 }

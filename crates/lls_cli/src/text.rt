@@ -1,11 +1,12 @@
 // What an answer says on the standard output.
 ghost use Rattle.std.specs.Prelude.{◌≡◌};
-ghost use Rattle.lls_cli.specs.Absence.{no_pattern};
 ghost use Rattle.lls_cli.specs.Moment.{sink_at};
 ghost use Rattle.lls_cli.specs.Steps.{Writes};
+ghost use Rattle.lls_cli.specs.Subject.{none_text};
 
-use crate::absence::{Absence, OpenAbsence};
+use crate::absence::Absence;
 use lls_base::{Failed, Sink, write_all};
+use lls_lrat::Checked;
 use std::marker::Model;
 
 /// What an answer says on the standard output.
@@ -14,12 +15,12 @@ pub struct Text<'f> {
     said: Said<'f>,
 }
 
-// A text, or an absence, whose words have what stands behind them.
+// A text, an absence, or a text with the checked formula that stands behind it.
 #[derive(Drop)]
 enum Said<'f> {
     Plain(Vec<u8>),
     Absence(Absence<'f>),
-    OpenAbsence(OpenAbsence<'f>),
+    Certified(Checked<'f>, Vec<u8>),
 }
 
 impl<'f> Model for Text<'f> {
@@ -43,19 +44,19 @@ impl<'f> Text<'f> {
 
     /// The words of an absence.
     pub fn absence(absence: Absence<'f>) -> Text<'f>
-        ensures { result ≡ no_pattern }
+        ensures { result ≡ none_text absence.entry }
     {
         Text {
             said: Said::Absence(absence),
         }
     }
 
-    /// The words of an absence by all rules between two.
-    pub fn open_absence(absence: OpenAbsence<'f>) -> Text<'f>
-        ensures { result ≡ no_pattern }
+    /// A text that says what holds where no assignment satisfies the checked formula.
+    pub fn certified(proof: Checked<'f>, bytes: Vec<u8>) -> Text<'f>
+        ensures { result ≡ bytes.items }
     {
         Text {
-            said: Said::OpenAbsence(absence),
+            said: Said::Certified(proof, bytes),
         }
     }
 
@@ -66,7 +67,7 @@ impl<'f> Text<'f> {
         match &self.said {
             Said::Plain(bytes) => write_all(out, bytes),
             Said::Absence(absence) => absence.print(out),
-            Said::OpenAbsence(absence) => absence.print(out),
+            Said::Certified(_, bytes) => write_all(out, bytes),
         }
     }
 }

@@ -2,7 +2,8 @@
 ghost use Rattle.std.specs.Prelude.{◌≡◌, ◌++◌, codes, IfOk};
 ghost use Rattle.lls_trim.specs.FaultText.{trim_error_text};
 ghost use Rattle.lls_cli.specs.Questions as questions;
-ghost use Rattle.lls_cli.specs.Answer.{IsAnswer, said};
+ghost use Rattle.lls_cli.specs.Answer.{IsAnswer};
+ghost use Rattle.lls_cli.specs.Meaning.{said};
 ghost use Rattle.lls_cli.specs.Trimming.{kept_text};
 
 use crate::answer::Answer;

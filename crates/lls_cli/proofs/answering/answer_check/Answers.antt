@@ -1,16 +1,23 @@
 use Rattle.std.proofs.Common.{Ok}
 use Rattle.std.proofs.lemmas.Result.{err_from_is_err_and}
 use Rattle.lls_base.specs.Results.{and_then}
-use Rattle.lls_words.specs.declared.job.Job.TheVariants as jobs
-use Rattle.lls_cli.specs.Question.{asked_with, problem_in}
+use Rattle.lls_cli.specs.declared.task.Task.TheVariants as tasks
+use Rattle.lls_cli.specs.Question.{subject_from}
 use Rattle.lls_cli.specs.Questions as questions
+use Rattle.lls_cli.specs.Moment.{shelf_at}
 use Rattle.lls_cli.proofs.Coming.{comes_refused}
+use Rattle.lls_cli.proofs.FedProofs.{check_comes}
 use Rattle.lls_cli.proofs.Stopped.{first_stopped}
 use Rattle.lls_cli.proofs.answering.answer_check.Goals as goal
 
-pub returns-in_err-problem : goal.returns-in_err-problem
-returns-in_err-problem g c =
+pub returns-in_err-subject : goal.returns-in_err-subject
+returns-in_err-subject g c =
     let p = err_from_is_err_and c.from_residual.result c.from_residual.ensures.1 in
     rw (p.1, p.2)
-    (comes_refused (jobs.Check c.args.search.now c.args.proof.now c.args.rule c.args.demands c.args.form) _ _ _ _
-    (first_stopped _ _ c.args.proof.now _ _ (λ first. and_then first (problem_in c.args.rule c.args.demands)) (λ second problem. and_then second (λ proof. Ok (questions.Check (asked_with c.args.form problem) proof))) _ _ _ c.in_err-problem.ensures.read))
+    (comes_refused (tasks.Check c.args.source c.args.proof.now) _ _ _ _
+    (first_stopped _ _ c.args.proof.now _ _ (subject_from c.args.source) (λ second subject. and_then second (λ bytes. Ok (questions.Check subject bytes))) _ _ _ c.in_err-subject.ensures.read))
+
+pub returns : goal.returns
+returns g c =
+    check_comes c.args.source c.args.proof.now c.in_ok-subject.subject c.check.result (shelf_at g.S.Shelf c.args.shelf.now) (shelf_at g.S.Shelf c.read_subject.new.shelf) (shelf_at g.S.Shelf c.check.new.shelf)
+    c.in_ok-subject.ensures.read c.check.ensures

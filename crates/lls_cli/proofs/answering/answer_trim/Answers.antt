@@ -1,7 +1,7 @@
 use Rattle.std.proofs.Common.{Ok}
 use Rattle.std.proofs.lemmas.Result.{err_from_is_err_and}
 use Rattle.lls_base.specs.Results.{and_then}
-use Rattle.lls_words.specs.declared.job.Job.TheVariants as jobs
+use Rattle.lls_cli.specs.declared.task.Task.TheVariants as tasks
 use Rattle.lls_cli.specs.Question.{formula_in}
 use Rattle.lls_cli.specs.Questions as questions
 use Rattle.lls_cli.proofs.Coming.{comes_refused}
@@ -12,5 +12,5 @@ pub returns-in_err-formula : goal.returns-in_err-formula
 returns-in_err-formula g c =
     let p = err_from_is_err_and c.from_residual.result c.from_residual.ensures.1 in
     rw (p.1, p.2)
-    (comes_refused (jobs.Trim c.args.formula.now c.args.proof.now c.args.output) _ _ _ _
+    (comes_refused (tasks.Trim c.args.formula.now c.args.proof.now c.args.output) _ _ _ _
     (first_stopped _ _ c.args.proof.now _ _ (λ first. and_then first formula_in) (λ second formula. and_then second (λ proof. Ok (questions.Trim formula proof c.args.output))) _ _ _ c.in_err-formula.ensures))

@@ -1,15 +1,10 @@
 use Rattle.lls_cli.specs.Ends.{lacked}
 use Rattle.lls_cli.proofs.Ending.{delivered, lacks}
-use Rattle.lls_cli.proofs.RightAnswers.{leaves_printing, leaves_printing-refl}
 use Rattle.lls_cli.proofs.deliver.give.Goals as goal
 
 pub returns-in-Ok-clause-end : goal.returns-in-Ok-clause-end
 returns-in-Ok-clause-end g c =
     λ question right. delivered question c.in-Ok.answer _ _ _ (rw c.in-Ok.is at right) c.deliver.ensures.end
-
-pub returns-in-Ok-clause-shelf : goal.returns-in-Ok-clause-shelf
-returns-in-Ok-clause-shelf g c =
-    λ question right. leaves_printing question c.in-Ok.answer _ _ (rw c.in-Ok.is at right) c.deliver.ensures.shelf c.deliver.ensures.input
 
 pub returns-in-Ok-clause-in_hand : goal.returns-in-Ok-clause-in_hand
 returns-in-Ok-clause-in_hand g c = rw c.in-Ok.is c.deliver.ensures.end
@@ -17,6 +12,3 @@ returns-in-Ok-clause-in_hand g c = rw c.in-Ok.is c.deliver.ensures.end
 pub returns-in-Err-clause-end : goal.returns-in-Err-clause-end
 returns-in-Err-clause-end g c =
     λ question right. (lacked, lacks _ _ _ _ _ (g.met.S.Shelf.faults_fit c.args.outside.now.shelf.now) c.lack.ensures.status c.lack.ensures.line)
-
-pub returns-in-Err-clause-shelf : goal.returns-in-Err-clause-shelf
-returns-in-Err-clause-shelf g c = λ question right. leaves_printing-refl question _

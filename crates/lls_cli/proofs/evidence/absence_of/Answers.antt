@@ -1,22 +1,18 @@
-use Rattle.std.proofs.Common.{ℕ, List, ap, subst}
-use Rattle.lls_lit.specs.Formula.{Cnf, IsUnsatisfiable}
-use Rattle.lls_encode.proofs.Complete.{absent_from}
-use Rattle.lls_cli.specs.Answer.{none_behind}
+use Rattle.std.proofs.Common.{ap, subst, ◌∙◌}
+use Rattle.lls_lit.specs.Formula.{Cnf}
+use Rattle.lls_cli.specs.declared.status.Status.TheVariants as statuses
 use Rattle.lls_cli.specs.Evidence.{HasProof}
-use Rattle.lls_cli.specs.Question.{formula_asked}
+use Rattle.lls_cli.specs.Meaning.{shown_behind}
+use Rattle.lls_cli.specs.Subject.{none_text}
 use Rattle.lls_cli.proofs.evidence.absence_of.Goals as goal
 
 pub returns : goal.returns
 returns c =
-    let asked = c.args.asked.now in
     let made = c.in_ok-checked.ensures in
     let file = c.in_ok-checked.file in
-    let none : IsUnsatisfiable (formula_asked asked) = subst IsUnsatisfiable c.requires.formula made.unsatisfiable in
     record {
-      by = record {
-        file = file;
-        answer_is = ap (λ (text : List ℕ). record (none_behind file) { text = text }) c.absence.ensures;
-        proof = subst (λ (f : Cnf). HasProof f c.args.effort file) c.requires.formula made.proof;
-      };
-      absent = absent_from asked.problem asked.form c.posed-posed.ensures.kept c.demands-demands.ensures.kept none;
+      file = file;
+      answer_is = ap (shown_behind file statuses.NoPattern) (c.absence.ensures ∙ ap none_text c.new.ensures);
+      proof = subst (λ (f : Cnf). HasProof f c.args.effort file) c.formula.ensures.formula made.proof;
+      absent = c.formula.ensures.none made.unsatisfiable;
     }

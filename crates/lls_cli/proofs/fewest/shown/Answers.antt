@@ -1,41 +1,40 @@
-use Rattle.std.proofs.Common.{◌≡◌, ◌-◌, ap, arith, Bool, List, suc, ◌∙◌}
+use Rattle.std.proofs.Common.{ap, sym, subst, Bool, List, ◌∙◌}
 use Rattle.std.specs.Prelude.{codes}
+use Rattle.lls_lit.specs.Formula.{Cnf}
 use Rattle.lls_least.specs.Fewer.{live_cells}
 use Rattle.lls_cli.specs.declared.status.Status.TheVariants as statuses
-use Rattle.lls_cli.specs.Answer.{shown, shown_behind}
+use Rattle.lls_cli.specs.Evidence.{HasProof, IsEvidence}
 use Rattle.lls_cli.specs.Fewest.{counted_text}
-use Rattle.lls_cli.proofs.FewestAnswers.{above, below_cells, certified_by, fewest_answer, none_live_answer, of_fewest}
+use Rattle.lls_cli.specs.Meaning.{shown, shown_behind}
+use Rattle.lls_cli.specs.Subject.{subject_formula}
+use Rattle.lls_cli.proofs.FewestAnswers.{above, certified_by, fewest_answer, none_fewer, none_live_answer, of_fewest, one_fewer}
 use Rattle.lls_cli.proofs.fewest.shown.Goals as goal
 
-pub counted-requires-clause-some : goal.counted-requires-clause-some
-counted-requires-clause-some c = omega (arith, c.requires.shown.solution.sizes.0, c.posed-posed.ensures.kept.generations.0)
-
-pub certificate-requires-clause-below : goal.certificate-requires-clause-below
-certificate-requires-clause-below c =
-    let live : live_cells c.args.history.now ≡ suc (c.population-live.result - 1) = omega (arith, c.population-live.ensures, c.if-live-eq0.false) in
-    below_cells c.args.asked.now c.args.history.now (c.population-live.result - 1) c.posed-posed.ensures.kept c.requires.shown.solution live
-
-pub certificate-requires-clause-evidence : goal.certificate-requires-clause-evidence
-certificate-requires-clause-evidence c =
-    let live : live_cells c.args.history.now ≡ suc (c.population-live.result - 1) = omega (arith, c.population-live.ensures, c.if-live-eq0.false) in
-    certified_by c.args.asked.now c.args.effort c.args.log.now.steps (live_cells c.args.history.now) (c.population-live.result - 1) live c.requires.kept c.requires.shown.certified
-
-pub returns-then-live-eq0 : goal.returns-then-live-eq0
-returns-then-live-eq0 c =
+pub returns-in-None : goal.returns-in-None
+returns-in-None c =
     let asked = c.args.asked.now in
     let history = c.args.history.now in
-    let none : live_cells history ≡ 0 = omega (arith, c.population-live.ensures, c.if-live-eq0.true) in
+    let none = none_fewer asked history c.args.fewer.now c.in-None.is c.requires.fewer in
     none_live_answer asked c.args.effort c.args.rle history _ (of_fewest asked history c.requires.shown.solution c.requires.fewest) none
-    (ap (shown statuses.Pattern) (c.plain-text.ensures ∙ c.in_ok-counted.ensures ∙ ap (λ (rule : List Bool). counted_text (codes "least") c.args.rle rule history) c.rule.ensures))
+    (ap (shown statuses.Pattern) (c.plain.ensures ∙ c.in_ok-text.ensures ∙ ap (λ (rule : List Bool). counted_text (codes "least") c.args.rle rule history) c.rule.ensures))
 
-pub returns : goal.returns
-returns c =
+pub proof_file-requires : goal.proof_file-requires
+proof_file-requires c =
     let asked = c.args.asked.now in
     let history = c.args.history.now in
-    let n = c.population-live.result - 1 in
-    let live : live_cells history ≡ suc n = omega (arith, c.population-live.ensures, c.if-live-eq0.false) in
+    let steps = c.args.log.now.steps in
+    let fewer = one_fewer asked history c.args.fewer.now _ c.in-Some.is c.requires.fewer in
+    subst (λ (f : Cnf). IsEvidence f c.args.effort steps) (sym (c.formula.ensures.formula ∙ ap subject_formula fewer.2))
+    (certified_by asked c.args.effort steps (live_cells history) fewer.0 fewer.1 c.requires.kept c.requires.shown.certified)
+
+pub returns-in_ok-checked-in-Some : goal.returns-in_ok-checked-in-Some
+returns-in_ok-checked-in-Some c =
+    let asked = c.args.asked.now in
+    let history = c.args.history.now in
+    let fewer = one_fewer asked history c.args.fewer.now _ c.in-Some.is c.requires.fewer in
     let solution = c.requires.shown.solution in
-    let file = c.in_ok-certificate.field-0 in
-    fewest_answer asked c.args.effort c.args.rle history n file _ (of_fewest asked history solution c.requires.fewest)
-    (above asked history n c.posed-posed.ensures.kept c.demands-demands.ensures.kept c.requires.room solution live) c.in_ok-certificate.ensures
-    (ap (shown_behind file statuses.Pattern) (c.plain-text.ensures ∙ c.in_ok-counted.ensures ∙ ap (λ (rule : List Bool). counted_text (codes "least") c.args.rle rule history) c.rule.ensures))
+    let file = c.in_ok-checked-in-Some.file in
+    fewest_answer asked c.args.effort c.args.rle history fewer.0 file _ (of_fewest asked history solution c.requires.fewest)
+    (above asked history fewer.0 c.posed-posed.ensures.kept c.demands-demands.ensures.kept c.requires.room solution fewer.1)
+    (subst (λ (f : Cnf). HasProof f c.args.effort file) (c.formula.ensures.formula ∙ ap subject_formula fewer.2) c.in_ok-checked-in-Some.ensures.proof)
+    (ap (shown_behind file statuses.Pattern) (c.certified.ensures ∙ c.in_ok-text.ensures ∙ ap (λ (rule : List Bool). counted_text (codes "least") c.args.rle rule history) c.rule.ensures))

@@ -1,5 +1,5 @@
 use Rattle.std.proofs.lemmas.Result.{IfOk-weaker}
-use Rattle.lls_cli.proofs.RightAnswers.{judged_answer}
+use Rattle.lls_cli.proofs.Checks.{judged_answer}
 use Rattle.lls_cli.proofs.judge.judge.Goals as goal
 
 pub returns : goal.returns

@@ -20,8 +20,7 @@ returns-in-Ok-write_answer_file-clause-end g c =
 
 pub returns-in-Ok-write_answer_file-clause-input : goal.returns-in-Ok-write_answer_file-clause-input
 returns-in-Ok-write_answer_file-clause-input g c =
-    let question = questions.Make c.args.seed c.args.size c.args.search c.args.effort in
-    KeepsInput-trans c.in-Ok-write_answer_file.ensures.input (c.give.ensures.shelf question (c.solve_made.ensures c.args.seed c.args.size c.args.search c.in-Ok.ensures.made))
+    KeepsInput-trans c.in-Ok-write_answer_file.ensures.input c.give.ensures.input
 
 pub returns-in-Err-write_answer_file-clause-end : goal.returns-in-Err-write_answer_file-clause-end
 returns-in-Err-write_answer_file-clause-end g c = (

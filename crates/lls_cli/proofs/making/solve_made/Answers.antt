@@ -2,7 +2,7 @@
 use Rattle.std.proofs.Common.{ap, Ok, ◌∙◌}
 use Rattle.lls_prooflog.proofs.Soundness.{unsatisfiable_by_propagation}
 use Rattle.lls_cli.specs.declared.status.Status.TheVariants as statuses
-use Rattle.lls_cli.specs.Answer.{shown, shown_behind}
+use Rattle.lls_cli.specs.Meaning.{shown, shown_behind}
 use Rattle.lls_cli.proofs.Makings.{solved_answer, unsolved_answer}
 use Rattle.lls_cli.proofs.making.solve_made.Goals as goal
 

@@ -3,10 +3,10 @@ use Rattle.lls_cli.proofs.run.give_read.Goals as goal
 
 pub returns-in-Ok-clause-end : goal.returns-in-Ok-clause-end
 returns-in-Ok-clause-end g c =
-    λ job before inputs read.
-    read_answered job c.in-Ok.answer before _ _ _ _ _ _ _ inputs (rw c.in-Ok.is at read)
-    (λ question right. c.give.ensures.end question right) (λ question right. c.give.ensures.shelf question right)
+    λ task before inputs read.
+    read_answered task c.in-Ok.answer before _ _ _ _ _ _ _ inputs (rw c.in-Ok.is at read)
+    (λ question right. c.give.ensures.end question right)
 
 pub returns-in-Err-clause-end : goal.returns-in-Err-clause-end
 returns-in-Err-clause-end g c =
-    λ job before inputs read. read_stopped job c.in-Err.fault before _ _ _ _ _ inputs (rw c.in-Err.is at read) c.refuse.ensures
+    λ task before inputs read. read_stopped task c.in-Err.fault before _ _ _ _ _ inputs (rw c.in-Err.is at read) c.refuse.ensures

@@ -1,7 +1,7 @@
 use Rattle.std.proofs.Common.{Err, ap, ap₂, ◌∙◌}
 use Rattle.std.proofs.lemmas.Result.{IfOk-weaker}
 use Rattle.lls_cli.specs.declared.status.Status.TheVariants as statuses
-use Rattle.lls_cli.specs.Answer.{shown_behind}
+use Rattle.lls_cli.specs.Meaning.{shown_behind}
 use Rattle.lls_cli.specs.Trimming.{kept_text}
 use Rattle.lls_cli.proofs.Trims.{TrimsTo, kept_answer, not_accepted_answer, by_pivot_answer}
 use Rattle.lls_cli.proofs.trim.trim.Goals as goal

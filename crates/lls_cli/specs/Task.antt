@@ -1,0 +1,82 @@
+-- What a command line asks for, with what several jobs say as one value: the only place that takes a job apart.
+use Rattle.std.specs.Prelude.{◌≤◌, ℕ, Bool, false, List, Option, None, Result, Ok, Err}
+use Rattle.std.specs.Option.{ForSome}
+use Rattle.lls_hensel.specs.Isotropy.{IsIsotropic}
+use Rattle.lls_problem.specs.declared.demands.Demands.{Demands}
+use Rattle.lls_words.specs.Job.{AreAllowed, AreOpen, AreWithinLimits, IsCrew}
+use Rattle.lls_words.specs.Values.{default_budget, most_budget, most_size}
+use Rattle.lls_words.specs.declared.crew_plan.CrewPlan.{CrewPlan}
+use Rattle.lls_words.specs.declared.job.Job.{Job}
+use Rattle.lls_words.specs.declared.job.Job.TheVariants as jobs
+use Rattle.lls_words.specs.declared.error.WordsError.{WordsError}
+use Rattle.lls_cli.specs.declared.effort.Effort.{Effort}
+use Rattle.lls_cli.specs.declared.task.Further.{Further}
+use Rattle.lls_cli.specs.declared.task.ProblemSource.{ProblemSource}
+use Rattle.lls_cli.specs.declared.task.Source.{Source}
+use Rattle.lls_cli.specs.declared.task.Source.TheVariants as sources
+use Rattle.lls_cli.specs.declared.task.Task.{Task}
+use Rattle.lls_cli.specs.declared.task.Task.TheVariants as tasks
+
+abbrev pub problem_by : List ℕ → List Bool → Demands → ProblemSource
+problem_by file rule demands = record { file = file; rule = rule; demands = demands }
+
+abbrev pub effort_of : ℕ → Bool → List ℕ → Effort
+effort_of budget keep_all proof = record { budget = budget; keep_all = keep_all; proof = proof }
+
+abbrev pub told : Bool → Option CrewPlan → Further
+told rle crew = record { rle = rle; crew = crew }
+
+-- the task of a job: a check, a search or another
+abbrev pub task_of : Job → Task
+task_of (jobs.Check file proof rule demands form) = tasks.Check (sources.Problem (problem_by file rule demands) form) proof
+task_of (jobs.LooseCheck file proof low high demands form) = tasks.Check (sources.Rules (problem_by file low demands) high form) proof
+task_of (jobs.Lrat formula proof) = tasks.Check (sources.Formula formula) proof
+task_of (jobs.Search file proof rule demands form budget keep_all rle crew) =
+    tasks.Search (sources.Problem (problem_by file rule demands) form) (effort_of budget keep_all proof) (told rle crew)
+task_of (jobs.Loose file proof low high demands form budget keep_all rle) =
+    tasks.Search (sources.Rules (problem_by file low demands) high form) (effort_of budget keep_all proof) (told rle None)
+task_of (jobs.Sat formula proof budget keep_all) = tasks.Search (sources.Formula formula) (effort_of budget keep_all proof) (told false None)
+task_of (jobs.Judge file pattern rule demands rle) = tasks.Judge (problem_by file rule demands) pattern rle
+task_of (jobs.Cnf file rule demands form) = tasks.Encode (sources.Problem (problem_by file rule demands) form)
+task_of (jobs.Rule rule) = tasks.Print rule
+task_of (jobs.Make seed size file proof) = tasks.Make seed size file (effort_of default_budget false proof)
+task_of (jobs.Least file proof rule demands form budget keep_all rle) =
+    tasks.Least (problem_by file rule demands) form (effort_of budget keep_all proof) (told rle None)
+task_of (jobs.Trim formula proof output) = tasks.Trim formula proof output
+
+abbrev pub tasked : Result Job WordsError → Result Task WordsError
+tasked (Ok job) = Ok (task_of job)
+tasked (Err error) = Err error
+
+-- what a check or a search is about keeps to the limits of words, and two rules leave a question open
+abbrev pub KeepsSource : Source → Type 0
+KeepsSource (sources.Problem source form) = AreWithinLimits source.demands
+KeepsSource (sources.Rules source high form) = AreOpen source.rule high source.demands
+KeepsSource (sources.Formula name) = Unit {0}
+
+-- a rule that solutions are printed with can be printed itself
+abbrev pub IsPrintable : Source → Type 0
+IsPrintable (sources.Problem source form) = IsIsotropic source.rule
+IsPrintable source = Unit {0}
+
+-- a budget within the limit
+abbrev pub IsBudget : Effort → Type 0
+IsBudget effort = effort.budget ≤ most_budget
+
+-- what a search keeps
+pub record KeepsSearch (source : Source) (effort : Effort) (further : Further) : Type 0 where
+  pub limits : KeepsSource source
+  pub printable : IsPrintable source
+  pub budget : IsBudget effort
+  pub crew : ForSome further.crew IsCrew
+
+-- and a task
+abbrev pub KeepsTask : Task → Type 0
+KeepsTask (tasks.Check source proof) = KeepsSource source
+KeepsTask (tasks.Search source effort further) = KeepsSearch source effort further
+KeepsTask (tasks.Judge source pattern rle) = AreWithinLimits source.demands
+KeepsTask (tasks.Encode source) = KeepsSource source
+KeepsTask (tasks.Print rule) = IsIsotropic rule
+KeepsTask (tasks.Make seed size file effort) = (1 ≤ size) × (size ≤ most_size) × IsBudget effort
+KeepsTask (tasks.Least source form effort further) = AreAllowed source.rule source.demands effort.budget
+KeepsTask (tasks.Trim formula proof output) = Unit {0}

@@ -1,0 +1,194 @@
+// What a command line asks for, with what several jobs say as one value.
+ghost use Rattle.std.specs.Prelude.{◌≡◌};
+ghost use Rattle.lls_words.specs.Job.{KeepsLimits};
+ghost use Rattle.lls_cli.specs.Task.{KeepsTask, task_of};
+
+use crate::effort::Effort;
+use lls_base::Name;
+use lls_problem::{Demands, Form};
+use lls_rule::Rule;
+use lls_words::{CrewPlan, DEFAULT_BUDGET, Job};
+
+/// A problem, as words pose it.
+#[derive(Drop)]
+pub struct ProblemSource {
+    /// The search file.
+    pub file: Name,
+    pub rule: Rule,
+    pub demands: Demands,
+}
+
+impl ProblemSource {
+    fn new(file: Name, rule: Rule, demands: Demands) -> ProblemSource
+        ensures { result ≡ record { file = file; rule = rule; demands = demands } }
+    {
+        ProblemSource {
+            file,
+            rule,
+            demands,
+        }
+    }
+}
+
+/// What a check or a search is about, as words say it.
+#[derive(Drop)]
+pub enum Source {
+    /// A problem, and the form of its formula.
+    Problem(ProblemSource, Form),
+    /// A problem by the low rule, the high rule, and the form of the formula.
+    Rules(ProblemSource, Rule, Form),
+    /// The file of a formula.
+    Formula(Name),
+}
+
+/// What a search is told besides.
+#[derive(Drop)]
+pub struct Further {
+    /// Whether a solution is printed as RLE, and not as rows.
+    pub rle: bool,
+    /// The searchers that take turns, where there are several.
+    pub crew: Option<CrewPlan>,
+}
+
+/// What a command line asks for. Each job of the words is one of these tasks.
+#[derive(Drop)]
+pub enum Task {
+    /// Check a proof, whose file is named, that there is nothing.
+    Check(Source, Name),
+    /// Look for something, or write a proof that there is nothing.
+    Search(Source, Effort, Further),
+    /// Judge a pattern, whose file is named: a picture, or rows.
+    Judge(ProblemSource, Name, bool),
+    /// Print the formula.
+    Encode(Source),
+    /// Print a rule's canonical text.
+    Print(Rule),
+    /// Make a problem of a seed and a size, write it to a search file, and look for its solution.
+    Make(u64, u32, Name, Effort),
+    /// Look for a solution with the fewest live cells in generation 0.
+    Least(ProblemSource, Form, Effort, Further),
+    /// Write what the empty clause of a proof rests on: the files of the formula, of the proof, and that are written.
+    Trim(Name, Name, Name),
+}
+
+/// The task of a job of the words, which keeps to their limits.
+pub fn task_of(job: Job) -> Task
+    requires { KeepsLimits job }
+    ensures task { result ≡ task_of job }
+    ensures kept { KeepsTask result }
+{
+    match job {
+        Job::Check {
+            search,
+            proof,
+            rule,
+            demands,
+            form,
+        } => {
+            let problem = ProblemSource::new(search, rule, demands);
+            Task::Check(Source::Problem(problem, form), proof)
+        }
+        Job::LooseCheck {
+            search,
+            proof,
+            low,
+            high,
+            demands,
+            form,
+        } => {
+            let problem = ProblemSource::new(search, low, demands);
+            Task::Check(Source::Rules(problem, high, form), proof)
+        }
+        Job::Lrat { formula, proof } => Task::Check(Source::Formula(formula), proof),
+        Job::Search {
+            search,
+            proof,
+            rule,
+            demands,
+            form,
+            budget,
+            keep_all,
+            rle,
+            crew,
+        } => {
+            let problem = ProblemSource::new(search, rule, demands);
+            let effort = Effort::new(budget, keep_all, proof);
+            let source = Source::Problem(problem, form);
+            Task::Search(source, effort, Further { rle, crew })
+        }
+        Job::Loose {
+            search,
+            proof,
+            low,
+            high,
+            demands,
+            form,
+            budget,
+            keep_all,
+            rle,
+        } => {
+            let problem = ProblemSource::new(search, low, demands);
+            let effort = Effort::new(budget, keep_all, proof);
+            let source = Source::Rules(problem, high, form);
+            Task::Search(source, effort, Further { rle, crew: None })
+        }
+        Job::Sat {
+            formula,
+            proof,
+            budget,
+            keep_all,
+        } => {
+            let effort = Effort::new(budget, keep_all, proof);
+            let further = Further {
+                rle: false,
+                crew: None,
+            };
+            Task::Search(Source::Formula(formula), effort, further)
+        }
+        Job::Judge {
+            search,
+            pattern,
+            rule,
+            demands,
+            rle,
+        } => Task::Judge(ProblemSource::new(search, rule, demands), pattern, rle),
+        Job::Cnf {
+            search,
+            rule,
+            demands,
+            form,
+        } => {
+            let problem = ProblemSource::new(search, rule, demands);
+            Task::Encode(Source::Problem(problem, form))
+        }
+        Job::Rule { rule } => Task::Print(rule),
+        Job::Make {
+            seed,
+            size,
+            search,
+            proof,
+        } => {
+            let effort = Effort::new(DEFAULT_BUDGET, false, proof);
+            Task::Make(seed, size, search, effort)
+        }
+        Job::Least {
+            search,
+            proof,
+            rule,
+            demands,
+            form,
+            budget,
+            keep_all,
+            rle,
+        } => {
+            let problem = ProblemSource::new(search, rule, demands);
+            let effort = Effort::new(budget, keep_all, proof);
+            Task::Least(problem, form, effort, Further { rle, crew: None })
+        }
+        Job::Trim {
+            formula,
+            proof,
+            output,
+        } => Task::Trim(formula, proof, output),
+    }
+}
