@@ -1,11 +1,10 @@
-// Crews: turns taken by hand, and searches by several searchers.
+// Crews: turns taken by hand.
 ghost use Rattle.std.specs.Prelude.{◌≡◌, ◌<◌, length};
 
 use crate::draws::Draws;
-use lls_cnf::{Assignment, Formula, MOST_DIMACS_BYTES, holds, read_dimacs};
-use lls_crew::{Crew, MOST_SEARCHERS, Turned, crew};
-use lls_lrat::check;
-use lls_prooflog::{Log, StepRef, print_log};
+use lls_cnf::{Formula, MOST_DIMACS_BYTES, read_dimacs};
+use lls_crew::{Crew, Turned};
+use lls_prooflog::{StepRef, print_log};
 use lls_solver::Outcome;
 use std::alloc::Global;
 use std::process::Abort;
@@ -159,25 +158,58 @@ fn assert_left(rt: &impl Abort, crew: &Crew, k: u32, before: &[bool], deleted: &
     }
 }
 
+fn assert_gone(rt: &impl Abort, crew: &Crew, k: u32, deleted: &[u64])
+    requires { k < length crew.now.held }
+{
+    for id in deleted {
+        assert_eq!(rt; (k, *id, crew.holds(k, *id)), (k, *id, false));
+    }
+}
+
+// Lets each of three searchers take so many turns, one after the other, none of which ends.
+fn take_rounds(rt: &impl Abort, alloc: Global, crew: &mut Crew, rounds: u32) -> Result<(), Fail>
+    requires { length crew.old.held ≡ 3 }
+    ensures { length crew.new.held ≡ 3 }
+{
+    for _ in 0..rounds {
+        assert_turn(rt, alloc, crew, 0, Turned::Going)?;
+        assert_turn(rt, alloc, crew, 1, Turned::Going)?;
+        assert_turn(rt, alloc, crew, 2, Turned::Going)?;
+    }
+    Ok(())
+}
+
 // Behind the 64th clause that is learnt a half of those goes that are no searcher's reason. No searcher holds one of them then, and the
 // two that hadn't the turn hold the rest of what they held.
 #[test]
 fn deletion_by_hand(rt: HostRuntime) -> Result<(), Fail> {
     let formula = Draws::new(7).formula(rt.alloc(), 150, 639)?;
     let mut crew = Crew::new(rt.alloc(), &formula, 3, 10_000, false)?;
-    for turn in 0..63 {
-        assert_turn(&rt, rt.alloc(), &mut crew, turn % 3, Turned::Going)?;
-    }
+    take_rounds(&rt, rt.alloc(), &mut crew, 21)?;
     let first = held(rt.alloc(), &crew, 1, 704)?;
     let second = held(rt.alloc(), &crew, 2, 704)?;
     assert_turn(&rt, rt.alloc(), &mut crew, 0, Turned::Going)?;
     let deleted = last_deleted(rt.alloc(), &crew)?;
     assert!(rt; deleted.len() > 20 && deleted.len() <= 32);
-    for id in &deleted {
-        assert_held(&rt, &crew, 0, &[(*id, false)]);
-    }
+    assert_gone(&rt, &crew, 0, &deleted);
     assert_left(&rt, &crew, 1, &first, &deleted);
     assert_left(&rt, &crew, 2, &second, &deleted);
+    Ok(())
+}
+
+// Lets a searcher take so many turns, none of which ends.
+fn take_turns(
+    rt: &impl Abort,
+    alloc: Global,
+    crew: &mut Crew,
+    k: u32,
+    turns: u32,
+) -> Result<(), Fail>
+    requires { k < length crew.old.held }
+{
+    for _ in 0..turns {
+        assert_turn(rt, alloc, crew, k, Turned::Going)?;
+    }
     Ok(())
 }
 
@@ -186,118 +218,28 @@ fn learnt_alone(rt: &impl Abort, alloc: Global, formula: &Formula, k: u32) -> Re
     requires { k < 4 }
 {
     let mut crew = Crew::new(alloc, formula, 4, 1_000, true)?;
-    for _turn in 0..40 {
-        assert_turn(rt, alloc, &mut crew, k, Turned::Going)?;
-    }
+    take_turns(rt, alloc, &mut crew, k, 40)?;
     Ok(print_log(alloc, crew.log())?)
+}
+
+fn assert_distinct(rt: &impl Abort, logs: &[Vec<u8>]) {
+    for (k, log) in logs.iter().enumerate() {
+        for other in &logs[..k] {
+            assert!(rt; log.as_slice() != other.as_slice());
+        }
+    }
 }
 
 // The searchers of a crew go different ways.
 #[test]
 fn searchers_differ(rt: HostRuntime) -> Result<(), Fail> {
     let formula = Draws::new(7).formula(rt.alloc(), 150, 639)?;
-    for k in 0..4 {
-        let learnt = learnt_alone(&rt, rt.alloc(), &formula, k)?;
-        for other in 0..k {
-            let others = learnt_alone(&rt, rt.alloc(), &formula, other)?;
-            assert_ne!(rt; learnt.as_slice(), others.as_slice());
-        }
-    }
-    Ok(())
-}
-
-// Crews whose logs have deletions say what is right: a proof is accepted, and an assignment satisfies its formula.
-#[test]
-fn searches_with_deletions(rt: HostRuntime) -> Result<(), Fail> {
-    let mut has_deletions = false;
-    for seed in 0..4u32 {
-        let formula = Draws::new(seed).formula(rt.alloc(), 100, 430)?;
-        let mut log = Log::new(rt.alloc());
-        let outcome = crew(
-            rt.alloc(),
-            &formula,
-            2 + seed % 4,
-            1_000_000,
-            false,
-            u64::from(seed),
-            &mut log,
-        )?;
-        has_deletions |= log.additions() < log.len() as u64;
-        match outcome {
-            Outcome::Sat(assignment) => {
-                assert_eq!(rt; assignment.values().len(), formula.vars() as usize);
-                assert!(rt; holds(&formula, &assignment));
-            }
-            Outcome::Unsat => {
-                check(rt.alloc(), &formula, &log)?;
-            }
-            Outcome::Undecided => return Err(Fail::from("an outcome")),
-        }
-    }
-    assert!(rt; has_deletions);
-    Ok(())
-}
-
-// A number's bits, the least of them first.
-fn values(alloc: Global, number: u32, vars: u32) -> Result<Vec<bool>, Fail> {
-    let mut values = Vec::new(alloc);
-    let mut rest = number;
-    for _ in 0..vars {
-        values.push(rest % 2 == 1)?;
-        rest /= 2;
-    }
-    Ok(values)
-}
-
-// Tries all assignments of at most 16 variables.
-fn is_satisfiable(rt: &impl Abort, alloc: Global, formula: &Formula) -> Result<bool, Fail> {
-    for number in 0..1u32 << (formula.vars() % 17) {
-        let assignment = Assignment::new(values(alloc, number, formula.vars())?);
-        assert_eq!(rt; assignment.values().len(), formula.vars() as usize);
-        if holds(formula, &assignment) {
-            return Ok(true);
-        }
-    }
-    Ok(false)
-}
-
-// A crew says of a formula what trying all assignments says, and its proof is accepted.
-fn compare(
-    rt: &impl Abort,
-    alloc: Global,
-    formula: &Formula,
-    searchers: u32,
-    seed: u64,
-) -> Result<(), Fail> {
-    assert!(rt; 1 <= searchers && searchers <= MOST_SEARCHERS);
-    let mut log = Log::new(alloc);
-    let outcome = crew(
-        alloc,
-        formula,
-        searchers,
-        1_000,
-        seed % 2 == 0,
-        seed,
-        &mut log,
-    )?;
-    let want = if is_satisfiable(rt, alloc, formula)? {
-        "satisfiable"
-    } else {
-        check(alloc, formula, &log)?;
-        "unsatisfiable"
-    };
-    assert_eq!(rt; (searchers, seed, word(&outcome)), (searchers, seed, want));
-    Ok(())
-}
-
-#[test]
-fn random_formulas(rt: HostRuntime) -> Result<(), Fail> {
-    let mut draws = Draws::new(20);
-    for seed in 0..200u64 {
-        let vars = 4 + draws.below(4);
-        let clauses = 4 * vars + draws.below(8);
-        let formula = draws.formula(rt.alloc(), vars, clauses)?;
-        compare(&rt, rt.alloc(), &formula, 2 + draws.below(4), seed)?;
-    }
+    let logs = [
+        learnt_alone(&rt, rt.alloc(), &formula, 0)?,
+        learnt_alone(&rt, rt.alloc(), &formula, 1)?,
+        learnt_alone(&rt, rt.alloc(), &formula, 2)?,
+        learnt_alone(&rt, rt.alloc(), &formula, 3)?,
+    ];
+    assert_distinct(&rt, &logs);
     Ok(())
 }
