@@ -24,4 +24,5 @@ pub mod Limits
 pub mod Why
 pub mod Begun
 pub mod Trims
+pub mod Untouched
 pub mod Runs

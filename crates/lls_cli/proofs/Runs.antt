@@ -16,6 +16,7 @@ use Rattle.lls_cli.proofs.Laws.{leaves_at}
 use Rattle.lls_cli.proofs.Limits.{limits}
 use Rattle.lls_cli.proofs.Published.{publishes, publishes_fewest}
 use Rattle.lls_cli.proofs.Stands.{stands}
+use Rattle.lls_cli.proofs.Untouched.{untouched}
 use Rattle.lls_cli.proofs.Why.{says_why}
 
 pub run_by : (task : Result Task WordsError) (before after : Moment) (status : Status) → AreApart task → (end : End) × IsEnd task before after status end → IsRun task before after status
@@ -45,6 +46,7 @@ run_by task before after status apart ended = record {
   begun = leaves_begun task before after status ended;
   silent = λ silent. ap (λ (s : SinkMoment). s.written) (stays_silent task before after status ended silent);
   files = changes_only task before after status ended;
+  untouched = λ nothing. untouched task before after status nothing ended;
   counts = counts_stay task before after status ended;
   limits = limits;
 }

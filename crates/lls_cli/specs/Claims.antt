@@ -99,6 +99,11 @@ abbrev pub outputs_of_words : Result Task WordsError → Status → List (List �
 outputs_of_words (Ok task) status = outputs_of task status
 outputs_of_words (Err error) status = []
 
+-- a task that reads nothing and writes nothing: the printing of a rule
+abbrev pub ReadsAndWritesNothing : Result Task WordsError → Type 0
+ReadsAndWritesNothing (Ok (tasks.Print rule)) = Unit {0}
+ReadsAndWritesNothing task = ⊥
+
 -- no file changed, but perhaps these
 abbrev pub ChangesOnly : List (List ℕ) → Option Files → Option Files → Type 0
 ChangesOnly [] before after = after ≡ before

@@ -6,7 +6,7 @@ use Rattle.lls_cli.specs.declared.status.Status.{Status}
 use Rattle.lls_cli.specs.declared.status.Status.TheVariants as statuses
 use Rattle.lls_cli.specs.declared.task.Task.{Task}
 use Rattle.lls_cli.specs.Answer.{HasShortBudget, NoHolds, NoneHolds, SomeHolds, YesHolds, ahead_of}
-use Rattle.lls_cli.specs.Claims.{ChangesOnly, CountsNeverFall, HasCause, HasWhole, IsAnswered, IsComplete, IsFaultStatus, IsSilent, LeavesBegun, LeavesCertificate, LeavesLog, LeavesProof, LeavesTrimmed, NoCallFailed, NothingFailed, OfQuestion, Publishes, PublishesFewest, SaysAnswer, SaysWhy, outputs_of_words}
+use Rattle.lls_cli.specs.Claims.{ChangesOnly, CountsNeverFall, HasCause, HasWhole, IsAnswered, IsComplete, IsFaultStatus, IsSilent, LeavesBegun, LeavesCertificate, LeavesLog, LeavesProof, LeavesTrimmed, NoCallFailed, NothingFailed, OfQuestion, Publishes, PublishesFewest, ReadsAndWritesNothing, SaysAnswer, SaysWhy, outputs_of_words}
 use Rattle.lls_cli.specs.Ends.{End, IsEnd}
 use Rattle.lls_cli.specs.Limits.{AreLimits}
 use Rattle.lls_cli.specs.Moment.{Moment, files_at}
@@ -58,9 +58,11 @@ pub record IsRun (task : Result Task WordsError) (before after : Moment) (status
   pub error : IsFaultStatus status → SaysWhy status before.err after.err
   -- after a failure of the outside a file that was to be written is unchanged or has first bytes of its text
   pub begun : status ≡ statuses.Outside → LeavesBegun task (files_at before.shelf) (files_at after.shelf)
-  -- what stands after it: the output where nothing is said, all files but those that the task writes, and the counts of faults
+  -- what stands after it: the output where nothing is said, all files but those that the task writes, the whole shelf where a rule is
+  -- printed, and the counts of faults
   pub silent : IsSilent status → after.out.written ≡ before.out.written
   pub files : ChangesOnly (outputs_of_words task status) (files_at before.shelf) (files_at after.shelf)
+  pub untouched : ReadsAndWritesNothing task → after.shelf ≡ before.shelf
   pub counts : CountsNeverFall before after
   -- the limits of which the definitions speak by name
   pub limits : AreLimits

@@ -23,8 +23,8 @@ problem_by file rule demands = record { file = file; rule = rule; demands = dema
 abbrev pub effort_of : ℕ → Bool → List ℕ → Effort
 effort_of budget keep_all proof = record { budget = budget; keep_all = keep_all; proof = proof }
 
-abbrev pub told : Bool → Option CrewPlan → Further
-told rle crew = record { rle = rle; crew = crew }
+abbrev pub further_of : Bool → Option CrewPlan → Further
+further_of rle crew = record { rle = rle; crew = crew }
 
 -- the task of a job: a check, a search or another
 abbrev pub task_of : Job → Task
@@ -32,16 +32,16 @@ task_of (jobs.Check file proof rule demands form) = tasks.Check (sources.Problem
 task_of (jobs.LooseCheck file proof low high demands form) = tasks.Check (sources.Rules (problem_by file low demands) high form) proof
 task_of (jobs.Lrat formula proof) = tasks.Check (sources.Formula formula) proof
 task_of (jobs.Search file proof rule demands form budget keep_all rle crew) =
-    tasks.Search (sources.Problem (problem_by file rule demands) form) (effort_of budget keep_all proof) (told rle crew)
+    tasks.Search (sources.Problem (problem_by file rule demands) form) (effort_of budget keep_all proof) (further_of rle crew)
 task_of (jobs.Loose file proof low high demands form budget keep_all rle) =
-    tasks.Search (sources.Rules (problem_by file low demands) high form) (effort_of budget keep_all proof) (told rle None)
-task_of (jobs.Sat formula proof budget keep_all) = tasks.Search (sources.Formula formula) (effort_of budget keep_all proof) (told false None)
+    tasks.Search (sources.Rules (problem_by file low demands) high form) (effort_of budget keep_all proof) (further_of rle None)
+task_of (jobs.Sat formula proof budget keep_all) = tasks.Search (sources.Formula formula) (effort_of budget keep_all proof) (further_of false None)
 task_of (jobs.Judge file pattern rule demands rle) = tasks.Judge (problem_by file rule demands) pattern rle
 task_of (jobs.Cnf file rule demands form) = tasks.Encode (sources.Problem (problem_by file rule demands) form)
 task_of (jobs.Rule rule) = tasks.Print rule
 task_of (jobs.Make seed size file proof) = tasks.Make seed size file (effort_of default_budget false proof)
 task_of (jobs.Least file proof rule demands form budget keep_all rle) =
-    tasks.Least (problem_by file rule demands) form (effort_of budget keep_all proof) (told rle None)
+    tasks.Least (problem_by file rule demands) form (effort_of budget keep_all proof) (further_of rle None)
 task_of (jobs.Trim formula proof output) = tasks.Trim formula proof output
 
 abbrev pub tasked : Result Job WordsError → Result Task WordsError
