@@ -3,11 +3,12 @@
 
     build.py CRATE LOG [WORD ..]
 
-The kit keeps to itself a copy of crates/ in which it proves, and takes what another copy on the machine has proved of the same files.
-So each worker has a copy of its own, with no more than the sources. It takes the next library whose own ones are done, first the one that
-most work waits for, and builds that there. What the kit says goes into LOG. There are as many workers as processors, and as memory
-holds. At last the kit builds CRATE in its place, over what it takes from these copies, and runs it on the words. Says on the standard error
-what is proved, and ends with the kit's status, or with 1 where a library isn't proved.
+The kit keeps to itself a copy of crates/ in which it proves. So each worker has a copy of its own, at first with no more than the sources. It
+takes the next library whose own ones are done, first the one that most work waits for, and builds it there, over those that stand in this
+repository's crates/, where each that is built is put. What was built there before is taken by the kit where its files are the same, so a build
+that is ended goes on from there. What the kit says goes into LOG. There are as many workers as processors, and as memory holds. At last
+the kit builds CRATE in its place and runs it on the words. Says on the standard error what is proved, and ends with the kit's status, or
+with 1 where a library isn't proved.
 """
 import os
 import re
@@ -18,6 +19,7 @@ import tempfile
 import threading
 
 TOP = os.path.dirname(os.path.dirname(os.path.abspath(__file__)))
+CRATES = f"{TOP}/crates"
 # What a proof may take of memory, in bytes, with one job.
 ROOM = 4_500_000_000
 PARTS = ("src", "specs", "proofs")
@@ -40,7 +42,7 @@ def below(uses, crate):
 
 def lines_of(crate):
     """Returns how many lines a crate has, by which its cost is guessed."""
-    files = [f"{at}/{name}" for part in PARTS for at, _, names in os.walk(f"{TOP}/crates/{crate}/{part}") for name in names]
+    files = [f"{at}/{name}" for part in PARTS for at, _, names in os.walk(f"{CRATES}/{crate}/{part}") for name in names]
     return sum(open(it, "rb").read().count(b"\n") for it in files)
 
 
@@ -56,6 +58,27 @@ def workers():
     with open("/proc/meminfo", encoding="utf-8") as file:
         free = 1024 * int(re.search(r"MemAvailable:\s+(\d+)", file.read())[1])
     return max(1, min(len(os.sched_getaffinity(0)), free // ROOM))
+
+
+def sum_in(crates, crate):
+    """Returns by which sum the kit knows of what files a built library is made: none where there is no library."""
+    try:
+        with open(f"{crates}/{crate}/out/rlib/stamp", encoding="utf-8") as file:
+            return file.read()
+    except FileNotFoundError:
+        return None
+
+
+def hand_on(crate, there, here):
+    """Puts a library that is built in one copy of crates/ into another one, unless it is there."""
+    found = sum_in(there, crate)
+    if found in (None, sum_in(here, crate)):
+        return
+    built, room = f"{here}/{crate}/out/rlib", f"{here}/{crate}/out/rlib.new"
+    for it in (room, built):
+        shutil.rmtree(it, ignore_errors=True)
+    shutil.copytree(f"{there}/{crate}/out/rlib", room)
+    os.rename(room, built)
 
 
 class Build:
@@ -94,9 +117,11 @@ class Build:
         """Builds one library after another in a copy of the sources."""
         while task := self.next():
             crate, jobs = task
+            for it in [*below(self.uses, crate), crate]:
+                hand_on(it, CRATES, copy)
             ran = subprocess.run(
                 ["rt", "lib", "--jobs", str(jobs)],
-                cwd=f"{copy}/crates/{crate}",
+                cwd=f"{copy}/{crate}",
                 stdin=subprocess.DEVNULL,
                 stdout=subprocess.PIPE,
                 stderr=subprocess.STDOUT,
@@ -104,6 +129,8 @@ class Build:
                 errors="replace",
                 check=False,
             )
+            if not ran.returncode:
+                hand_on(crate, copy, CRATES)
             self.end(crate, ran)
 
 
@@ -116,10 +143,10 @@ def main():
         threads = []
         for number in range(workers()):
             copy = f"{room}/{number}"
-            shutil.copytree(f"{TOP}/crates", f"{copy}/crates", ignore=shutil.ignore_patterns("out"))
+            shutil.copytree(CRATES, f"{copy}/crates", ignore=shutil.ignore_patterns("out"))
             for name in ("crates.txt", "HANDLES"):
                 shutil.copy(f"{TOP}/{name}", copy)
-            threads.append(threading.Thread(target=build.work, args=[copy], daemon=True))
+            threads.append(threading.Thread(target=build.work, args=[f"{copy}/crates"], daemon=True))
         for it in threads:
             it.start()
         for it in threads:
@@ -127,8 +154,7 @@ def main():
         if build.failed:
             print(f"lls: {build.failed} isn't proved", file=sys.stderr)
             return 1
-        # The copies have to stand while the kit takes their work.
-        how = {"cwd": f"{TOP}/crates/{crate}", "stdin": subprocess.DEVNULL, "stdout": log, "stderr": subprocess.STDOUT}
+        how = {"cwd": f"{CRATES}/{crate}", "stdin": subprocess.DEVNULL, "stdout": log, "stderr": subprocess.STDOUT}
         return subprocess.run(["rt", "run", "--", *words], check=False, **how).returncode
 
 

@@ -271,13 +271,19 @@ class Building(unittest.TestCase):
         script = 'PATH=$1:$PATH; shift; exec bash "$@"'
         return ran("bash", "-c", script, "bash", f"{self.top}/bin", self.wrapper, *words, folder=self.top)
 
-    # Proves each library in a copy of the sources, at last in the place of the program, and makes that there.
+    # Proves each library in a copy of the sources, over those below it, and at last makes the program in its place.
     MAKES = """
+    set -e
     if [ "$1" = lib ]; then
         [ "$PWD" != "$(dirname "$0")/../crates/${PWD##*/}" ] && [ -d src ]
+        [ "${PWD##*/}" = low ] || [ -e ../low/out/rlib/stamp ]
+        mkdir -p out/rlib && echo sum > out/rlib/stamp
     else
+        [ -e ../low/out/rlib/stamp ] && [ -e ../mid/out/rlib/stamp ]
         [ "$*" = 'run -- rule B3/S23' ] && printf '#!/bin/bash\\necho new "$@"\\nexit 10\\n' > out/lls; chmod +x out/lls
     fi"""
+    # The same of libraries that were built before.
+    TAKES = MAKES.replace("mkdir -p out/rlib && echo sum > out/rlib/stamp", "[ -e out/rlib/stamp ]")
 
     def test_says_the_crates_and_runs_what_was_made(self):
         status, out, err = self.lls(self.MAKES, "search", "a b")
@@ -286,6 +292,11 @@ class Building(unittest.TestCase):
         self.assertEqual(crates, ["lls: proved low; libraries left: 1", "lls: proved mid; libraries left: 0"])
         self.assertIn("--unproved", err)
         self.assertEqual(os.listdir(f"{self.top}/crates/lls"), ["out"])
+
+    def test_takes_the_libraries_that_were_built_before(self):
+        self.lls(self.MAKES, "search")
+        os.remove(self.program)
+        self.assertEqual(self.lls(self.TAKES, "search")[:2], (10, "new search\n"))
 
     def test_a_failed_build_runs_nothing(self):
         self.write("crates/lls/out/lls", "#!/bin/bash\necho old\n")
@@ -302,6 +313,22 @@ class Building(unittest.TestCase):
         os.utime(path, (2**31, 2**31))
         self.assertEqual(self.lls("echo built >&2", "judge"), (3, "there\n", ""))
 
+    def test_as_built(self):
+        self.assertEqual(self.lls("exit 9", "--as-built", "rule", "B3/S23"), (1, "", "lls: --as-built: no program is built\n"))
+        path = self.write("crates/lls/out/lls", "#!/bin/bash\necho there \"$@\"\n")
+        self.write("crates/lls/main.rt", "newer")
+        os.utime(path, (1, 1))
+        self.assertEqual(self.lls("echo built >&2", "--quiet", "--as-built", "judge"), (0, "there judge\n", ""))
+
+    def test_a_spent_budget(self):
+        path = self.write("crates/lls/out/lls", "#!/bin/bash\necho undecided\nexit 30\n")
+        os.utime(path, (2**31, 2**31))
+        status, out, err = self.lls("exit 9", "search", "q.lls", "p")
+        self.assertEqual((status, out), (30, "undecided\n"))
+        self.assertIn("lls: the budget is spent: --budget", err)
+        self.assertEqual(self.lls("exit 9", "--quiet", "search", "q.lls", "p"), (30, "undecided\n", ""))
+        self.assertEqual(self.lls("exit 9", "make", "1", "8", "f", "p"), (30, "undecided\n", ""))
+
     def test_trimmed_refusal(self):
         path = self.write("crates/lls/out/lls", "#!/bin/bash\nexit 3\n")
         os.utime(path, (2**31, 2**31))
@@ -313,12 +340,14 @@ class Building(unittest.TestCase):
         self.write("q.lls", "# a ship\n#! --period 4,1,1 --live=0:1- --rule B2-a/S12\n* *\n")
         self.write("form.lls", "#! --formula 1 --edge open\n* *\n")
         self.write("loose.lls", "#! --low B3/S2 --high=B3/S23\n* *\n")
+        self.write("returns.lls", "#! --edge open --symmetry D4+\r\n* *\r\n")
         taken = ["--period", "4,1,1", "--live", "0:1-", "--rule", "B2-a/S12"]
         for words, ran_with in [
             (["search", "q.lls", "p"], ["search", "q.lls", "p", *taken]),
             (["check", "--period", "4,1,1", "q.lls", "p"], ["check", "--period", "4,1,1", "q.lls", "p", *taken[2:]]),
             (["search", "--budget", "9", "q.lls", "p", "--live=0:1-"], ["search", "--budget", "9", "q.lls", "p", "--live=0:1-", *taken[:2], *taken[4:]]),
             (["check", "form.lls", "p"], ["check", "form.lls", "p", "--formula", "1", "--edge", "open"]),
+            (["check", "returns.lls", "p"], ["check", "returns.lls", "p", "--edge", "open", "--symmetry", "D4+"]),
             (["judge", "form.lls", "p"], ["judge", "form.lls", "p", "--edge", "open"]),
             (["open", "loose.lls", "p"], ["open", "loose.lls", "p", "--low", "B3/S2", "--high", "B3/S23"]),
         ]:
@@ -372,8 +401,9 @@ class Completion(unittest.TestCase):
         self.assertEqual(self.replies("--posed", "ju"), ["judge"])
         self.assertEqual(self.replies("--quiet", "ju"), ["judge"])
         self.assertEqual(self.replies("--quiet", "--posed", "ju"), ["judge"])
-        self.assertEqual(self.replies("--quiet", "--"), ["--posed", "--trimmed", "--unproved"])
+        self.assertEqual(self.replies("--quiet", "--"), ["--as-built", "--posed", "--race", "--trimmed", "--unproved"])
         self.assertEqual(self.replies("--trimmed", "--posed", "ju"), ["judge"])
+        self.assertEqual(self.replies("--as-built", "--race", "sear"), ["search"])
         self.assertEqual(self.replies("help", "ju"), ["judge"])
         self.assertEqual(self.replies("check", "a.lls", "--edge", "o"), ["open"])
         self.assertEqual(self.replies("check", "a.lls", "--edge", "="), ["closed", "open"])

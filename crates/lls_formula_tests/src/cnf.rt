@@ -17,8 +17,8 @@ const WORKED: [&[i32]; 3] = [&[1, -2], &[2, 3], &[-3]];
 #[test]
 fn variables_are_added(rt: HostRuntime) -> Result<(), Fail> {
     let mut formula = formula_of(&rt, rt.alloc(), 3, &WORKED)?;
-    assert_eq!(rt; formula.vars(), 3);
-    assert_eq!(rt; formula.more_vars(4), 3);
+    assert!(rt; formula.vars() == 3);
+    assert!(rt; formula.more_vars(4) == 3);
     put(&rt, &mut formula, &literals(rt.alloc(), &[7])?);
     assert_clauses(&rt, rt.alloc(), &formula, 7, "1 -2 0\n2 3 0\n-3 0\n7 0\n")
 }
@@ -48,9 +48,9 @@ fn assignments_hold_or_fail(rt: HostRuntime) -> Result<(), Fail> {
     ];
     for (values, want) in rows {
         let assignment = Assignment::new(values.to_vec(rt.alloc())?);
-        assert_eq!(rt; assignment.values(), values.as_slice());
-        assert_eq!(rt; assignment.values().len() as u64, u64::from(formula.vars()));
-        assert_eq!(rt; holds(&formula, &assignment), want, "at {values:?}");
+        assert!(rt; assignment.values() == values.as_slice());
+        assert!(rt; assignment.values().len() as u64 == u64::from(formula.vars()));
+        assert!(rt; holds(&formula, &assignment) == want, "at {values:?}");
     }
     Ok(())
 }

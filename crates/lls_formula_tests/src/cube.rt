@@ -11,10 +11,7 @@ fn rows_of_ten_inputs(rt: HostRuntime) -> Result<(), Fail> {
     assert!(rt; table.forbidden(63) && !table.forbidden(62));
     let full = |value: u16| Cube { care: 1023, value };
     let found = rows(rt.alloc(), &table)?;
-    assert_eq!(rt;
-        found.as_slice(),
-        [full(0), full(63), full(64), full(1023)].as_slice()
-    );
+    assert!(rt; found.as_slice() == [full(0), full(63), full(64), full(1023)].as_slice());
     Ok(())
 }
 
@@ -23,13 +20,13 @@ fn rows_of_eleven_inputs(rt: HostRuntime) -> Result<(), Fail> {
     let mut table = Table::<11, 32>::empty();
     table.forbid(2047);
     let found = rows(rt.alloc(), &table)?;
-    assert_eq!(rt;
-        found.as_slice(),
-        [Cube {
-            care: 2047,
-            value: 2047
-        }]
-        .as_slice()
+    assert!(rt;
+        found.as_slice()
+            == [Cube {
+                care: 2047,
+                value: 2047
+            }]
+            .as_slice()
     );
     Ok(())
 }
@@ -52,14 +49,14 @@ fn covers_by_the_widest_cubes(rt: HostRuntime) -> Result<(), Fail> {
             table.forbid(*row);
         }
         let found = cover(rt.alloc(), &table)?;
-        assert_eq!(rt; found.len(), expected.len());
+        assert!(rt; found.len() == expected.len());
         for (cube, (care, value)) in found.iter().zip(expected) {
-            assert_eq!(rt;
-                *cube,
-                Cube {
-                    care: *care,
-                    value: *value
-                }
+            assert!(rt;
+                *cube
+                    == Cube {
+                        care: *care,
+                        value: *value
+                    }
             );
         }
     }
@@ -72,10 +69,7 @@ fn covers_of_whole_tables(rt: HostRuntime) -> Result<(), Fail> {
     for row in 0..1024 {
         all.forbid(row);
     }
-    assert_eq!(rt;
-        cover(rt.alloc(), &all)?.as_slice(),
-        [Cube { care: 0, value: 0 }].as_slice()
-    );
+    assert!(rt; cover(rt.alloc(), &all)?.as_slice() == [Cube { care: 0, value: 0 }].as_slice());
 
     // The rows of a place that doesn't follow its neighbourhood where a cell lives exactly where all nine are dead.
     let mut blinking = Table::<10, 16>::empty();
@@ -86,24 +80,24 @@ fn covers_of_whole_tables(rt: HostRuntime) -> Result<(), Fail> {
     }
     let found = cover(rt.alloc(), &blinking)?;
     let pair = |care: u16| Cube { care, value: care };
-    assert_eq!(rt;
-        found.as_slice(),
-        [
-            Cube {
-                care: 1023,
-                value: 0
-            },
-            pair(3),
-            pair(5),
-            pair(9),
-            pair(17),
-            pair(33),
-            pair(65),
-            pair(129),
-            pair(257),
-            pair(513)
-        ]
-        .as_slice()
+    assert!(rt;
+        found.as_slice()
+            == [
+                Cube {
+                    care: 1023,
+                    value: 0
+                },
+                pair(3),
+                pair(5),
+                pair(9),
+                pair(17),
+                pair(33),
+                pair(65),
+                pair(129),
+                pair(257),
+                pair(513)
+            ]
+            .as_slice()
     );
 
     let mut square = Table::<11, 32>::empty();
@@ -111,13 +105,13 @@ fn covers_of_whole_tables(rt: HostRuntime) -> Result<(), Fail> {
         square.forbid(row);
     }
     let found = cover(rt.alloc(), &square)?;
-    assert_eq!(rt;
-        found.as_slice(),
-        [Cube {
-            care: 1021,
-            value: 5
-        }]
-        .as_slice()
+    assert!(rt;
+        found.as_slice()
+            == [Cube {
+                care: 1021,
+                value: 5
+            }]
+            .as_slice()
     );
     Ok(())
 }

@@ -19,7 +19,7 @@ fn answer(rt: &impl Abort, alloc: Global, text: &str) -> Result<Vec<u8>, Fail> {
 fn compare(rt: &impl Abort, alloc: Global, rows: &[(&str, &str)]) -> Result<(), Fail> {
     for (text, want) in rows {
         let found = answer(rt, alloc, text)?;
-        assert_eq!(rt; found.as_slice(), want.as_bytes(), "at {text:?}");
+        assert!(rt; found.as_slice() == want.as_bytes(), "at {text:?}");
     }
     Ok(())
 }

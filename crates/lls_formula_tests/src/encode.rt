@@ -21,9 +21,6 @@ fn assignments_are_histories(rt: HostRuntime) -> Result<(), Fail> {
     assert!(rt; problem.posed().cells.items().len() <= assignment.values().len());
     let history = decode(alloc, &problem, &assignment)?;
     let text = print_history(alloc, &history)?;
-    assert_eq!(rt;
-        text.as_slice(),
-        b"0 1 1\n0 0 1\n\n0 0 1\n0 1 1\n".as_slice()
-    );
+    assert!(rt; text.as_slice() == b"0 1 1\n0 0 1\n\n0 0 1\n0 1 1\n".as_slice());
     Ok(())
 }

@@ -28,7 +28,7 @@ pub(crate) fn literals(alloc: Global, numbers: &[i32]) -> Result<Vec<Lit>, Fail>
 pub(crate) fn put(rt: &impl Abort, formula: &mut Formula, clause: &[Lit]) {
     assert!(rt; formula.len() < Formula::MOST_CLAUSES);
     assert!(rt; are_within(clause, formula.vars()));
-    assert_eq!(rt; formula.push(clause), Ok(()));
+    assert!(rt; formula.push(clause) == Ok(()));
 }
 
 // A formula over the variables from 1 to `vars`.
@@ -67,7 +67,7 @@ pub(crate) fn assert_clauses(
     text: &str,
 ) -> Result<(), Fail> {
     let found = clauses(alloc, formula)?;
-    assert_eq!(rt; (formula.vars(), found.as_str()), (vars, text));
+    assert!(rt; (formula.vars(), found.as_str()) == (vars, text));
     Ok(())
 }
 

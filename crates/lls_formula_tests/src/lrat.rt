@@ -72,7 +72,7 @@ fn compare_steps(rt: &impl Abort, alloc: Global, checker: &mut Checker) -> Resul
     for (row, want) in &STEPS {
         let step = step_of(alloc, *row)?;
         assert!(rt; step.is_in_range());
-        assert_eq!(rt; checker.step(&step), *want, "at {row:?}");
+        assert!(rt; checker.step(&step) == *want, "at {row:?}");
     }
     Ok(())
 }

@@ -23,7 +23,7 @@ fn add(
         hints: Hints::new(Vec::from_slice(alloc, &[2, 3])?),
     };
     assert!(rt; step.is_in_range());
-    assert_eq!(rt; checker.step(&step), Ok(Progress::Going));
+    assert!(rt; checker.step(&step) == Ok(Progress::Going));
     Ok(())
 }
 
@@ -32,7 +32,7 @@ fn delete(rt: &impl Abort, alloc: Global, checker: &mut Checker, ids: &[u64]) ->
         ids: Ids::new(Vec::from_slice(alloc, ids)?),
     };
     assert!(rt; step.is_in_range());
-    assert_eq!(rt; checker.step(&step), Ok(Progress::Going));
+    assert!(rt; checker.step(&step) == Ok(Progress::Going));
     Ok(())
 }
 

@@ -42,15 +42,12 @@ fn compare(
 ) -> Result<(), Fail> {
     let formula = formula(rt, alloc)?;
     let log = log_of(rt, alloc, rows)?;
-    assert_eq!(rt; (log.len(), log.additions()), (rows.len(), additions));
+    assert!(rt; (log.len(), log.additions()) == (rows.len(), additions));
     let printed = print_log(alloc, &log)?;
-    assert_eq!(rt; printed.as_slice(), text.as_bytes());
+    assert!(rt; printed.as_slice() == text.as_bytes());
     let of_log = outcome(alloc, check(alloc, &formula, &log))?;
     let of_text = outcome(alloc, check_bytes(alloc, &formula, &printed))?;
-    assert_eq!(rt;
-        (text, of_log.as_str(), of_text.as_str()),
-        (text, want, want)
-    );
+    assert!(rt; (text, of_log.as_str(), of_text.as_str()) == (text, want, want));
     Ok(())
 }
 

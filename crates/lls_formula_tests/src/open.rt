@@ -95,7 +95,7 @@ fn formulas_of_open_rules(rt: HostRuntime) -> Result<(), Fail> {
         let problem = posed(alloc, file, low, edge)?;
         let formula = encoded(alloc, &problem, &rule(high)?, form)?;
         let found = clauses(alloc, &formula)?;
-        assert_eq!(rt; (formula.vars(), found.as_str()), (vars, text));
+        assert!(rt; (formula.vars(), found.as_str()) == (vars, text));
     }
     Ok(())
 }
@@ -130,7 +130,7 @@ fn open_classes_in_order(rt: HostRuntime) -> Result<(), Fail> {
     ];
     for (low, high, text) in rows {
         let found = classes(alloc, &rule(low)?, &rule(high)?)?;
-        assert_eq!(rt; found.as_str(), text);
+        assert!(rt; found.as_str() == text);
     }
     Ok(())
 }
@@ -147,7 +147,7 @@ fn ends_of_rules_between(rt: HostRuntime) -> Result<(), Fail> {
         ("B3/S23", "B3/S238", false),
     ];
     for (low, high, are) in rows {
-        assert_eq!(rt; are_ends(&rule(low)?, &rule(high)?), are);
+        assert!(rt; are_ends(&rule(low)?, &rule(high)?) == are);
     }
     Ok(())
 }
@@ -186,7 +186,7 @@ fn assignments_are_histories_and_rules(rt: HostRuntime) -> Result<(), Fail> {
     for (high, values, text) in rows {
         let problem = posed(alloc, b"*\n\n*", rule("B3/S23")?, Edge::Framed)?;
         let found = decoded(alloc, &problem, &rule(high)?, values)?;
-        assert_eq!(rt; found.as_str(), text);
+        assert!(rt; found.as_str() == text);
     }
     Ok(())
 }

@@ -56,7 +56,7 @@ fn faults_of_steps_are_printed(rt: HostRuntime) -> Result<(), Fail> {
     ];
     for (fault, want) in rows {
         let text = format!(in rt.alloc(); "{fault}")?;
-        assert_eq!(rt; text.as_str(), want);
+        assert!(rt; text.as_str() == want);
     }
     Ok(())
 }

@@ -35,7 +35,7 @@ fn lines_are_taken_once_they_are_whole(rt: HostRuntime) -> Result<(), Fail> {
     ];
     for (pieces, want) in rows {
         let found = taken(rt.alloc(), pieces)?;
-        assert_eq!(rt; found.as_slice(), want.as_bytes(), "at {pieces:?}");
+        assert!(rt; found.as_slice() == want.as_bytes(), "at {pieces:?}");
     }
     Ok(())
 }

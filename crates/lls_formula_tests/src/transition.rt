@@ -59,7 +59,7 @@ fn clauses_of_transitions(rt: HostRuntime) -> Result<(), Fail> {
         assert!(rt; are_within(&places, formula.vars()));
         push_transition(alloc, &mut formula, &rule, &places)?;
         let found = clauses(alloc, &formula)?;
-        assert_eq!(rt; found.as_str(), text);
+        assert!(rt; found.as_str() == text);
     }
     Ok(())
 }
@@ -106,7 +106,7 @@ fn clauses_of_covers(rt: HostRuntime) -> Result<(), Fail> {
             push_cubes_once(&mut formula, &cubes, &places)?;
         }
         let found = clauses(alloc, &formula)?;
-        assert_eq!(rt; found.as_str(), text);
+        assert!(rt; found.as_str() == text);
     }
     Ok(())
 }

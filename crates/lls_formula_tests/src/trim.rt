@@ -31,7 +31,7 @@ fn worked_log(rt: &impl Abort, alloc: Global, hints: &[i64]) -> Result<Log, Fail
 fn compare(rt: &impl Abort, alloc: Global, log: &Log, want: &str) -> Result<(), Fail> {
     let formula = formula_of(rt, alloc, 2, &CLAUSES)?;
     let found = outcome(alloc, trim(alloc, &formula, log))?;
-    assert_eq!(rt; found.as_slice(), want.as_bytes());
+    assert!(rt; found.as_slice() == want.as_bytes());
     Ok(())
 }
 

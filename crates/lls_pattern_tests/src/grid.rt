@@ -29,12 +29,12 @@ fn a_blinker_steps(rt: HostRuntime) -> Result<(), Fail> {
     }
     let text =
         b"0 1 0 0\n0 1 0 0\n0 1 0 0\n\n0 0 0 0\n1 1 1 0\n0 0 0 0\n\n0 1 0 0\n0 1 0 0\n0 1 0 0\n".as_slice();
-    assert_eq!(rt; print_history(alloc, &history)?.as_slice(), text);
-    assert_eq!(rt; history.generations(), 3);
-    assert_eq!(rt; history.at(&rule, 1, 1, 0), true);
-    assert_eq!(rt; history.at(&rule, 1, -1, 0), false);
+    assert!(rt; print_history(alloc, &history)?.as_slice() == text);
+    assert!(rt; history.generations() == 3);
+    assert!(rt; history.at(&rule, 1, 1, 0));
+    assert!(rt; !history.at(&rule, 1, -1, 0));
     // . . . / . . # / . . #
-    assert_eq!(rt; history.nine(&rule, 0, 0, 0), 9);
+    assert!(rt; history.nine(&rule, 0, 0, 0) == 9);
     Ok(())
 }
 
@@ -79,7 +79,7 @@ fn histories_go_on_by_a_rule(rt: HostRuntime) -> Result<(), Fail> {
         assert!(rt; 1 <= generations && generations <= 4);
         assert!(rt; first.width() == 4 && first.height() == 4);
         let history = History::evolve(alloc, rule, &first, generations)?;
-        assert_eq!(rt; print_history(alloc, &history)?.as_slice(), text);
+        assert!(rt; print_history(alloc, &history)?.as_slice() == text);
     }
     Ok(())
 }
@@ -93,8 +93,8 @@ fn a_cell_is_set(rt: HostRuntime) -> Result<(), Fail> {
     history.set(1, 1, 1, true);
     history.set(0, 1, 0, false);
     let text = b"0 0 0\n0 0 0\n\n0 0 1\n0 1 0\n".as_slice();
-    assert_eq!(rt; print_history(alloc, &history)?.as_slice(), text);
-    assert_eq!(rt; (history.population(0), history.population(1)), (0, 2));
+    assert!(rt; print_history(alloc, &history)?.as_slice() == text);
+    assert!(rt; (history.population(0), history.population(1)) == (0, 2));
     Ok(())
 }
 
@@ -109,8 +109,8 @@ fn places_in_order(rt: HostRuntime) -> Result<(), Fail> {
     ];
     for (place, index) in rows {
         assert!(rt; place.t < 3 && place.y < 4 && place.x < 5 && index < 60);
-        assert_eq!(rt; sizes.index(place), index);
-        assert_eq!(rt; sizes.place(index), place);
+        assert!(rt; sizes.index(place) == index);
+        assert!(rt; sizes.place(index) == place);
     }
     Ok(())
 }

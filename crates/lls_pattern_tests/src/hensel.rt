@@ -75,7 +75,7 @@ fn sizes_of_classes(rt: HostRuntime) {
             let found = (0..=255)
                 .filter(|eight| class_of(*eight) == (Class { count, letter }))
                 .count();
-            assert_eq!(rt; found, size, "{count} {letter:?}");
+            assert!(rt; found == size, "{count} {letter:?}");
         }
     }
 }

@@ -27,17 +27,15 @@ fn problems_from_numbers(rt: HostRuntime) -> Result<(), Fail> {
     for (seed, size, file, history) in rows {
         assert!(rt; 1 <= size && size <= MOST_SIZE);
         let made = make(alloc, seed, size)?;
-        assert_eq!(rt;
-            print_posed(alloc, made.problem.posed())?.as_slice(),
-            file,
+        assert!(rt;
+            print_posed(alloc, made.problem.posed())?.as_slice() == file,
             "at {seed} {size}"
         );
-        assert_eq!(rt;
-            print_history(alloc, &made.history)?.as_slice(),
-            history,
+        assert!(rt;
+            print_history(alloc, &made.history)?.as_slice() == history,
             "at {seed} {size}"
         );
-        assert_eq!(rt; made.problem.demands().edge, Edge::Bare);
+        assert!(rt; made.problem.demands().edge == Edge::Bare);
     }
     Ok(())
 }
@@ -59,6 +57,6 @@ fn a_problem_of_the_greatest_size(rt: HostRuntime) -> Result<(), Fail> {
         made.history.population(1),
         unknown,
     );
-    assert_eq!(rt; found, (2045, 1179, 517));
+    assert!(rt; found == (2045, 1179, 517));
     Ok(())
 }

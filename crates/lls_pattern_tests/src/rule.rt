@@ -17,7 +17,7 @@ fn answers_by_counts(rt: HostRuntime) {
         (0b111_111_111, false),
     ] {
         assert!(rt; nine < Rule::NEIGHBOURHOODS);
-        assert_eq!(rt; life.next(nine), live, "at {nine}");
+        assert!(rt; life.next(nine) == live, "at {nine}");
     }
 }
 
@@ -35,7 +35,7 @@ fn background_blinks_stays_or_is_dead(rt: HostRuntime) {
             rule.background(2),
             rule.background(3),
         ];
-        assert_eq!(rt; found, first, "at {birth} {survive}");
+        assert!(rt; found == first, "at {birth} {survive}");
     }
 }
 

@@ -31,7 +31,7 @@ fn sought(alloc: Global, generations: u32, height: u32, width: u32) -> Result<Ve
 #[test]
 fn a_byte_that_begins_no_character(rt: HostRuntime) -> Result<(), Fail> {
     let fault = PosedError::Fault(PosedFault::NotAscii(1, 1));
-    assert_eq!(rt; read_posed(rt.alloc(), b"\x80").err(), Some(fault));
+    assert!(rt; read_posed(rt.alloc(), b"\x80").err() == Some(fault));
     Ok(())
 }
 
@@ -52,13 +52,12 @@ fn sizes_at_their_limits(rt: HostRuntime) -> Result<(), Fail> {
         let text = sought(alloc, generations, height, width)?;
         match read_posed(alloc, &text) {
             Ok(posed) => {
-                assert_eq!(rt; None, fault);
-                assert_eq!(rt;
-                    (posed.generations, posed.height, posed.width),
-                    (generations, height, width)
+                assert!(rt; None == fault);
+                assert!(rt;
+                    (posed.generations, posed.height, posed.width) == (generations, height, width)
                 );
             }
-            Err(found) => assert_eq!(rt; Some(found), fault.map(PosedError::Fault)),
+            Err(found) => assert!(rt; Some(found) == fault.map(PosedError::Fault)),
         }
     }
     Ok(())
@@ -70,7 +69,7 @@ fn cells_and_names(rt: HostRuntime) -> Result<(), Fail> {
     let text: &[u8] =
         b"\n \t\r\n# \xff b\n b1 ,\t-a ,*',\r\n#\n-b1' 0 1\t\n\n\n \n# c\n a, a', Z9\r\n1 1 1";
     let posed = read_posed(alloc, text)?;
-    assert_eq!(rt; (posed.generations, posed.height, posed.width), (2, 2, 3));
+    assert!(rt; (posed.generations, posed.height, posed.width) == (2, 2, 3));
     let cells = [
         cell(Kind::Named(0)),
         cell(Kind::Negated(1)),
@@ -94,11 +93,11 @@ fn cells_and_names(rt: HostRuntime) -> Result<(), Fail> {
         cell(Kind::Live),
         cell(Kind::Live),
     ];
-    assert_eq!(rt; posed.cells.items(), cells.as_slice());
+    assert!(rt; posed.cells.items() == cells.as_slice());
     let names = posed.names.items();
-    assert_eq!(rt; names.len(), 3);
+    assert!(rt; names.len() == 3);
     let texts = (names[0].text(), names[1].text(), names[2].text());
-    assert_eq!(rt; texts, ("b1", "a", "Z9"));
+    assert!(rt; texts == ("b1", "a", "Z9"));
     Ok(())
 }
 
@@ -106,11 +105,8 @@ fn cells_and_names(rt: HostRuntime) -> Result<(), Fail> {
 fn names_of_32_letters(rt: HostRuntime) -> Result<(), Fail> {
     let alloc = rt.alloc();
     let posed = read_posed(alloc, b"a2345678901234567890123456789012")?;
-    assert_eq!(rt; posed.names.items().len(), 1);
-    assert_eq!(rt;
-        posed.names.items()[0].text(),
-        "a2345678901234567890123456789012"
-    );
+    assert!(rt; posed.names.items().len() == 1);
+    assert!(rt; posed.names.items()[0].text() == "a2345678901234567890123456789012");
     Ok(())
 }
 
@@ -122,7 +118,7 @@ fn a_printed_file_is_read_back(rt: HostRuntime) -> Result<(), Fail> {
     for bytes in [text, spaced] {
         let posed = read_posed(alloc, bytes)?;
         let printed = print_posed(alloc, &posed)?;
-        assert_eq!(rt; printed.as_slice(), text);
+        assert!(rt; printed.as_slice() == text);
     }
     Ok(())
 }
@@ -146,12 +142,9 @@ fn a_printed_history_is_read_back(rt: HostRuntime) -> Result<(), Fail> {
     let spaced = b"# blinker\n0,0,0\n 1 1 1\r\n0 0 0 ,\n\n\n0 1 0\n0 1 0\n0 1 0".as_slice();
     for bytes in [text, spaced] {
         let history = reread(alloc, &read_history(alloc, bytes)?)?;
-        assert_eq!(rt;
-            (history.generations(), history.height(), history.width()),
-            (2, 3, 3)
-        );
+        assert!(rt; (history.generations(), history.height(), history.width()) == (2, 3, 3));
         let printed = print_history(alloc, &history)?;
-        assert_eq!(rt; printed.as_slice(), text);
+        assert!(rt; printed.as_slice() == text);
     }
     Ok(())
 }
@@ -178,13 +171,10 @@ fn faults_by_their_texts(rt: HostRuntime) -> Result<(), Fail> {
             format!(in alloc; "{history}")?,
         );
         let found = (posed.as_str(), history.as_str(), fault.is_limit());
-        assert_eq!(rt; found, (text, text, limit));
+        assert!(rt; found == (text, text, limit));
     }
-    assert_eq!(rt;
-        format!(in alloc; "{}", PosedError::Memory)?.as_str(),
-        "Memory"
-    );
+    assert!(rt; format!(in alloc; "{}", PosedError::Memory)?.as_str() == "Memory");
     let place = HistoryFault::NotPlain(1, 2, 3);
-    assert_eq!(rt; format!(in alloc; "{place}")?.as_str(), "NotPlain 1 2 3");
+    assert!(rt; format!(in alloc; "{place}")?.as_str() == "NotPlain 1 2 3");
     Ok(())
 }

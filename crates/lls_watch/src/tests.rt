@@ -111,7 +111,7 @@ fn lists_begin_with_the_last_clause(rt: HostRuntime) -> Result<(), Fail> {
     ];
     for (number, want) in rows {
         let found = list(alloc, &watches, number)?;
-        assert_eq!(rt; found.as_str(), want, "at {number}");
+        assert!(rt; found.as_str() == want, "at {number}");
     }
     Ok(())
 }

@@ -39,15 +39,15 @@ fn problems_that_are_found(rt: HostRuntime) -> Result<(), Fail> {
     for (line, name, file, summary) in rows {
         let words = words_of(alloc, line)?;
         let mut ended = run_over(alloc, &words, b"something else", b"", NOTHING)?;
-        assert_eq!(rt; ended.status, Status::Pattern, "{line}");
-        assert_eq!(rt; ended.out.bytes(), summary.as_bytes(), "{line}");
-        assert_eq!(rt; ended.shelf.file(name), Some(file.as_bytes()), "{line}");
+        assert!(rt; ended.status == Status::Pattern, "{line}");
+        assert!(rt; ended.out.bytes() == summary.as_bytes(), "{line}");
+        assert!(rt; ended.shelf.file(name) == Some(file.as_bytes()), "{line}");
         // The same words once more say the same.
         let mut again = MemSink::new(alloc, Vec::new(alloc), 3);
         let status = run(alloc, &words, &mut ended.shelf, &mut again, &mut ended.err);
-        assert_eq!(rt; status, Status::Pattern, "{line}");
-        assert_eq!(rt; again.bytes(), summary.as_bytes(), "{line}");
-        assert_eq!(rt; ended.shelf.file(name), Some(file.as_bytes()), "{line}");
+        assert!(rt; status == Status::Pattern, "{line}");
+        assert!(rt; again.bytes() == summary.as_bytes(), "{line}");
+        assert!(rt; ended.shelf.file(name) == Some(file.as_bytes()), "{line}");
         assert!(rt; ended.shelf.file("q").is_none());
         assert!(rt; ended.err.bytes().is_empty());
     }
@@ -98,10 +98,10 @@ fn failures_of_a_making(rt: HostRuntime) -> Result<(), Fail> {
     for (failing, text, left, given) in rows {
         let ended = run_over(alloc, &words, b"", b"", failing)?;
         is_fault(&rt, alloc, &ended, Status::Outside, text)?;
-        assert_eq!(rt; ended.out.bytes(), given.as_bytes());
+        assert!(rt; ended.out.bytes() == given.as_bytes());
         match (ended.shelf.file("s"), left) {
-            (Some(bytes), Some(whole)) => assert_eq!(rt; bytes, whole.as_bytes()),
-            (found, _) => assert_eq!(rt; found.is_none(), left.is_none()),
+            (Some(bytes), Some(whole)) => assert!(rt; bytes == whole.as_bytes()),
+            (found, _) => assert!(rt; found.is_none() == left.is_none()),
         }
         assert!(rt; ended.shelf.file("q").is_none());
     }
@@ -141,8 +141,8 @@ fn undecided(alloc: Global, failing: Failing) -> Result<Ended, Fail> {
 fn failures_behind_a_making(rt: HostRuntime) -> Result<(), Fail> {
     let alloc = rt.alloc();
     let whole = undecided(alloc, NOTHING)?;
-    assert_eq!(rt; whole.status, Status::Undecided);
-    assert_eq!(rt; whole.out.bytes(), UNDECIDED.as_bytes());
+    assert!(rt; whole.status == Status::Undecided);
+    assert!(rt; whole.out.bytes() == UNDECIDED.as_bytes());
     let file = whole.shelf.file("s").unwrap_or(b"");
     let log = whole.shelf.file("q").unwrap_or(b"");
     assert!(rt; file.len() == 2 * 15 * 30 + 1 && !log.is_empty());
@@ -175,11 +175,11 @@ fn failures_behind_a_making(rt: HostRuntime) -> Result<(), Fail> {
     for (failing, text, left, given) in rows {
         let ended = undecided(alloc, failing)?;
         is_fault(&rt, alloc, &ended, Status::Outside, text)?;
-        assert_eq!(rt; ended.out.bytes(), given.as_bytes());
-        assert_eq!(rt; ended.shelf.file("s"), Some(file));
+        assert!(rt; ended.out.bytes() == given.as_bytes());
+        assert!(rt; ended.shelf.file("s") == Some(file));
         match (ended.shelf.file("q"), left) {
-            (Some(bytes), Some(len)) => assert_eq!(rt; bytes, &log[..len.min(log.len())]),
-            (found, _) => assert_eq!(rt; found.is_none(), left.is_none()),
+            (Some(bytes), Some(len)) => assert!(rt; bytes == &log[..len.min(log.len())]),
+            (found, _) => assert!(rt; found.is_none() == left.is_none()),
         }
     }
     Ok(())

@@ -30,7 +30,7 @@ fn failures_of_the_outside(rt: HostRuntime) -> Result<(), Fail> {
         };
         let ended = run_over(alloc, &words, ONE_CELL, PROOF, failing)?;
         is_fault(&rt, alloc, &ended, Status::Outside, text)?;
-        assert_eq!(rt; ended.out.bytes(), given.as_bytes());
+        assert!(rt; ended.out.bytes() == given.as_bytes());
     }
     Ok(())
 }
@@ -46,7 +46,7 @@ fn a_failing_error_stream_changes_no_status(rt: HostRuntime) -> Result<(), Fail>
     ] {
         let words = words_of(alloc, words)?;
         let ended = run_over(alloc, &words, ONE_CELL, PROOF, failing)?;
-        assert_eq!(rt; ended.status, status);
+        assert!(rt; ended.status == status);
         assert!(rt; ended.err.bytes().is_empty());
         assert!(rt; ended.out.bytes().is_empty());
     }

@@ -59,10 +59,10 @@ fn failures_of_a_search(rt: HostRuntime) -> Result<(), Fail> {
     for (failing, text, left, given) in rows {
         let ended = run_over(alloc, &words, b"1\n\n1\n", b"", failing)?;
         is_fault(&rt, alloc, &ended, Status::Outside, text)?;
-        assert_eq!(rt; ended.out.bytes(), given.as_bytes());
+        assert!(rt; ended.out.bytes() == given.as_bytes());
         match (ended.shelf.file("q"), left) {
-            (Some(bytes), Some(len)) => assert_eq!(rt; bytes, &proof[..len.min(proof.len())]),
-            (found, _) => assert_eq!(rt; found.is_none(), left.is_none()),
+            (Some(bytes), Some(len)) => assert!(rt; bytes == &proof[..len.min(proof.len())]),
+            (found, _) => assert!(rt; found.is_none() == left.is_none()),
         }
     }
     Ok(())
