@@ -9,10 +9,10 @@ _lls_options() {
     check | cnf) echo "--rule $_lls_demands --formula" ;;
     opencheck) echo "--low --high $_lls_demands --formula" ;;
     judge) echo "--rule $_lls_demands --as" ;;
-    search) echo "--rule $_lls_demands --budget --keep --as --formula --crew --turns" ;;
-    least) echo "--rule $_lls_demands --budget --keep --as --formula" ;;
-    open) echo "--low --high $_lls_demands --budget --keep --as --formula" ;;
-    sat) echo '--budget --keep' ;;
+    search) echo "--rule $_lls_demands --budget --keep --manner --as --formula --crew --turns" ;;
+    least) echo "--rule $_lls_demands --budget --keep --manner --as --formula" ;;
+    open) echo "--low --high $_lls_demands --budget --keep --manner --as --formula" ;;
+    sat) echo '--budget --keep --manner' ;;
     esac
 }
 
@@ -22,6 +22,7 @@ _lls_values() {
     --edge) echo 'closed open' ;;
     --symmetry) echo 'C1 C2 C4 D2- D2| D2\ D2/ D4+ D4x D8' ;;
     --keep) echo 'all half' ;;
+    --manner) echo 'restless steady both' ;;
     --as) echo 'rows rle' ;;
     --formula) echo '1 2' ;;
     --rule | --low | --high) echo 'B3/S23 B36/S23 B2/S B368/S245' ;;
@@ -42,7 +43,8 @@ _lls() {
     local current=${COMP_WORDS[COMP_CWORD]} previous=${COMP_WORDS[COMP_CWORD - 1]} commands='check cnf judge least lrat make open opencheck rule sat search trim'
     local first=1 words=()
     [ "${COMP_WORDS[1]-}" != --quiet ] || first=2
-    [ "${COMP_WORDS[first]-}" != --trimmed ] || first=$((first + 1))
+    [ "${COMP_WORDS[first]-}" != --as-built ] || first=$((first + 1))
+    [[ ${COMP_WORDS[first]-} != --@(trimmed|race) ]] || first=$((first + 1))
     [[ "${COMP_WORDS[first]-}" != --unproved && "${COMP_WORDS[first]-}" != --posed ]] || first=$((first + 1))
     # `--edge=open` comes as three words.
     if [ "$current" = = ]; then
@@ -52,8 +54,8 @@ _lls() {
     fi
     if [ "$COMP_CWORD" -eq "$first" ]; then
         case $first,${COMP_WORDS[1]} in
-        1,*) commands="$commands help --help --version --posed --quiet --trimmed --unproved" ;;
-        2,--quiet) commands="$commands --posed --trimmed --unproved" ;;
+        1,*) commands="$commands help --help --version --as-built --posed --quiet --race --trimmed --unproved" ;;
+        2,--quiet) commands="$commands --as-built --posed --race --trimmed --unproved" ;;
         esac
         read -ra words <<<"$commands"
     elif [[ $previous = --help || $previous = help && $COMP_CWORD -eq 2 ]]; then

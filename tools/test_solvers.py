@@ -230,7 +230,7 @@ exit 30
         status, out, err = ran(*words, "--crew", "4", "--seeds", "3", "q.lls", "--period", "3", folder=self.folder)
         crews = "".join(f"--crew 4 --turns {seed}: {needed}\n" for seed, needed in enumerate((0, 1000, 77)))
         self.assertEqual((status, out, err), (0, "alone: 65\n" + crews, ""))
-        self.assertIn("--period 3 --crew 4 --turns 1 --budget 1000", self.read("calls"))
+        self.assertIn("--period 3 --crew 4 --turns 1 --manner restless --budget 1000", self.read("calls"))
         self.assertEqual(ran(*words, "other.lls", folder=self.folder), (1, "", "turns.py: `lls search` ended with 2\n"))
 
     def test_a_search_that_no_budget_decides(self):

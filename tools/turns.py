@@ -5,7 +5,7 @@
 
 That is the least `--budget` with which `lls search` of SEARCH and the WORDs, which are its options (`--period 3`), answers with a pattern or
 an absence. It is found by doubling and halving, since what a search does depends on its budget in no other way. A crew learns one clause a
-turn, so for a crew it is the number of its turns but the last. Prints the number for one searcher, and with `--crew` a line for each
+turn, so for a crew it is the number of its turns but the last. Prints the number for one searcher, which is a restless one, and with `--crew` a line for each
 `--turns` from 0 to N - 1 (3 without `--seeds`) of K searchers.
 """
 import os
@@ -25,7 +25,7 @@ class NoAnswer(Exception):
 def is_decided(program, search, proof, words, budget):
     """Says whether the search with that budget ends with an answer."""
     done = subprocess.run(
-        (program, "search", search, proof, *words, "--budget", str(budget)), stdin=subprocess.DEVNULL, stdout=subprocess.DEVNULL, check=False
+        (program, "search", search, proof, *words, "--manner", "restless", "--budget", str(budget)), stdin=subprocess.DEVNULL, stdout=subprocess.DEVNULL, check=False
     )
     if done.returncode not in (10, 20, 30):
         raise NoAnswer(f"`lls search` ended with {done.returncode}")

@@ -22,7 +22,7 @@ PROBLEM = ["rule"] + DEMANDS
 FORMED = PROBLEM + ["formula"]
 # a problem whose rule is left open between two
 OPEN = ["low", "high"] + DEMANDS + ["formula"]
-EFFORT = ["budget", "keep"]
+EFFORT = ["budget", "keep", "manner"]
 CREW = ["crew", "turns"]
 COMMANDS = {
     "check": (["search", "proof"], FORMED),
@@ -52,6 +52,7 @@ CHOICES = {
     "symmetry": ["C1", "C2", "C4", "D2-", "D2|", "D2\\", "D2/", "D4+", "D4x", "D8"],
     "formula": ["1", "2"],
     "keep": ["all", "half"],
+    "manner": ["restless", "steady", "both"],
     "as": ["rows", "rle"],
 }
 # Hensel's letters by the number of live neighbours
@@ -295,6 +296,7 @@ BAD = {
     "symmetry": ["C3", "c2", "D2", "D8 "],
     "formula": ["0", "3", "12", "01", "cover"],
     "keep": ["some", "All"],
+    "manner": ["calm", "Both"],
     "as": ["RLE", "row"],
 }
 ODD = ["", "-", "--", "-x", "-4", "---", "--best", "--best=1", "--=x", "--edge=", "--rule=-", "--help", "--edge", "--keep"]

@@ -6,6 +6,7 @@ use Rattle.lls_problem.specs.declared.demands.Demands.{Demands}
 use Rattle.lls_words.specs.Job.{AreAllowed, AreOpen, AreWithinLimits, IsCrew}
 use Rattle.lls_words.specs.Values.{default_budget, most_budget, most_size}
 use Rattle.lls_words.specs.declared.crew_plan.CrewPlan.{CrewPlan}
+use Rattle.lls_words.specs.declared.further.Manner.{Manner}
 use Rattle.lls_words.specs.declared.job.Job.{Job}
 use Rattle.lls_words.specs.declared.job.Job.TheVariants as jobs
 use Rattle.lls_words.specs.declared.error.WordsError.{WordsError}
@@ -23,25 +24,25 @@ problem_by file rule demands = record { file = file; rule = rule; demands = dema
 abbrev pub effort_of : ℕ → Bool → List ℕ → Effort
 effort_of budget keep_all proof = record { budget = budget; keep_all = keep_all; proof = proof }
 
-abbrev pub further_of : Bool → Option CrewPlan → Further
-further_of rle crew = record { rle = rle; crew = crew }
+abbrev pub further_of : Bool → Option CrewPlan → Manner → Further
+further_of rle crew manner = record { rle = rle; crew = crew; manner = manner }
 
 -- the task of a job: a check, a search or another
 abbrev pub task_of : Job → Task
 task_of (jobs.Check file proof rule demands form) = tasks.Check (sources.Problem (problem_by file rule demands) form) proof
 task_of (jobs.LooseCheck file proof low high demands form) = tasks.Check (sources.Rules (problem_by file low demands) high form) proof
 task_of (jobs.Lrat formula proof) = tasks.Check (sources.Formula formula) proof
-task_of (jobs.Search file proof rule demands form budget keep_all rle crew) =
-    tasks.Search (sources.Problem (problem_by file rule demands) form) (effort_of budget keep_all proof) (further_of rle crew)
-task_of (jobs.Loose file proof low high demands form budget keep_all rle) =
-    tasks.Search (sources.Rules (problem_by file low demands) high form) (effort_of budget keep_all proof) (further_of rle None)
-task_of (jobs.Sat formula proof budget keep_all) = tasks.Search (sources.Formula formula) (effort_of budget keep_all proof) (further_of false None)
+task_of (jobs.Search file proof rule demands form budget keep_all rle crew further) =
+    tasks.Search (sources.Problem (problem_by file rule demands) form) (effort_of budget keep_all proof) (further_of rle crew further.manner)
+task_of (jobs.Loose file proof low high demands form budget keep_all rle further) =
+    tasks.Search (sources.Rules (problem_by file low demands) high form) (effort_of budget keep_all proof) (further_of rle None further.manner)
+task_of (jobs.Sat formula proof budget keep_all further) = tasks.Search (sources.Formula formula) (effort_of budget keep_all proof) (further_of false None further.manner)
 task_of (jobs.Judge file pattern rule demands rle) = tasks.Judge (problem_by file rule demands) pattern rle
 task_of (jobs.Cnf file rule demands form) = tasks.Encode (sources.Problem (problem_by file rule demands) form)
 task_of (jobs.Rule rule) = tasks.Print rule
 task_of (jobs.Make seed size file proof) = tasks.Make seed size file (effort_of default_budget false proof)
-task_of (jobs.Least file proof rule demands form budget keep_all rle) =
-    tasks.Least (problem_by file rule demands) form (effort_of budget keep_all proof) (further_of rle None)
+task_of (jobs.Least file proof rule demands form budget keep_all rle further) =
+    tasks.Least (problem_by file rule demands) form (effort_of budget keep_all proof) (further_of rle None further.manner)
 task_of (jobs.Trim formula proof output) = tasks.Trim formula proof output
 
 abbrev pub tasked : Result Job WordsError → Result Task WordsError

@@ -30,6 +30,7 @@ use lls_grid::History;
 use lls_least::{Least, fewer, least};
 use lls_prooflog::Log;
 use lls_rule::Rule;
+use lls_solver::Manners;
 use std::alloc::Global;
 
 // How many cells of generation 0 a solution has alive, behind a word, and the solution.
@@ -151,6 +152,7 @@ pub fn give_fewest<S: Shelf, O: Sink, E: Sink>(
     asked: Asked,
     effort: Effort,
     rle: bool,
+    manners: Manners,
     outside: &mut Outside<S, O, E>,
 ) -> Status
     requires room { LeavesRoom asked.problem }
@@ -163,6 +165,7 @@ pub fn give_fewest<S: Shelf, O: Sink, E: Sink>(
         alloc,
         &asked.problem,
         asked.form,
+        manners,
         effort.budget,
         effort.keep_all,
     ) {

@@ -25,7 +25,7 @@ use crate::input::{read_roomy_problem, read_subject};
 use crate::making::give_making;
 use crate::outside::Outside;
 use crate::print::print_rule;
-use crate::search::search;
+use crate::search::{manners_of, search};
 use crate::status::Status;
 use crate::task::{Further, ProblemSource, Source, Task, task_of};
 use lls_base::{Name, Shelf, Sink};
@@ -85,7 +85,8 @@ fn run_least<S: Shelf, O: Sink, E: Sink>(
     match read_roomy_problem(alloc, outside.shelf, source) {
         Ok(problem) => {
             let asked = Asked { problem, form };
-            give_fewest(alloc, asked, effort, further.rle, outside)
+            let manners = manners_of(further.manner);
+            give_fewest(alloc, asked, effort, further.rle, manners, outside)
         }
         Err(fault) => refuse(alloc, fault, outside.err),
     }

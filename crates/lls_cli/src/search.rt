@@ -19,24 +19,33 @@ use lls_base::Memory;
 use lls_cnf::Formula;
 use lls_crew::crew;
 use lls_prooflog::Log;
-use lls_solver::{Outcome, solve};
-use lls_words::CrewPlan;
+use lls_solver::{Manner as SearcherManner, Manners, Outcome, solve_from};
+use lls_words::{CrewPlan, Manner};
 use std::alloc::Global;
 
-// Searches for an assignment that satisfies a formula, by one searcher or by several.
+/// The manners that words say.
+pub fn manners_of(manner: Manner) -> Manners {
+    match manner {
+        Manner::Restless => Manners::Alone(SearcherManner::Restless),
+        Manner::Steady => Manners::Alone(SearcherManner::Steady),
+        Manner::Both => Manners::Both,
+    }
+}
+
+// Searches for an assignment that satisfies a formula, by a crew or by a manner.
 fn solve_by(
     alloc: Global,
     formula: &Formula,
     effort: &Effort,
-    plan: Option<CrewPlan>,
+    further: &Further,
     log: &mut Log,
 ) -> Result<Outcome, Memory>
     requires none { log.old.steps ≡ [] }
     requires budget { effort.now.budget ≤ MOST_BUDGET }
-    requires crew { ForSome plan IsCrew }
+    requires crew { ForSome further.now.crew IsCrew }
     ensures { IsOutcome formula.now effort.now.budget effort.now.keep_all log.new.steps result }
 {
-    match plan {
+    match further.crew {
         Some(CrewPlan { searchers, seed }) => crew(
             alloc,
             formula,
@@ -46,7 +55,15 @@ fn solve_by(
             seed,
             log,
         ),
-        None => solve(alloc, formula, effort.budget, effort.keep_all, log),
+        None => solve_from(
+            alloc,
+            formula,
+            &[],
+            manners_of(further.manner),
+            effort.budget,
+            effort.keep_all,
+            log,
+        ),
     }
 }
 
@@ -63,7 +80,7 @@ pub fn search<'f>(
     ensures { IfOk result (IsAnswer (questions.Search subject.now effort further.rle)) }
 {
     let mut log = Log::new(alloc);
-    match solve_by(alloc, subject.formula(), &effort, further.crew, &mut log)? {
+    match solve_by(alloc, subject.formula(), &effort, &further, &mut log)? {
         Outcome::Sat(assignment) => Ok(Answer {
             status: Status::Pattern,
             text: Text::plain(subject.show(alloc, &assignment, further.rle)?),

@@ -7,7 +7,7 @@ use crate::effort::Effort;
 use lls_base::Name;
 use lls_problem::{Demands, Form};
 use lls_rule::Rule;
-use lls_words::{CrewPlan, DEFAULT_BUDGET, Job};
+use lls_words::{CrewPlan, DEFAULT_BUDGET, Job, Manner};
 
 /// A problem, as words pose it.
 #[derive(Drop)]
@@ -48,6 +48,8 @@ pub struct Further {
     pub rle: bool,
     /// The searchers that take turns, where there are several.
     pub crew: Option<CrewPlan>,
+    /// By which manner it goes about it, where there is no crew.
+    pub manner: Manner,
 }
 
 /// What a command line asks for. Each job of the words is one of these tasks.
@@ -110,11 +112,13 @@ pub fn task_of(job: Job) -> Task
             keep_all,
             rle,
             crew,
+            further,
         } => {
             let problem = ProblemSource::new(search, rule, demands);
             let effort = Effort::new(budget, keep_all, proof);
             let source = Source::Problem(problem, form);
-            Task::Search(source, effort, Further { rle, crew })
+            let manner = further.manner;
+            Task::Search(source, effort, Further { rle, crew, manner })
         }
         Job::Loose {
             search,
@@ -126,22 +130,30 @@ pub fn task_of(job: Job) -> Task
             budget,
             keep_all,
             rle,
+            further,
         } => {
             let problem = ProblemSource::new(search, low, demands);
             let effort = Effort::new(budget, keep_all, proof);
             let source = Source::Rules(problem, high, form);
-            Task::Search(source, effort, Further { rle, crew: None })
+            let further = Further {
+                rle,
+                crew: None,
+                manner: further.manner,
+            };
+            Task::Search(source, effort, further)
         }
         Job::Sat {
             formula,
             proof,
             budget,
             keep_all,
+            further,
         } => {
             let effort = Effort::new(budget, keep_all, proof);
             let further = Further {
                 rle: false,
                 crew: None,
+                manner: further.manner,
             };
             Task::Search(Source::Formula(formula), effort, further)
         }
@@ -180,10 +192,16 @@ pub fn task_of(job: Job) -> Task
             budget,
             keep_all,
             rle,
+            further,
         } => {
             let problem = ProblemSource::new(search, rule, demands);
             let effort = Effort::new(budget, keep_all, proof);
-            Task::Least(problem, form, effort, Further { rle, crew: None })
+            let further = Further {
+                rle,
+                crew: None,
+                manner: further.manner,
+            };
+            Task::Least(problem, form, effort, further)
         }
         Job::Trim {
             formula,

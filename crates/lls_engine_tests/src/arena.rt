@@ -268,7 +268,7 @@ fn assert_head(
         arena.link(c, false).clause(),
         arena.link(c, true).clause(),
     );
-    assert_eq!(rt; shown, *head);
+    assert!(rt; shown == *head);
     assert!(rt; watches_its_first(arena, c));
     Ok(())
 }
@@ -281,7 +281,7 @@ fn assert_heads(
     heads: &[Shown<'_>],
 ) -> Result<(), Fail> {
     let count = arena.count();
-    assert_eq!(rt; count as usize, heads.len());
+    assert!(rt; count as usize == heads.len());
     for (k, head) in heads.iter().enumerate() {
         if k < count as usize {
             assert_head(rt, alloc, arena, k as u32, head)?;

@@ -38,7 +38,7 @@ fn assert_turn(
     ensures { length crew.new.held ≡ length crew.old.held }
 {
     let turned = crew.turn(alloc, k)?;
-    assert_eq!(rt; (k, turned), (k, want));
+    assert!(rt; turned == want);
     Ok(())
 }
 
@@ -47,7 +47,7 @@ fn assert_held(rt: &impl Abort, crew: &Crew, k: u32, rows: &[(u64, bool)])
     requires { k < length crew.now.held }
 {
     for (id, held) in rows {
-        assert_eq!(rt; (k, *id, crew.holds(k, *id)), (k, *id, *held));
+        assert!(rt; crew.holds(k, *id) == *held);
     }
 }
 
@@ -62,8 +62,8 @@ fn assert_finished(
     let Some((outcome, log)) = crew.finish() else {
         return Err(Fail::from("an outcome"));
     };
-    assert_eq!(rt; word(&outcome), want);
-    assert_eq!(rt; print_log(alloc, &log)?.as_slice(), steps);
+    assert!(rt; word(&outcome) == want);
+    assert!(rt; print_log(alloc, &log)?.as_slice() == steps);
     Ok(())
 }
 
@@ -153,7 +153,7 @@ fn assert_left(rt: &impl Abort, crew: &Crew, k: u32, before: &[bool], deleted: &
     let mut id = 0;
     for was_held in before {
         let want = *was_held && !deleted.contains(&id);
-        assert_eq!(rt; (k, id, crew.holds(k, id)), (k, id, want));
+        assert!(rt; crew.holds(k, id) == want);
         id = id.wrapping_add(1);
     }
 }
@@ -162,7 +162,7 @@ fn assert_gone(rt: &impl Abort, crew: &Crew, k: u32, deleted: &[u64])
     requires { k < length crew.now.held }
 {
     for id in deleted {
-        assert_eq!(rt; (k, *id, crew.holds(k, *id)), (k, *id, false));
+        assert!(rt; !crew.holds(k, *id));
     }
 }
 

@@ -71,7 +71,7 @@ fn compare(
 ) -> Result<(), Fail> {
     for size in [1, 2, 3, 99] {
         let found = told(alloc, form, proof, size)?;
-        assert_eq!(rt; found.as_str(), want, "at {proof:?} in pieces of {size}");
+        assert!(rt; found.as_str() == want, "at {proof:?} in pieces of {size}");
     }
     Ok(())
 }
@@ -182,6 +182,6 @@ fn forms_are_told_by_ten_bytes(rt: HostRuntime) {
         (&[100, 2, 3, 0], Form::Binary),
     ];
     for (start, want) in rows {
-        assert_eq!(rt; recognise(start), want, "at {start:?}");
+        assert!(rt; recognise(start) == want, "at {start:?}");
     }
 }

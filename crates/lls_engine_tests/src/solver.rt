@@ -1,12 +1,16 @@
-// Searches over formulas that are worked by hand, to the log's last step.
-ghost use Rattle.std.specs.Prelude.{◌≡◌, []};
+// Searches over formulas that are worked by hand, to the log's last step, and one that forgets.
+ghost use Rattle.std.specs.Prelude.{◌≡◌, ◌<◌, [], true, IfOk};
+ghost use Rattle.lls_lit.specs.Formula.{is_literal_of, is_within};
 
 use lls_cnf::{Formula, MOST_DIMACS_BYTES, holds, read_dimacs};
+use lls_lit::{Lit, Var};
 use lls_prooflog::{Log, print_log};
-use lls_solver::{MOST_BUDGET, Outcome, solve_from};
+use lls_solver::{MOST_BUDGET, Manner, Manners, Outcome, solve_from};
 use std::alloc::Global;
 use std::process::Abort;
 use std::test::Fail;
+
+const RESTLESS: Manners = Manners::Alone(Manner::Restless);
 
 // A formula, the values that its variables begin with, the budget and whether all learnt clauses are kept; the values of the
 // assignment that is found, if there is one, and the log.
@@ -103,8 +107,8 @@ fn assert_outcome(
 ) -> Result<(), Fail> {
     match outcome {
         Outcome::Sat(assignment) => {
-            assert_eq!(rt; Some(assignment.values()), values);
-            assert_eq!(rt; assignment.values().len(), formula.vars() as usize);
+            assert!(rt; Some(assignment.values()) == values);
+            assert!(rt; assignment.values().len() == formula.vars() as usize);
             assert!(rt; holds(formula, assignment));
         }
         Outcome::Unsat => assert!(rt; values.is_none()),
@@ -118,9 +122,11 @@ fn compare(rt: &impl Abort, alloc: Global, row: &Row) -> Result<(), Fail> {
     assert!(rt; text.len() <= MOST_DIMACS_BYTES && budget <= MOST_BUDGET);
     let formula = read_dimacs(alloc, text)?;
     let mut log = Log::new(alloc);
-    let outcome = solve_from(alloc, &formula, phases, budget, keep_all, &mut log)?;
+    let outcome = solve_from(
+        alloc, &formula, phases, RESTLESS, budget, keep_all, &mut log,
+    )?;
     assert_outcome(rt, &formula, &outcome, values)?;
-    assert_eq!(rt; print_log(alloc, &log)?.as_slice(), steps.as_bytes());
+    assert!(rt; print_log(alloc, &log)?.as_slice() == steps.as_bytes());
     Ok(())
 }
 
@@ -128,6 +134,82 @@ fn compare(rt: &impl Abort, alloc: Global, row: &Row) -> Result<(), Fail> {
 fn searches_are_as_worked(rt: HostRuntime) -> Result<(), Fail> {
     for row in &ROWS {
         compare(&rt, rt.alloc(), row)?;
+    }
+    Ok(())
+}
+
+// Whether a pigeon sits in a hole, or doesn't; both are counted from 0.
+fn sits(pigeon: u32, hole: u32, positive: bool) -> Result<Lit, Fail>
+    requires pigeon { pigeon < 8 }
+    requires hole { hole < 7 }
+    ensures { IfOk result (λ lit. is_literal_of 56 lit ≡ true) }
+{
+    let var = Var::from_number(7 * pigeon + hole + 1).ok_or("a variable")?;
+    Ok(Lit::new(var, positive))
+}
+
+fn push(formula: &mut Formula, lits: &[Lit]) -> Result<(), Fail>
+    requires { is_within 56 lits.now ≡ true }
+{
+    if formula.vars() != 56 || formula.len() == Formula::MOST_CLAUSES {
+        return Err(Fail::from("a variable for each place, and room for a clause"));
+    }
+    formula.push(lits)?;
+    Ok(())
+}
+
+// This pigeon sits in a hole with none of those before it.
+fn keep_apart(formula: &mut Formula, hole: u32, pigeon: u32) -> Result<(), Fail>
+    requires hole { hole < 7 }
+    requires pigeon { pigeon < 8 }
+{
+    for other in 0..pigeon {
+        push(
+            formula,
+            &[sits(other, hole, false)?, sits(pigeon, hole, false)?],
+        )?;
+    }
+    Ok(())
+}
+
+// Eight pigeons in seven holes.
+fn pigeons(alloc: Global) -> Result<Formula, Fail> {
+    let mut formula = Formula::new(alloc, 56);
+    for pigeon in 0..8 {
+        let places = [
+            sits(pigeon, 0, true)?,
+            sits(pigeon, 1, true)?,
+            sits(pigeon, 2, true)?,
+            sits(pigeon, 3, true)?,
+            sits(pigeon, 4, true)?,
+            sits(pigeon, 5, true)?,
+            sits(pigeon, 6, true)?,
+        ];
+        push(&mut formula, &places)?;
+        for hole in 0..7 {
+            keep_apart(&mut formula, hole, pigeon)?;
+        }
+    }
+    Ok(formula)
+}
+
+// Where not all clauses are to be kept a long search forgets some, and its log says so.
+#[test]
+fn pigeons_are_forgotten(rt: HostRuntime) -> Result<(), Fail> {
+    let formula = pigeons(rt.alloc())?;
+    for keep_all in [false, true] {
+        let mut log = Log::new(rt.alloc());
+        let outcome = solve_from(
+            rt.alloc(),
+            &formula,
+            &[],
+            RESTLESS,
+            1_000_000,
+            keep_all,
+            &mut log,
+        )?;
+        assert_outcome(&rt, &formula, &outcome, None)?;
+        assert!(rt; (log.len() as u64 > log.additions()) == !keep_all);
     }
     Ok(())
 }

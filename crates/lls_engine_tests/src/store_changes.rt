@@ -337,16 +337,16 @@ fn assert_row(
     requires { trail.now.vars ≡ VARS }
 {
     let entries = shown(alloc, trail)?;
-    assert_eq!(rt; (answer, entries.as_str()), (row.answer, row.entries));
+    assert!(rt; (answer, entries.as_str()) == (row.answer, row.entries));
     Ok(())
 }
 
 // Whether the learnt clause stands in its place.
 fn assert_learnt<S: Store>(rt: &impl Abort, alloc: Global, store: &S) -> Result<(), Fail> {
-    assert_eq!(rt; store.count(), 7);
+    assert!(rt; store.count() == 7);
     assert!(rt; store.live(4));
     let learnt = literals(alloc, &[-2, -4])?;
-    assert_eq!(rt; (store.id(4), store.lits(4)), (5, learnt.as_slice()));
+    assert!(rt; (store.id(4), store.lits(4)) == (5, learnt.as_slice()));
     Ok(())
 }
 

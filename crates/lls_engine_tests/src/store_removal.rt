@@ -261,7 +261,7 @@ fn assert_clause<S: Store>(
 {
     let lits = literals(alloc, clause.2)?;
     let found = (store.live(c), store.id(c), store.lits(c));
-    assert_eq!(rt; found, (true, clause.1, lits.as_slice()));
+    assert!(rt; found == (true, clause.1, lits.as_slice()));
     Ok(())
 }
 
@@ -291,9 +291,9 @@ fn assert_row<S: Store>(
 ) -> Result<(), Fail>
     requires { trail.now.vars ≡ VARS }
 {
-    assert_eq!(rt; (answer, store.count()), (row.answer, row.count));
+    assert!(rt; (answer, store.count()) == (row.answer, row.count));
     let entries = shown(alloc, trail)?;
-    assert_eq!(rt; entries.as_str(), row.entries);
+    assert!(rt; entries.as_str() == row.entries);
     assert_live(rt, alloc, store, row.live)
 }
 

@@ -169,7 +169,7 @@ fn assert_values(rt: &impl Abort, trail: &Trail, lits: &[i32]) -> Result<(), Fai
                 trail.value(lit.negated()),
                 trail.place(lit.var()),
             );
-            assert_eq!(rt; found, (expected, expected.map(|value| !value), place));
+            assert!(rt; found == (expected, expected.map(|value| !value), place));
         }
     }
     Ok(())
@@ -179,10 +179,7 @@ fn assert_row(rt: &impl Abort, alloc: Global, trail: &Trail, row: &Row) -> Resul
     requires { trail.now.vars ≡ VARS }
 {
     let entries = shown(alloc, trail)?;
-    assert_eq!(rt;
-        (trail.current(), entries.as_str()),
-        (row.current, row.entries)
-    );
+    assert!(rt; (trail.current(), entries.as_str()) == (row.current, row.entries));
     // So these are the row's.
     let lits = literals_of(alloc, trail)?;
     assert_values(rt, trail, &lits)

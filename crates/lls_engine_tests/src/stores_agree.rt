@@ -269,7 +269,7 @@ fn assert_agree<A: Store, B: Store>(
     requires one { one.now.trail.vars ≡ VARS }
     requires other { other.now.trail.vars ≡ VARS }
 {
-    assert_eq!(rt; one.conflict, other.conflict);
+    assert!(rt; one.conflict == other.conflict);
     if !one.conflict {
         assert!(rt; have_same_values(&one.trail, &other.trail)?);
     }

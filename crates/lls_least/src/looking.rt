@@ -47,6 +47,7 @@ pub(crate) fn look(
         alloc,
         &formula,
         near,
+        effort.manners,
         effort.budget,
         effort.keep_all,
         &mut log,

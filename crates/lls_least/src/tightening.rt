@@ -15,14 +15,16 @@ use lls_cnf::Assignment;
 use lls_grid::History;
 use lls_problem::{Form, Problem};
 use lls_prooflog::Log;
+use lls_solver::Manners;
 use std::alloc::Global;
 
-/// Looks for a solution with the fewest live cells in generation 0. Each look has the budget to itself and a log of its own; the
+/// Looks for a solution with the fewest live cells in generation 0, by these manners. Each look has the budget to itself and a log of its own; the
 /// answer has the last one's. A look begins with the values of the solution before it, so that the next one is near.
 pub fn least(
     alloc: Global,
     problem: &Problem,
     form: Form,
+    manners: Manners,
     budget: u32,
     keep_all: bool,
 ) -> Result<Least, Memory>
@@ -36,6 +38,7 @@ pub fn least(
 {
     let effort = Effort {
         form,
+        manners,
         budget,
         keep_all,
     };

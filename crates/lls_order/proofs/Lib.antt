@@ -4,3 +4,11 @@ pub mod Sorting
 pub mod Cursor
 pub mod Parts
 pub mod LubyNumbers
+pub mod Tables
+pub mod Inside
+pub mod Sifts
+pub mod Rising
+pub mod Sinking
+pub mod Building
+pub mod HeapParts
+pub mod Greatest

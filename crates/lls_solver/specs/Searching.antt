@@ -86,6 +86,12 @@ pub record HasLearnt (formula : Cnf) (budget : ℕ) (old new : List Step) (searc
   pub one_more : additions new ≡ additions old + 1
   pub within : additions new ≤ budget
 
+-- a search within its budget, between two turns
+pub record IsUnderWay (formula : Cnf) (budget : ℕ) (keep_all : Bool) (steps : List Step) (searcher : SearcherState) : Type 0 where
+  pub searching : IsSearching formula steps searcher.store searcher.trail
+  pub kept : KeepsAll keep_all steps
+  pub within : additions steps ≤ budget
+
 -- an assignment of the formula's variables that satisfies it
 pub record IsModel (formula : Cnf) (values : List Bool) : Type 0 where
   pub many : length values ≡ formula.vars

@@ -1,5 +1,5 @@
 // What is decided next, and what is undone.
-ghost use Rattle.std.specs.Prelude.{◌≡◌, ◌<◌, ◌≤◌, [], length, true, false, EachIndex, IfOk, IfSome, IfNone, IsSome, IsTrue, nat_lt};
+ghost use Rattle.std.specs.Prelude.{◌≡◌, ◌<◌, ◌≤◌, [], length, replicate, true, false, EachIndex, IfOk, IfSome, IfNone, IsSome, IsTrue, nat_lt};
 ghost use Rattle.std.specs.Option.{option_map_or};
 ghost use Rattle.lls_lit.specs.Literal.{variable_of};
 ghost use Rattle.lls_lit.specs.Formula.{is_within, value_at};
@@ -12,9 +12,10 @@ ghost use Rattle.lls_store.specs.Removal.{compacted, renamed};
 ghost use Rattle.lls_analyse.specs.Valued.{HaveValues};
 ghost use Rattle.lls_solver.specs.Course.{IsDecision, IsNext, IsOnCourse, AreWaiting, AllSet};
 
+use crate::manner::Manner;
 use lls_base::Memory;
 use lls_lit::{Lit, Var};
-use lls_order::Order;
+use lls_order::EitherOrder;
 use lls_store::{Store, Trail};
 use std::alloc::Global;
 use std::marker::Model;
@@ -25,9 +26,11 @@ use std::marker::Model;
 #[derive(Drop)]
 pub(crate) struct Course {
     pub(crate) trail: Trail,
-    order: Order,
+    order: EitherOrder,
     /// By variable, whether it was true last.
     phases: Vec<bool>,
+    /// How many literals unit propagation forced.
+    effort: u64,
 }
 
 impl Model for Course {
@@ -44,7 +47,12 @@ impl Model for Course {
 
 impl Course {
     /// No variable has a value. The first decision of each gives it the value that stands here, by variable, and false past the end.
-    pub(crate) fn new(alloc: Global, vars: u32, phases: &[bool]) -> Result<Course, Memory>
+    pub(crate) fn new(
+        alloc: Global,
+        vars: u32,
+        phases: &[bool],
+        manner: Manner,
+    ) -> Result<Course, Memory>
         requires { vars ≤ Var.MOST }
         ensures { IfOk result (λ course. course ≡ empty_trail vars) }
     {
@@ -53,8 +61,9 @@ impl Course {
         let _level = trail.current();
         Ok(Course {
             trail,
-            order: Order::new(alloc, vars)?,
+            order: order_of(alloc, vars, manner)?,
             phases: first_phases(alloc, vars, phases)?,
+            effort: 0,
         })
     }
 
@@ -71,10 +80,18 @@ impl Course {
         ensures on_course { IsOnCourse (S.state store.old) self.new }
         ensures kept { IsTrail self.new }
     {
+        let before = self.trail.len();
         let conflict = store.propagate(&mut self.trail);
         // What holds of every trail is known from here on.
         let _level = self.trail.current();
+        let forced = self.trail.len().saturating_sub(before);
+        self.effort = self.effort.saturating_add(forced as u64);
         conflict
+    }
+
+    /// How many literals unit propagation has forced so far.
+    pub(crate) fn effort(&self) -> u64 {
+        self.effort
     }
 
     /// Decides the next variable without a value, as it was last. None where all have values, else the new level.
@@ -102,7 +119,8 @@ impl Course {
         }
     }
 
-    /// So it has those of the clauses that forced these literals, or their negations.
+    /// So it has those of the clauses that forced these literals, or their negations. Then the conflict is over: what is bumped from now on counts
+    /// more.
     pub(crate) fn bump_reasons<S: Store>(&mut self, store: &S, lits: &[Lit])
         requires vars { (S.state store.now).vars ≡ self.old.vars }
         requires have_values { HaveValues self.old.entries lits.now }
@@ -116,6 +134,7 @@ impl Course {
                 self.bump(store.lits(reason));
             }
         }
+        self.order.grow();
     }
 
     /// Has the variables from a number on be decided before the others, those of lesser numbers first.
@@ -176,6 +195,18 @@ impl Course {
     }
 }
 
+// The order by which a searcher of this manner decides.
+fn order_of(alloc: Global, vars: u32, manner: Manner) -> Result<EitherOrder, Memory>
+    requires { vars ≤ Var.MOST }
+    ensures vars { IfOk result (λ order. order.vars ≡ vars) }
+    ensures inside { IfOk result (λ order. order.inside ≡ replicate vars true) }
+{
+    match manner {
+        Manner::Restless => EitherOrder::queue(alloc, vars),
+        Manner::Steady => EitherOrder::heap(alloc, vars),
+    }
+}
+
 // So many values, by variable: those that are given, and false past their end.
 fn first_phases(alloc: Global, vars: u32, given: &[bool]) -> Result<Vec<bool>, Memory>
     ensures len { IfOk result (λ phases. length phases.items ≡ vars) }
@@ -190,7 +221,7 @@ fn first_phases(alloc: Global, vars: u32, given: &[bool]) -> Result<Vec<bool>, M
 
 // Puts the variables whose values go with the levels above this one back into the order, and keeps their values for the
 // next time.
-fn release(order: &mut Order, phases: &mut [bool], trail: &Trail, level: u32)
+fn release(order: &mut EitherOrder, phases: &mut [bool], trail: &Trail, level: u32)
     requires vars { order.old.vars ≡ trail.now.vars }
     requires phases { length phases.old ≡ trail.now.vars }
     requires waiting { AreWaiting trail.now.entries order.old }
@@ -219,7 +250,7 @@ fn is_above(trail: &Trail, lit: Lit, level: u32) -> bool
 }
 
 // Takes variables out of the order up to one that has no value.
-fn next_without_value(order: &mut Order, trail: &Trail) -> Option<Var>
+fn next_without_value(order: &mut EitherOrder, trail: &Trail) -> Option<Var>
     requires vars { trail.now.vars ≡ order.old.vars }
     requires waiting { AreWaiting trail.now.entries order.old }
     ensures vars { order.new.vars ≡ order.old.vars }
@@ -237,7 +268,7 @@ fn next_without_value(order: &mut Order, trail: &Trail) -> Option<Var>
 }
 
 // How many levels a restart leaves.
-fn levels_to_keep(order: &mut Order, trail: &Trail) -> u32
+fn levels_to_keep(order: &mut EitherOrder, trail: &Trail) -> u32
     requires vars { trail.now.vars ≡ order.old.vars }
     requires waiting { AreWaiting trail.now.entries order.old }
     ensures vars { order.new.vars ≡ order.old.vars }
@@ -254,7 +285,7 @@ fn levels_to_keep(order: &mut Order, trail: &Trail) -> u32
 }
 
 // How many levels begin with a decision that comes before a variable, from the first on.
-fn levels_before(order: &Order, trail: &Trail, var: Var) -> u32
+fn levels_before(order: &EitherOrder, trail: &Trail, var: Var) -> u32
     requires vars { trail.now.vars ≡ order.now.vars }
     requires within { var ≤ order.now.vars }
     ensures { result ≤ trail.now.current }

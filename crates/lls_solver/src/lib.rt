@@ -17,9 +17,10 @@ mod rare_restarts;
 mod restarts;
 mod searcher;
 mod solving;
+mod turns;
 mod values;
 
-pub use manner::Manner;
+pub use manner::{Manner, Manners};
 pub use outcome::Outcome;
 pub use searcher::{Searcher, Turn};
 pub use solving::{MOST_BUDGET, solve, solve_from};

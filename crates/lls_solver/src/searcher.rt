@@ -85,7 +85,7 @@ impl<S: Store + Drop> Searcher<S> {
         ensures { IfOk result (λ searcher. IsSearching formula.now [] searcher.store searcher.trail) }
     {
         let vars = formula.vars();
-        let course = Course::new(alloc, vars, phases)?;
+        let course = Course::new(alloc, vars, phases, manner)?;
         let analyser = Analyser::new(alloc, vars)?;
         load(&mut store, &course.trail, formula)?;
         let policy = Policy::new(alloc, vars, store.count() as usize, manner)?;
@@ -161,6 +161,11 @@ impl<S: Store> Searcher<S> {
             conflict,
         )?;
         Ok(Turn::Learnt)
+    }
+
+    /// What its turns took, by the number of literals that unit propagation forced.
+    pub fn effort(&self) -> u64 {
+        self.course.effort()
     }
 
     /// Has the variables from a number on be decided before the others, those of lesser numbers first.

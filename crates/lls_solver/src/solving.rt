@@ -1,16 +1,18 @@
-// The search for an assignment: turns of a searcher, one after the other.
-ghost use Rattle.std.specs.Prelude.{◌≡◌, ◌≤◌, [], Ok};
-ghost use Rattle.lls_solver.specs.Searching.{IsOutcome, IsSearching};
+// The search for an assignment: by one searcher, or by two that take turns.
+ghost use Rattle.std.specs.Prelude.{◌≡◌, ◌≤◌, [], IfOk, Ok, true, false};
+ghost use Rattle.lls_solver.specs.Searching.{IsOutcome, IsSearching, IsUnderWay};
 
-use crate::manner::Manner;
+use crate::manner::{Manner, Manners};
 use crate::outcome::Outcome;
-use crate::searcher::{Searcher, Turn};
+use crate::searcher::Searcher;
+use crate::turns::{Ended, begin, race, take_turns};
 use lls_base::Memory;
 use lls_cnf::Formula;
 use lls_prooflog::Log;
 use lls_store::Store;
 use lls_watch::WatchStore;
 use std::alloc::Global;
+use std::mem::swap;
 
 /// The greatest budget.
 pub const MOST_BUDGET: u32 = 10_000_000;
@@ -31,15 +33,25 @@ pub fn solve(
     requires budget { budget ≤ MOST_BUDGET }
     ensures { IsOutcome formula.now budget keep_all log.new.steps result }
 {
-    solve_from(alloc, formula, &[], budget, keep_all, log)
+    solve_from(
+        alloc,
+        formula,
+        &[],
+        Manners::Alone(Manner::Restless),
+        budget,
+        keep_all,
+        log,
+    )
 }
 
-/// The same search, in which the first decision of each variable gives it the value that stands in `phases`, by variable, and false
-/// past their end: where these are of an assignment that nearly satisfies the formula, the search begins near it.
+/// The same search by these manners, in which the first decision of each variable gives it the value that stands in `phases`, by variable, and
+/// false past their end: where these are of an assignment that nearly satisfies the formula, the search begins near it. Each of two searchers
+/// has the budget, and the log is that of the one that ended, or of the restless one where both spent theirs.
 pub fn solve_from(
     alloc: Global,
     formula: &Formula,
     phases: &[bool],
+    manners: Manners,
     budget: u32,
     keep_all: bool,
     log: &mut Log,
@@ -48,32 +60,140 @@ pub fn solve_from(
     requires budget { budget ≤ MOST_BUDGET }
     ensures { IsOutcome formula.now budget keep_all log.new.steps result }
 {
-    let vars = formula.vars();
-    let store = WatchStore::new(alloc, vars)?;
-    let mut searcher = Searcher::new(alloc, store, formula, phases, Manner::Restless)?;
-    take_turns(alloc, formula, &mut searcher, log, budget, keep_all)
+    let (manner, is_alone) = match manners {
+        Manners::Alone(manner) => (manner, true),
+        Manners::Both => (Manner::Restless, false),
+    };
+    let mut searcher = searcher_of(alloc, formula, phases, manner)?;
+    if is_alone {
+        take_turns(alloc, formula, &mut searcher, log, budget, keep_all)
+    } else {
+        search_by_both(alloc, formula, phases, &mut searcher, budget, keep_all, log)
+    }
 }
 
-// Lets a searcher take turns until every variable has a value, the empty clause is derived, or the budget is spent.
-fn take_turns<S: Store>(
+// A searcher over a formula's clauses.
+fn searcher_of(
+    alloc: Global,
+    formula: &Formula,
+    phases: &[bool],
+    manner: Manner,
+) -> Result<Searcher<WatchStore>, Memory>
+    ensures { IfOk result (λ searcher. IsSearching formula.now [] searcher.store searcher.trail) }
+{
+    let store = WatchStore::new(alloc, formula.vars())?;
+    Searcher::new(alloc, store, formula, phases, manner)
+}
+
+// A restless searcher begins; where it takes long, or has spent its budget, a steady one comes to it.
+fn search_by_both<S: Store>(
+    alloc: Global,
+    formula: &Formula,
+    phases: &[bool],
+    restless: &mut Searcher<S>,
+    budget: u32,
+    keep_all: bool,
+    log: &mut Log,
+) -> Result<Outcome, Memory>
+    requires under_way { IsUnderWay formula.now budget keep_all log.old.steps restless.old }
+    requires budget { budget ≤ MOST_BUDGET }
+    ensures { IsOutcome formula.now budget keep_all log.new.steps result }
+{
+    let is_spent = match begin(alloc, formula, restless, log, budget, keep_all)? {
+        Some(Outcome::Undecided) => true,
+        Some(decided) => return Ok(decided),
+        None => false,
+    };
+    add_steady(
+        alloc, formula, phases, restless, is_spent, budget, keep_all, log,
+    )
+}
+
+// A steady searcher comes to a restless one, and has a log of its own.
+fn add_steady<S: Store>(
+    alloc: Global,
+    formula: &Formula,
+    phases: &[bool],
+    restless: &mut Searcher<S>,
+    is_spent: bool,
+    budget: u32,
+    keep_all: bool,
+    log: &mut Log,
+) -> Result<Outcome, Memory>
+    requires spent { is_spent ≡ true → IsOutcome formula.now budget keep_all log.old.steps (Ok Outcome.Undecided) }
+    requires under_way { is_spent ≡ false → IsUnderWay formula.now budget keep_all log.old.steps restless.old }
+    requires budget { budget ≤ MOST_BUDGET }
+    ensures { IsOutcome formula.now budget keep_all log.new.steps result }
+{
+    let mut steady = searcher_of(alloc, formula, phases, Manner::Steady)?;
+    let mut own = Log::new(alloc);
+    if is_spent {
+        end_by(alloc, formula, &mut steady, &mut own, budget, keep_all, log)
+    } else {
+        go_on_both(
+            alloc,
+            formula,
+            restless,
+            log,
+            &mut steady,
+            &mut own,
+            budget,
+            keep_all,
+        )
+    }
+}
+
+// Lets both go on until one of them has an answer. Who spends the budget leaves the other one alone.
+fn go_on_both<S: Store, T: Store>(
+    alloc: Global,
+    formula: &Formula,
+    restless: &mut Searcher<S>,
+    log: &mut Log,
+    steady: &mut Searcher<T>,
+    own: &mut Log,
+    budget: u32,
+    keep_all: bool,
+) -> Result<Outcome, Memory>
+    requires restless { IsUnderWay formula.now budget keep_all log.old.steps restless.old }
+    requires steady { IsUnderWay formula.now budget keep_all own.old.steps steady.old }
+    requires budget { budget ≤ MOST_BUDGET }
+    ensures { IsOutcome formula.now budget keep_all log.new.steps result }
+{
+    match race(alloc, formula, restless, log, steady, own, budget, keep_all)? {
+        Ended::First(Outcome::Undecided) => {
+            end_by(alloc, formula, steady, own, budget, keep_all, log)
+        }
+        Ended::First(decided) => Ok(decided),
+        Ended::Second(Outcome::Undecided) => {
+            take_turns(alloc, formula, restless, log, budget, keep_all)
+        }
+        Ended::Second(decided) => {
+            swap(log, own);
+            Ok(decided)
+        }
+    }
+}
+
+// Lets a searcher go on to its end over a log of its own, which takes the place of a spent one where it decides.
+fn end_by<S: Store>(
     alloc: Global,
     formula: &Formula,
     searcher: &mut Searcher<S>,
-    log: &mut Log,
+    own: &mut Log,
     budget: u32,
     keep_all: bool,
+    log: &mut Log,
 ) -> Result<Outcome, Memory>
-    requires searching { IsSearching formula.now log.old.steps searcher.old.store searcher.old.trail }
-    requires none { log.old.steps ≡ [] }
+    requires under_way { IsUnderWay formula.now budget keep_all own.old.steps searcher.old }
+    requires spent { IsOutcome formula.now budget keep_all log.old.steps (Ok Outcome.Undecided) }
     requires budget { budget ≤ MOST_BUDGET }
     ensures { IsOutcome formula.now budget keep_all log.new.steps result }
 {
-    loop {
-        match searcher.turn(alloc, formula, log, budget)? {
-            Turn::Complete => return Ok(Outcome::Sat(searcher.assignment(alloc, formula)?)),
-            Turn::Learnt => searcher.tidy(alloc, formula, log, keep_all)?,
-            Turn::Refuted => return Ok(Outcome::Unsat),
-            Turn::Spent => return Ok(Outcome::Undecided),
+    match take_turns(alloc, formula, searcher, own, budget, keep_all)? {
+        Outcome::Undecided => Ok(Outcome::Undecided),
+        decided => {
+            swap(log, own);
+            Ok(decided)
         }
     }
 }

@@ -67,9 +67,9 @@ demand_options = settings.Edge ∷ settings.Symmetry ∷ settings.Period ∷ set
 abbrev pub pattern_options : List Setting
 pattern_options = settings.As ∷ []
 
--- how far a search goes
+-- how far a search goes, and how it goes about it
 abbrev pub effort_options : List Setting
-effort_options = settings.Budget ∷ settings.Keep ∷ []
+effort_options = settings.Budget ∷ settings.Keep ∷ settings.Manner ∷ []
 
 -- how many searchers take turns, and whose turn it is
 abbrev pub crew_options : List Setting
@@ -136,6 +136,7 @@ option_name settings.Differ = codes "differ"
 option_name settings.As = codes "as"
 option_name settings.Budget = codes "budget"
 option_name settings.Keep = codes "keep"
+option_name settings.Manner = codes "manner"
 option_name settings.Crew = codes "crew"
 option_name settings.Turns = codes "turns"
 

@@ -20,6 +20,7 @@ use Rattle.lls_words.specs.declared.command.Setting.{Setting}
 use Rattle.lls_words.specs.declared.command.Setting.TheVariants as settings
 use Rattle.lls_words.specs.declared.settings.Settings.{Settings}
 use Rattle.lls_words.specs.declared.crew_plan.CrewPlan.{CrewPlan}
+use Rattle.lls_words.specs.declared.further.TheConstants.Further.{DEFAULT}
 use Rattle.lls_words.specs.declared.job.Job.{Job}
 use Rattle.lls_words.specs.declared.job.Job.TheVariants as jobs
 use Rattle.lls_words.specs.declared.error.WordsError.{WordsError}
@@ -27,7 +28,7 @@ use Rattle.lls_words.specs.declared.error.WordsError.TheVariants.{NoCommand, Unk
 use Rattle.lls_words.specs.Command.{command_of, operand_count}
 use Rattle.lls_base.specs.Results.{and_then}
 use Rattle.lls_words.specs.Scan.{Operand, Given, scan}
-use Rattle.lls_words.specs.Values.{edge_in, period_in, bounds_in, generations_in, budget_in, keep_all_in, rle_in, form_in, seed_in, size_in, searchers_in, most_budget, most_size, most_searchers, default_budget}
+use Rattle.lls_words.specs.Values.{edge_in, period_in, bounds_in, generations_in, budget_in, keep_all_in, manner_in, rle_in, form_in, seed_in, size_in, searchers_in, most_budget, most_size, most_searchers, default_budget}
 
 -- a rule text at a place
 abbrev pub rule_or : ℕ → Result (List Bool) RuleError → Result (List Bool) WordsError
@@ -65,6 +66,8 @@ setting_value s place text settings.Differ =
     and_then (value_or place (generations_in text)) (λ pair. Ok (with_demands s (record s.demands { differ = Some pair })))
 setting_value s place text settings.Budget = and_then (value_or place (budget_in text)) (λ budget. Ok (record s { budget = budget }))
 setting_value s place text settings.Keep = and_then (value_or place (keep_all_in text)) (λ keep_all. Ok (record s { keep_all = keep_all }))
+setting_value s place text settings.Manner =
+    and_then (value_or place (manner_in text)) (λ manner. Ok (record s { further = record s.further { manner = manner } }))
 setting_value s place text settings.As = and_then (value_or place (rle_in text)) (λ rle. Ok (record s { rle = rle }))
 setting_value s place text settings.Formula = and_then (value_or place (form_in text)) (λ form. Ok (record s { form = form }))
 setting_value s place text settings.Crew = and_then (value_or place (searchers_in text)) (λ searchers. Ok (record s { crew = Some searchers }))
@@ -84,9 +87,9 @@ abbrev pub life : List Bool
 life = table_of (by_counts 8 12)
 
 -- Life for each rule, under a closed edge, and nothing else demanded; half of the learnt clauses are kept, patterns are
--- rows, and formulas are by cover; there is one searcher, and turns would be drawn from 0
+-- rows, and formulas are by cover; there is no crew, and turns would be drawn from 0; a search is restless
 abbrev pub defaults : Settings
-defaults = record { rule = life; low = life; high = life; demands = edge_alone Framed; budget = default_budget; keep_all = false; rle = false; form = Cover; crew = None; turns = 0 }
+defaults = record { rule = life; low = life; high = life; demands = edge_alone Framed; budget = default_budget; keep_all = false; rle = false; form = Cover; crew = None; turns = 0; further = DEFAULT }
 
 -- the names of a file and of one that is written later, which have to differ
 abbrev pub names_apart : Operand → Operand → Result (List ℕ × List ℕ) WordsError
@@ -112,14 +115,14 @@ job_with commands.Check (search_file ∷ proof ∷ []) givens =
     and_then (settled defaults givens) (λ s. Ok (jobs.Check search_file.word proof.word s.rule s.demands s.form))
 job_with commands.Search (search_file ∷ proof ∷ []) givens =
     and_then (settled defaults givens) (λ s.
-    and_then (names_apart search_file proof) (λ names. Ok (jobs.Search names.0 names.1 s.rule s.demands s.form s.budget s.keep_all s.rle (crew_of s))))
+    and_then (names_apart search_file proof) (λ names. Ok (jobs.Search names.0 names.1 s.rule s.demands s.form s.budget s.keep_all s.rle (crew_of s) s.further)))
 job_with commands.Judge (search_file ∷ pattern ∷ []) givens =
     and_then (settled defaults givens) (λ s. Ok (jobs.Judge search_file.word pattern.word s.rule s.demands s.rle))
 job_with commands.Cnf (search_file ∷ []) givens =
     and_then (settled defaults givens) (λ s. Ok (jobs.Cnf search_file.word s.rule s.demands s.form))
 job_with commands.Sat (formula ∷ proof ∷ []) givens =
     and_then (settled defaults givens) (λ s.
-    and_then (names_apart formula proof) (λ names. Ok (jobs.Sat names.0 names.1 s.budget s.keep_all)))
+    and_then (names_apart formula proof) (λ names. Ok (jobs.Sat names.0 names.1 s.budget s.keep_all s.further)))
 job_with commands.Lrat (formula ∷ proof ∷ []) givens = Ok (jobs.Lrat formula.word proof.word)
 job_with commands.Rule (text ∷ []) givens = and_then (rule_at text.place text.word) (λ rule. Ok (jobs.Rule rule))
 job_with commands.Make (seed ∷ size ∷ search_file ∷ proof ∷ []) givens =
@@ -128,11 +131,11 @@ job_with commands.Make (seed ∷ size ∷ search_file ∷ proof ∷ []) givens =
     and_then (names_apart search_file proof) (λ names. Ok (jobs.Make number rows names.0 names.1))))
 job_with commands.Least (search_file ∷ proof ∷ []) givens =
     and_then (settled defaults givens) (λ s.
-    and_then (names_apart search_file proof) (λ names. Ok (jobs.Least names.0 names.1 s.rule s.demands s.form s.budget s.keep_all s.rle)))
+    and_then (names_apart search_file proof) (λ names. Ok (jobs.Least names.0 names.1 s.rule s.demands s.form s.budget s.keep_all s.rle s.further)))
 job_with commands.Open (search_file ∷ proof ∷ []) givens =
     and_then (settled defaults givens) (λ s.
     and_then (names_apart search_file proof) (λ names.
-    and_then (checked_ends s.low s.high) (λ _. Ok (jobs.Loose names.0 names.1 s.low s.high s.demands s.form s.budget s.keep_all s.rle))))
+    and_then (checked_ends s.low s.high) (λ _. Ok (jobs.Loose names.0 names.1 s.low s.high s.demands s.form s.budget s.keep_all s.rle s.further))))
 job_with commands.OpenCheck (search_file ∷ proof ∷ []) givens =
     and_then (settled defaults givens) (λ s.
     and_then (checked_ends s.low s.high) (λ _. Ok (jobs.LooseCheck search_file.word proof.word s.low s.high s.demands s.form)))
@@ -185,14 +188,14 @@ pub record AreSettled (s : Settings) : Type 0 where
 -- rules leave a question open
 abbrev pub KeepsLimits : Job → Type 0
 KeepsLimits (jobs.Check search_file proof rule demands form) = AreWithinLimits demands
-KeepsLimits (jobs.Search search_file proof rule demands form budget keep_all rle crew) = AreAllowed rule demands budget × ForSome crew IsCrew
+KeepsLimits (jobs.Search search_file proof rule demands form budget keep_all rle crew further) = AreAllowed rule demands budget × ForSome crew IsCrew
 KeepsLimits (jobs.Judge search_file pattern rule demands rle) = AreWithinLimits demands
 KeepsLimits (jobs.Cnf search_file rule demands form) = AreWithinLimits demands
-KeepsLimits (jobs.Sat formula proof budget keep_all) = budget ≤ most_budget
+KeepsLimits (jobs.Sat formula proof budget keep_all further) = budget ≤ most_budget
 KeepsLimits (jobs.Lrat formula proof) = Unit {0}
 KeepsLimits (jobs.Rule rule) = IsIsotropic rule
 KeepsLimits (jobs.Make seed size search_file proof) = (1 ≤ size) × (size ≤ most_size)
-KeepsLimits (jobs.Least search_file proof rule demands form budget keep_all rle) = AreAllowed rule demands budget
-KeepsLimits (jobs.Loose search_file proof low high demands form budget keep_all rle) = AreOpen low high demands × (budget ≤ most_budget)
+KeepsLimits (jobs.Least search_file proof rule demands form budget keep_all rle further) = AreAllowed rule demands budget
+KeepsLimits (jobs.Loose search_file proof low high demands form budget keep_all rle further) = AreOpen low high demands × (budget ≤ most_budget)
 KeepsLimits (jobs.LooseCheck search_file proof low high demands form) = AreOpen low high demands
 KeepsLimits (jobs.Trim formula proof output) = Unit {0}

@@ -14,6 +14,8 @@ use Rattle.lls_problem.specs.declared.demands.Period.{Period}
 use Rattle.lls_problem.specs.declared.form.Form.{Form}
 use Rattle.lls_problem.specs.declared.form.Form.TheVariants.{Rows, Cover}
 use Rattle.lls_problem.specs.Bounds.{most_end}
+use Rattle.lls_words.specs.declared.further.Manner.{Manner}
+use Rattle.lls_words.specs.declared.further.Manner.TheVariants as manners
 use Rattle.lls_words.specs.Items.{is_dash}
 
 abbrev pub edge_in : List ℕ → Option Edge
@@ -89,6 +91,13 @@ abbrev pub keep_all_in : List ℕ → Option Bool
 keep_all_in text =
     if bytes_eq text (codes "all") then Some true else
     if bytes_eq text (codes "half") then Some false else None
+
+-- a manner, by its name
+abbrev pub manner_in : List ℕ → Option Manner
+manner_in text =
+    if bytes_eq text (codes "restless") then Some manners.Restless else
+    if bytes_eq text (codes "steady") then Some manners.Steady else
+    if bytes_eq text (codes "both") then Some manners.Both else None
 
 -- whether patterns are RLE
 abbrev pub rle_in : List ℕ → Option Bool

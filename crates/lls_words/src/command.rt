@@ -37,6 +37,7 @@ pub enum Setting {
     As,
     Budget,
     Keep,
+    Manner,
     Crew,
     Turns,
 }
@@ -142,13 +143,13 @@ impl Command {
         match self {
             Command::Search => &Setting::ALL[Setting::Formula as usize..],
             Command::Least | Command::Open => {
-                &Setting::ALL[Setting::Formula as usize..=Setting::Keep as usize]
+                &Setting::ALL[Setting::Formula as usize..=Setting::Manner as usize]
             }
             Command::Check | Command::Cnf | Command::OpenCheck => {
                 &Setting::ALL[Setting::Formula as usize..=Setting::Differ as usize]
             }
             Command::Judge => &Setting::ALL[Setting::Edge as usize..=Setting::As as usize],
-            Command::Sat => &Setting::ALL[Setting::Budget as usize..=Setting::Keep as usize],
+            Command::Sat => &Setting::ALL[Setting::Budget as usize..=Setting::Manner as usize],
             Command::Lrat | Command::Rule | Command::Make | Command::Trim => &[],
         }
     }
@@ -170,7 +171,7 @@ fn is_among(options: &[Setting], setting: Setting) -> bool
 
 impl Setting {
     // The table of options.
-    const ALL: [Setting; 14] = [
+    const ALL: [Setting; 15] = [
         Setting::Rule,
         Setting::Low,
         Setting::High,
@@ -183,6 +184,7 @@ impl Setting {
         Setting::As,
         Setting::Budget,
         Setting::Keep,
+        Setting::Manner,
         Setting::Crew,
         Setting::Turns,
     ];
@@ -204,6 +206,7 @@ impl Setting {
             Setting::As => "as",
             Setting::Budget => "budget",
             Setting::Keep => "keep",
+            Setting::Manner => "manner",
             Setting::Crew => "crew",
             Setting::Turns => "turns",
         }

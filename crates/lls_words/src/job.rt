@@ -1,5 +1,6 @@
 // What a command line asks for.
 use crate::crew_plan::CrewPlan;
+use crate::further::Further;
 use lls_base::Name;
 use lls_problem::{Demands, Form};
 use lls_rule::Rule;
@@ -32,6 +33,7 @@ pub enum Job {
         rle: bool,
         /// The searchers that take turns, where there are several.
         crew: Option<CrewPlan>,
+        further: Further,
     },
     /// Judge a pattern against a search file.
     Judge {
@@ -58,6 +60,7 @@ pub enum Job {
         budget: u32,
         /// Whether no learnt clause may be deleted.
         keep_all: bool,
+        further: Further,
     },
     /// Check a proof against a formula.
     Lrat {
@@ -91,6 +94,7 @@ pub enum Job {
         keep_all: bool,
         /// Whether the solution is printed as RLE, and not as rows.
         rle: bool,
+        further: Further,
     },
     /// Look for a solution by some rule between two, or write a proof that there is none.
     Loose {
@@ -109,6 +113,7 @@ pub enum Job {
         keep_all: bool,
         /// Whether the solution is printed as RLE, and not as rows.
         rle: bool,
+        further: Further,
     },
     /// Check a proof of absence by each rule between two against a search file.
     LooseCheck {

@@ -126,6 +126,7 @@ pub fn search_job(
         form,
         crew,
         turns,
+        further,
         ..
     } = settings;
     Ok(Job::Search {
@@ -138,6 +139,7 @@ pub fn search_job(
         keep_all,
         rle,
         crew: crew_of(crew, turns),
+        further,
     })
 }
 
@@ -204,6 +206,7 @@ pub fn sat_job(
     let Settings {
         budget,
         keep_all,
+        further,
         ..
     } = settings;
     Ok(Job::Sat {
@@ -211,6 +214,7 @@ pub fn sat_job(
         proof,
         budget,
         keep_all,
+        further,
     })
 }
 
@@ -272,6 +276,7 @@ pub fn least_job(
         keep_all,
         rle,
         form,
+        further,
         ..
     } = settings;
     Ok(Job::Least {
@@ -283,6 +288,7 @@ pub fn least_job(
         budget,
         keep_all,
         rle,
+        further,
     })
 }
 
@@ -307,6 +313,7 @@ pub fn open_job(
         keep_all,
         rle,
         form,
+        further,
         ..
     } = settings;
     Ok(Job::Loose {
@@ -319,6 +326,7 @@ pub fn open_job(
         budget,
         keep_all,
         rle,
+        further,
     })
 }
 

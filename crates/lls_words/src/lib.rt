@@ -5,6 +5,7 @@ mod canonical;
 mod command;
 mod crew_plan;
 mod error;
+mod further;
 mod item;
 mod items;
 mod job;
@@ -17,6 +18,7 @@ mod words;
 
 pub use crew_plan::CrewPlan;
 pub use error::WordsError;
+pub use further::{Further, Manner};
 pub use job::Job;
 pub use values::{DEFAULT_BUDGET, MOST_BUDGET, MOST_SEARCHERS};
 pub use words::read_job;

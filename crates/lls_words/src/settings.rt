@@ -10,10 +10,11 @@ ghost use Rattle.lls_words.specs.Seen.{seen_given};
 
 use crate::command::Setting;
 use crate::error::WordsError;
+use crate::further::Further;
 use crate::scan::Given;
 use crate::values::{
     DEFAULT_BUDGET, MOST_BUDGET, MOST_SEARCHERS, bounds_in, budget_in, edge_in, form_in,
-    generations_in, keep_all_in, period_in, rle_in, searchers_in, seed_in,
+    generations_in, keep_all_in, manner_in, period_in, rle_in, searchers_in, seed_in,
 };
 use lls_hensel::read_rule;
 use lls_problem::{Bounds, Demands, Edge, Form, Period};
@@ -36,11 +37,12 @@ pub struct Settings {
     pub crew: Option<u32>,
     /// The number from which is drawn whose turn it is.
     pub turns: u64,
+    pub further: Further,
 }
 
 impl Settings {
     // Life, `B3/S23`, for each rule, under a closed edge, with no other demand; the default budget, half of the learnt clauses
-    // kept, and patterns as rows; formulas by cover; one searcher, and turns that are drawn from 0.
+    // kept, and patterns as rows; formulas by cover; no crew, and turns that are drawn from 0; a restless search.
     fn default_values(alloc: Global) -> Settings
         ensures value { result ≡ defaults }
         ensures allowed { AreSettled result }
@@ -57,6 +59,7 @@ impl Settings {
             form: Form::Cover,
             crew: None,
             turns: 0,
+            further: Further::DEFAULT,
         }
     }
 
@@ -84,6 +87,7 @@ impl Settings {
             }
             Setting::Budget => settings.budget = budget_at(given.place, value)?,
             Setting::Keep => settings.keep_all = keep_all_in(value).ok_or(fault)?,
+            Setting::Manner => settings.further.manner = manner_in(value).ok_or(fault)?,
             Setting::As => settings.rle = rle_in(value).ok_or(fault)?,
             Setting::Formula => settings.form = form_in(value).ok_or(fault)?,
             Setting::Crew => settings.crew = Some(searchers_at(given.place, value)?),

@@ -4,9 +4,10 @@ ghost use Rattle.std.specs.Option.{ForSome, option_map};
 ghost use Rattle.lls_grid.specs.Place.{IsWithin};
 ghost use Rattle.lls_problem.specs.Bounds.{HasEnds};
 ghost use Rattle.lls_problem.specs.Problem.{IsPeriod};
-ghost use Rattle.lls_words.specs.Values.{edge_in, budget_in, seed_in, size_in, searchers_in, keep_all_in, rle_in, form_in, cut_at, number_in, shift_in, period_in, generation_in, generations_in, low_in, high_in, bound_in, bounds_in};
+ghost use Rattle.lls_words.specs.Values.{edge_in, budget_in, seed_in, size_in, searchers_in, keep_all_in, manner_in, rle_in, form_in, cut_at, number_in, shift_in, period_in, generation_in, generations_in, low_in, high_in, bound_in, bounds_in};
 ghost use Rattle.lls_words.specs.Seen.{seen_pair};
 
+use crate::further::Manner;
 use lls_grid::History;
 use lls_problem::{Bound, Bounds, Edge, Form, Period};
 use lls_symmetry::{MOST_PERIOD, MOST_SHIFT};
@@ -108,6 +109,21 @@ pub fn keep_all_in(text: &[u8]) -> Option<bool>
         Some(true)
     } else if text == b"half".as_slice() {
         Some(false)
+    } else {
+        None
+    }
+}
+
+/// The manner that a text says.
+pub fn manner_in(text: &[u8]) -> Option<Manner>
+    ensures { result ≡ manner_in text.now }
+{
+    if text == b"restless".as_slice() {
+        Some(Manner::Restless)
+    } else if text == b"steady".as_slice() {
+        Some(Manner::Steady)
+    } else if text == b"both".as_slice() {
+        Some(Manner::Both)
     } else {
         None
     }

@@ -134,7 +134,7 @@ impl Script {
     // Whether the arena has the clauses of the list.
     fn compare(&self, rt: &impl Abort, alloc: Global) -> Result<(), Fail> {
         let count = self.arena.count();
-        assert_eq!(rt; count as usize, self.list.len());
+        assert!(rt; count as usize == self.list.len());
         for (c, kept) in self.list.iter().enumerate() {
             if c < count as usize {
                 let head = (

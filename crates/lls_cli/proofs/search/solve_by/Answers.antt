@@ -6,14 +6,14 @@ crew-requires-clause-none c = c.requires.none
 pub crew-requires-clause-budget : goal.crew-requires-clause-budget
 crew-requires-clause-budget c = c.requires.budget
 
-pub solve-requires-clause-none : goal.solve-requires-clause-none
-solve-requires-clause-none c = c.requires.none
+pub solve_from-requires-clause-none : goal.solve_from-requires-clause-none
+solve_from-requires-clause-none c = c.requires.none
 
-pub solve-requires-clause-budget : goal.solve-requires-clause-budget
-solve-requires-clause-budget c = c.requires.budget
+pub solve_from-requires-clause-budget : goal.solve_from-requires-clause-budget
+solve_from-requires-clause-budget c = c.requires.budget
 
 pub returns-in-Some : goal.returns-in-Some
 returns-in-Some c = c.crew.ensures.right
 
 pub returns-in-None : goal.returns-in-None
-returns-in-None c = c.solve.ensures
+returns-in-None c = c.solve_from.ensures

@@ -1,4 +1,4 @@
-use Rattle.std.proofs.Common.{refl, rules, sym, ap, ◌∙◌}
+use Rattle.std.proofs.Common.{refl, sym, ap, ◌∙◌}
 use Rattle.std.specs.Prelude.{Ok}
 use Rattle.lls_crew.specs.Crew.{unplayed}
 use Rattle.lls_crew.specs.Turns.{TurnsState}

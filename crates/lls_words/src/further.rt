@@ -1,0 +1,25 @@
+// What a search is told besides its budget and what it keeps.
+
+/// By which manner a search goes about it.
+#[derive(Clone, Copy, Debug, PartialEq, Eq)]
+pub enum Manner {
+    /// By one searcher that restarts often.
+    Restless,
+    /// By one that restarts rarely.
+    Steady,
+    /// By one of each, in turns.
+    Both,
+}
+
+/// What a search is told besides its budget and what it keeps. Each value has a default.
+#[derive(Clone, Copy, Debug, PartialEq, Eq)]
+pub struct Further {
+    pub manner: Manner,
+}
+
+impl Further {
+    /// What a search is told where the words say nothing of it.
+    pub const DEFAULT: Further = Further {
+        manner: Manner::Restless,
+    };
+}
