@@ -28,3 +28,4 @@ pub mod Ends
 pub mod Claims
 pub mod Run
 pub mod Steps
+pub mod Manners

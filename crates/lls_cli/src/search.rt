@@ -7,6 +7,7 @@ ghost use Rattle.lls_words.specs.Job.{IsCrew};
 ghost use Rattle.lls_cli.specs.Questions as questions;
 ghost use Rattle.lls_cli.specs.Answer.{IsAnswer};
 ghost use Rattle.lls_cli.specs.Subject.{CanBePrinted};
+ghost use Rattle.lls_cli.specs.Manners.{manners_said};
 
 use crate::answer::Answer;
 use crate::effort::Effort;
@@ -24,7 +25,9 @@ use lls_words::{CrewPlan, Manner};
 use std::alloc::Global;
 
 /// The manners that words say.
-pub fn manners_of(manner: Manner) -> Manners {
+pub fn manners_of(manner: Manner) -> Manners
+    ensures { result ≡ manners_said manner }
+{
     match manner {
         Manner::Restless => Manners::Alone(SearcherManner::Restless),
         Manner::Steady => Manners::Alone(SearcherManner::Steady),

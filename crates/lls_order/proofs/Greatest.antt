@@ -6,7 +6,6 @@ use Rattle.std.proofs.lemmas.Bool.Decides.{nat_tests}
 use Rattle.std.proofs.lemmas.List.{length-map, get_or_past}
 use Rattle.lls_lit.specs.declared.var.TheConstants.Var.{MOST}
 use Rattle.lls_order.specs.Order.{ComesBefore, IsEmpty, IsGreatest, is_in}
-use Rattle.lls_order.specs.HeapOrder.{shown}
 use Rattle.lls_order.specs.Heap.{AreParts, IsHeap, inside_of, heap_in, parent_of, rank_of, ranks}
 use Rattle.lls_order.proofs.Inside.{get_or-inside_of, is_below, not_below}
 use Rattle.lls_order.proofs.Sifts.{parent_of-lt}
@@ -36,7 +35,7 @@ by_rank x y u g u_fits g_fits apart le = elim (cases_lt x y) [
 ]
 
 -- a variable is in where its number stands at the first places
-is_in-inside : (vars count amount : ℕ) (activities places : List ℕ) (u : ℕ) → u < length places → is_in (shown (heap_in vars activities count places amount)) (suc u) ≡ nat_lt (get_or places u 0) count
+is_in-inside : (vars count amount : ℕ) (activities places : List ℕ) (u : ℕ) → u < length places → is_in (heap_in vars activities count places amount).order (suc u) ≡ nat_lt (get_or places u 0) count
 is_in-inside vars count amount activities places u within = get_or-inside_of count places u within
 
 below_of : (a c : ℕ) → nat_lt a c ≡ true → a < c
@@ -47,7 +46,7 @@ pub record HasPlace (count : ℕ) (places : List ℕ) (u : ℕ) : Type 0 where
   pub fits : u < length places
   pub before : get_or places u 0 < count
 
-has_place : (vars count amount : ℕ) (activities places : List ℕ) (u : ℕ) → is_in (shown (heap_in vars activities count places amount)) (suc u) ≡ true → HasPlace count places u
+has_place : (vars count amount : ℕ) (activities places : List ℕ) (u : ℕ) → is_in (heap_in vars activities count places amount).order (suc u) ≡ true → HasPlace count places u
 has_place vars count amount activities places u is = elim (cases_lt u (length places)) [
   | inl within ↦ record { fits = within; before = below_of (get_or places u 0) count (sym (is_in-inside vars count amount activities places u within) ∙ is) }
   | inr past ↦ absurd (false≢true (sym (get_or_past (inside_of count places) u false (omega (arith, past, length-map places (λ place. nat_lt place count)))) ∙ is))
@@ -57,17 +56,17 @@ module _ (vars count amount : ℕ) (activities heap places : List ℕ) (h : AreP
   place_each : length places ≡ vars
   place_each = h.tables.inverse.place_each ∙ h.tables.number_each ∙ h.activity_each
 
-  pub first_is_in : (v : ℕ) → 0 < count → v ≡ get_or heap 0 0 + 1 → is_in (shown (heap_in vars activities count places amount)) v ≡ true
+  pub first_is_in : (v : ℕ) → 0 < count → v ≡ get_or heap 0 0 + 1 → is_in (heap_in vars activities count places amount).order v ≡ true
   first_is_in v some at =
       let g = get_or heap 0 0 in
-      let P : ℕ → Type 0 = λ n. is_in (shown (heap_in vars activities count places amount)) n ≡ true in
+      let P : ℕ → Type 0 = λ n. is_in (heap_in vars activities count places amount).order n ≡ true in
       let number : length heap ≡ vars = h.tables.number_each ∙ h.activity_each in
       let some_number : 0 < length heap = omega (arith, some, h.within, number) in
       let within : g < length places = omega (arith, h.tables.inverse.number_fits 0 some_number, place_each, number) in
       let place : get_or places g 0 ≡ 0 = h.tables.inverse.place_back 0 some_number in
       subst P (sym (at ∙ add-one g)) (is_in-inside vars count amount activities places g within ∙ is_below (get_or places g 0) count (omega (arith, place, some)))
 
-  others_after : (v w : ℕ) → 0 < count → v ≡ get_or heap 0 0 + 1 → is_in (shown (heap_in vars activities count places amount)) w ≡ true → w ≢ v → ComesBefore (shown (heap_in vars activities count places amount)) v w
+  others_after : (v w : ℕ) → 0 < count → v ≡ get_or heap 0 0 + 1 → is_in (heap_in vars activities count places amount).order w ≡ true → w ≢ v → ComesBefore (heap_in vars activities count places amount).order v w
   others_after v zero some at stands other = absurd (false≢true stands)
   others_after v (suc u) some at stands other =
       let g = get_or heap 0 0 in
@@ -86,13 +85,13 @@ module _ (vars count amount : ℕ) (activities heap places : List ℕ) (h : AreP
         | inr t ↦ inr (activity ∙ t.0 ∙ sym its_activity, omega (arith, at, t.1))
       ]
 
-  pub first_is_greatest : (v : ℕ) → 0 < count → v ≡ get_or heap 0 0 + 1 → IsGreatest (shown (heap_in vars activities count places amount)) v
+  pub first_is_greatest : (v : ℕ) → 0 < count → v ≡ get_or heap 0 0 + 1 → IsGreatest (heap_in vars activities count places amount).order v
   first_is_greatest v some at = record { stands = first_is_in v some at; first = λ w stands other. others_after v w some at stands other }
 
 -- where the cut is before the first place, no variable is in
-pub none_in : (vars count amount : ℕ) (activities places : List ℕ) → count ≡ 0 → IsEmpty (shown (heap_in vars activities count places amount))
+pub none_in : (vars count amount : ℕ) (activities places : List ℕ) → count ≡ 0 → IsEmpty (heap_in vars activities count places amount).order
 none_in vars count amount activities places none = each where
-  each : (v : ℕ) → is_in (shown (heap_in vars activities count places amount)) v ≡ false
+  each : (v : ℕ) → is_in (heap_in vars activities count places amount).order v ≡ false
   each zero = refl
   each (suc u) = elim (cases_lt u (length places)) [
     | inl within ↦ get_or-inside_of count places u within ∙ not_below (get_or places u 0) count (omega (arith, none))

@@ -9,7 +9,7 @@ use Rattle.std.proofs.lemmas.Bool.Decides.{eqb_tells}
 use Rattle.lls_lit.specs.declared.var.TheConstants.Var.{MOST}
 use Rattle.lls_order.specs.declared.order.TheConstants.{MOST_ACTIVITY}
 use Rattle.lls_order.specs.Order.{is_in}
-use Rattle.lls_order.specs.HeapOrder.{HeapState, put_in, shown}
+use Rattle.lls_order.specs.HeapOrder.{HeapState, put_in}
 use Rattle.lls_order.specs.Heap.{AreTables, AreParts, IsHeap, IsHeapButAt, inside_of, parent_of, rank_of, ranks}
 use Rattle.lls_order.proofs.Inside.{inside_of-is, get_or-inside_of, is_below}
 use Rattle.lls_order.proofs.Sifts.{parent_of-lt}
@@ -130,8 +130,8 @@ module _ (vars count amount v : ℕ) (activities heap places : List ℕ) (h : Ar
       record { few = omega (arith, same, h.tables.few); number_each = h.tables.number_each ∙ sym same; inverse = h.tables.inverse }
 
 -- what is put in is in
-pub is_in-put_in : (o : HeapState) (v : ℕ) → 1 ≤ v → v ≤ length o.inside → is_in (shown (put_in o v)) v ≡ true
+pub is_in-put_in : (o : HeapState) (v : ℕ) → 1 ≤ v → v ≤ length o.order.inside → is_in (put_in o v).order v ≡ true
 is_in-put_in o zero some within = absurd (omega (arith, some))
 is_in-put_in o (suc n) some within =
     let place : suc n - 1 ≡ n = omega arith in
-    rw place (get_or-set_same o.inside n true false (omega (arith, within)))
+    rw place (get_or-set_same o.order.inside n true false (omega (arith, within)))

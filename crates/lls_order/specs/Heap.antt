@@ -67,7 +67,7 @@ abbrev pub SameInside : ℕ → List ℕ → List ℕ → Type 0
 SameInside at old new = (count : ℕ) → at < count → inside_of count new ≡ inside_of count old
 
 abbrev pub heap_in : ℕ → List ℕ → ℕ → List ℕ → ℕ → HeapState
-heap_in vars activities count places amount = record { vars = vars; activities = activities; inside = inside_of count places; amount = amount }
+heap_in vars activities count places amount = record { order = record { vars = vars; activities = activities; inside = inside_of count places; top = MOST_ACTIVITY }; amount = amount }
 
 -- what holds of the parts of an order
 pub record AreParts (vars : ℕ) (activities : List ℕ) (count : ℕ) (heap places : List ℕ) (amount : ℕ) : Type 0 where

@@ -1,8 +1,9 @@
 //! An order of decisions of either kind.
-ghost use Rattle.std.specs.Prelude.{◌≡◌, ◌≤◌, ◌↔◌, true, IfNone, IfOk, IfSome};
+ghost use Rattle.std.specs.Prelude.{◌≡◌, ◌≤◌, ◌↔◌, None, true, IfNone, IfOk, IfSome};
 ghost use Rattle.lls_order.specs.Order.{is_in, ComesBefore, IsEmpty, IsGreatest};
-ghost use Rattle.lls_order.specs.Changes.{new_order, put_in, taken_out};
-ghost use Rattle.lls_order.specs.HeapOrder.{new_heap, shown};
+ghost use Rattle.lls_order.specs.Changes.{new_order};
+ghost use Rattle.lls_order.specs.HeapOrder.{new_heap};
+ghost use Rattle.lls_order.specs.EitherOrder.{bumped, grown, of_heap, put_in, taken_out};
 
 use crate::heap_order::HeapOrder;
 use crate::order::Order;
@@ -17,26 +18,26 @@ enum Kind {
     Heap(HeapOrder),
 }
 
-/// An [`Order`] or a [`HeapOrder`]. Seen as an order; a bump changes activities alone.
+/// An [`Order`] or a [`HeapOrder`]: seen as an order, and what a bump adds where it is a heap.
 #[derive(Debug, Drop)]
 pub struct EitherOrder {
     kind: Kind,
 }
 
 impl Model for EitherOrder {
-    ghost use Rattle.lls_order.specs.Order.{OrderState};
-    ghost use Rattle.lls_order.specs.EitherOrder.{order_of};
+    ghost use Rattle.lls_order.specs.EitherOrder.{EitherState, state_of};
 
-    ghost Value = { OrderState };
+    ghost Value = { EitherState };
 
-    ghost view = { λ o. order_of o.kind };
+    ghost view = { λ o. state_of o.kind };
 }
 
 impl EitherOrder {
     /// All variables up to `vars`, without activity, in a queue.
     pub fn queue(alloc: Global, vars: u32) -> Result<EitherOrder, Memory>
         requires { vars ≤ Var.MOST }
-        ensures { IfOk result (λ order. order ≡ new_order vars) }
+        ensures order { IfOk result (λ order. order.order ≡ new_order vars) }
+        ensures amount { IfOk result (λ order. order.amount ≡ None) }
     {
         let order = Order::new(alloc, vars)?;
         Ok(EitherOrder {
@@ -47,7 +48,7 @@ impl EitherOrder {
     /// All variables up to `vars`, without activity, in a heap.
     pub fn heap(alloc: Global, vars: u32) -> Result<EitherOrder, Memory>
         requires { vars ≤ Var.MOST }
-        ensures { IfOk result (λ order. order ≡ shown (new_heap vars)) }
+        ensures { IfOk result (λ order. order ≡ of_heap (new_heap vars)) }
     {
         let order = HeapOrder::new(alloc, vars)?;
         Ok(EitherOrder {
@@ -57,7 +58,7 @@ impl EitherOrder {
 
     /// The greatest variable.
     pub fn vars(&self) -> u32
-        ensures vars { result ≡ self.now.vars }
+        ensures vars { result ≡ self.now.order.vars }
         ensures most { result ≤ Var.MOST }
     {
         match &self.kind {
@@ -68,9 +69,9 @@ impl EitherOrder {
 
     /// Whether the first has more activity, or as much and the smaller number.
     pub fn comes_before(&self, first: Var, second: Var) -> bool
-        requires first { first ≤ self.now.vars }
-        requires second { second ≤ self.now.vars }
-        ensures { (result ≡ true) ↔ ComesBefore self.now first second }
+        requires first { first ≤ self.now.order.vars }
+        requires second { second ≤ self.now.order.vars }
+        ensures { (result ≡ true) ↔ ComesBefore self.now.order first second }
     {
         match &self.kind {
             Kind::Queue(order) => order.comes_before(first, second),
@@ -80,9 +81,9 @@ impl EitherOrder {
 
     /// Takes out the variable of the greatest activity, of equal ones the least: None exactly where none is in.
     pub fn pop_greatest(&mut self) -> Option<Var>
-        ensures greatest { IfSome result (IsGreatest self.old) }
-        ensures within { IfSome result (λ v. v ≤ self.old.vars) }
-        ensures none { (result ≡ None) ↔ IsEmpty self.old }
+        ensures greatest { IfSome result (IsGreatest self.old.order) }
+        ensures within { IfSome result (λ v. v ≤ self.old.order.vars) }
+        ensures none { (result ≡ None) ↔ IsEmpty self.old.order }
         ensures out { IfSome result (λ v. self.new ≡ taken_out self.old v) }
         ensures same { IfNone result (self.new ≡ self.old) }
     {
@@ -94,9 +95,9 @@ impl EitherOrder {
 
     /// Puts a variable in where it isn't.
     pub fn put_back(&mut self, var: Var)
-        requires { var ≤ self.old.vars }
+        requires { var ≤ self.old.order.vars }
         ensures put_in { self.new ≡ put_in self.old var }
-        ensures stands { is_in self.new var ≡ true }
+        ensures stands { is_in self.new.order var ≡ true }
     {
         match &mut self.kind {
             Kind::Queue(order) => order.put_back(var),
@@ -104,11 +105,12 @@ impl EitherOrder {
         }
     }
 
-    /// Adds to a variable's activity what the order chooses.
+    /// Adds to a variable's activity what its kind of order chooses.
     pub fn bump(&mut self, var: Var)
-        requires { var ≤ self.old.vars }
-        ensures vars { self.new.vars ≡ self.old.vars }
-        ensures inside { self.new.inside ≡ self.old.inside }
+        requires { var ≤ self.old.order.vars }
+        ensures bumped { self.new ≡ bumped self.old var }
+        ensures vars { self.new.order.vars ≡ self.old.order.vars }
+        ensures inside { self.new.order.inside ≡ self.old.order.inside }
     {
         match &mut self.kind {
             Kind::Queue(order) => order.bump(var),
@@ -118,8 +120,9 @@ impl EitherOrder {
 
     /// What is bumped from now on counts more: in a heap by a greater amount, and in a queue it comes first anyway.
     pub fn grow(&mut self)
-        ensures vars { self.new.vars ≡ self.old.vars }
-        ensures inside { self.new.inside ≡ self.old.inside }
+        ensures grown { self.new ≡ grown self.old }
+        ensures vars { self.new.order.vars ≡ self.old.order.vars }
+        ensures inside { self.new.order.inside ≡ self.old.order.inside }
     {
         match &mut self.kind {
             Kind::Queue(_) => {}

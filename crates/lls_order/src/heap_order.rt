@@ -1,7 +1,7 @@
 //! An order of decisions by activities that decay.
 ghost use Rattle.std.specs.Prelude.{◌≡◌, ◌<◌, ◌≤◌, ◌↔◌, ◌+◌, ◌/◌, ◌^◌, true, map, IfNone, IfOk, IfSome};
 ghost use Rattle.lls_order.specs.Order.{activity_of, is_in, ComesBefore, IsEmpty, IsGreatest};
-ghost use Rattle.lls_order.specs.HeapOrder.{bumped, grown, new_heap, put_in, raised, scaled_down, shown, taken_out};
+ghost use Rattle.lls_order.specs.HeapOrder.{bumped, grown, new_heap, put_in, raised, scaled_down, taken_out};
 
 use crate::heap::{insert_from, make_heap, numbers_below, outranks, remove_first, sift_up};
 use crate::order::MOST_ACTIVITY;
@@ -68,7 +68,7 @@ impl HeapOrder {
 
     /// The greatest variable.
     pub fn vars(&self) -> u32
-        ensures vars { result ≡ self.now.vars }
+        ensures vars { result ≡ self.now.order.vars }
         ensures most { result ≤ Var.MOST }
     {
         self.vars
@@ -76,9 +76,9 @@ impl HeapOrder {
 
     /// Whether the first has more activity, or as much and the smaller number.
     pub fn comes_before(&self, first: Var, second: Var) -> bool
-        requires first { first ≤ self.now.vars }
-        requires second { second ≤ self.now.vars }
-        ensures { (result ≡ true) ↔ ComesBefore (shown self.now) first second }
+        requires first { first ≤ self.now.order.vars }
+        requires second { second ≤ self.now.order.vars }
+        ensures { (result ≡ true) ↔ ComesBefore self.now.order first second }
     {
         outranks(
             &self.activities,
@@ -89,9 +89,9 @@ impl HeapOrder {
 
     /// Takes out the variable of the greatest activity, of equal ones the least: None exactly where none is in.
     pub fn pop_greatest(&mut self) -> Option<Var>
-        ensures greatest { IfSome result (IsGreatest (shown self.old)) }
-        ensures within { IfSome result (λ v. v ≤ self.old.vars) }
-        ensures none { (result ≡ None) ↔ IsEmpty (shown self.old) }
+        ensures greatest { IfSome result (IsGreatest self.old.order) }
+        ensures within { IfSome result (λ v. v ≤ self.old.order.vars) }
+        ensures none { (result ≡ None) ↔ IsEmpty self.old.order }
         ensures out { IfSome result (λ v. self.new ≡ taken_out self.old v) }
         ensures same { IfNone result (self.new ≡ self.old) }
     {
@@ -111,9 +111,9 @@ impl HeapOrder {
 
     /// Puts a variable in where it isn't.
     pub fn put_back(&mut self, var: Var)
-        requires { var ≤ self.old.vars }
+        requires { var ≤ self.old.order.vars }
         ensures put_in { self.new ≡ put_in self.old var }
-        ensures stands { is_in (shown self.new) var ≡ true }
+        ensures stands { is_in self.new.order var ≡ true }
     {
         let place = self.places[var.number() as usize - 1] as usize;
         if place >= self.count {
@@ -131,7 +131,7 @@ impl HeapOrder {
     /// Adds the amount to a variable's activity. Where the sum would pass `MOST_ACTIVITY`, all activities and the amount are
     /// halved first.
     pub fn bump(&mut self, var: Var)
-        requires { var ≤ self.old.vars }
+        requires { var ≤ self.old.order.vars }
         ensures bumped { self.new ≡ bumped self.old var }
         ensures amount { 1 ≤ self.old.amount }
     {
@@ -171,8 +171,8 @@ impl HeapOrder {
 
     // Adds the amount to a variable's activity.
     fn raise(&mut self, var: Var)
-        requires within { var ≤ self.old.vars }
-        requires fits { activity_of (shown self.old) var + self.old.amount ≤ MOST_ACTIVITY }
+        requires within { var ≤ self.old.order.vars }
+        requires fits { activity_of self.old.order var + self.old.amount ≤ MOST_ACTIVITY }
         ensures { self.new ≡ raised self.old var }
     {
         let v = var.number() as usize - 1;

@@ -23,11 +23,12 @@ AreWaitingBut v entries order =
 abbrev pub AllSet : ℕ → List Entry → Type 0
 AllSet vars entries = (l : ℤ) → is_literal_of vars l ≡ true → ¬ IsUnset entries l
 
--- a trail, an order that has what it lacks, and a value that each variable had last
-pub record IsCourse (trail : TrailState) (order : OrderState) (phases : ℕ) : Type 0 where
+-- a trail, an order that has what it lacks, and for each variable a value that it had last, and when it was bumped last
+pub record IsCourse (trail : TrailState) (order : OrderState) (phases bumped : ℕ) : Type 0 where
   pub is_trail : IsTrail trail
   pub order_vars : order.vars ≡ trail.vars
   pub phase_each : phases ≡ trail.vars
+  pub bumped_each : bumped ≡ trail.vars
   pub waiting : AreWaiting trail.entries order
 
 -- a variable that has no value, and is the only one that neither has one nor waits

@@ -29,6 +29,9 @@ pub(crate) struct Course {
     order: EitherOrder,
     /// By variable, whether it was true last.
     phases: Vec<bool>,
+    /// By variable, at which conflict it was bumped last.
+    bumped: Vec<u32>,
+    conflict: u32,
     /// How many literals unit propagation forced.
     effort: u64,
 }
@@ -42,7 +45,7 @@ impl Model for Course {
 
     ghost view = { λ c. c.trail };
 
-    ghost invariant = { λ c. IsCourse c.trail c.order (length c.phases.items) };
+    ghost invariant = { λ c. IsCourse c.trail c.order.order (length c.phases.items) (length c.bumped.items) };
 }
 
 impl Course {
@@ -63,6 +66,8 @@ impl Course {
             trail,
             order: order_of(alloc, vars, manner)?,
             phases: first_phases(alloc, vars, phases)?,
+            bumped: vec![in alloc; 0; vars as usize]?,
+            conflict: 1,
             effort: 0,
         })
     }
@@ -106,7 +111,7 @@ impl Course {
         Some(self.trail.current())
     }
 
-    /// Has the variables of these literals be decided before all others, the last of them first, but for those of level 0.
+    /// Has the variables of these literals be decided before others, each once a conflict, but for those of level 0.
     pub(crate) fn bump(&mut self, lits: &[Lit])
         requires within { is_within self.old.vars lits.now ≡ true }
         requires have_values { HaveValues self.old.entries lits.now }
@@ -114,7 +119,7 @@ impl Course {
     {
         for lit in lits {
             if self.trail.known_level(lit.var()) > 0 {
-                self.order.bump(lit.var());
+                bump_once(&mut self.order, &mut self.bumped, self.conflict, lit.var());
             }
         }
     }
@@ -135,6 +140,8 @@ impl Course {
             }
         }
         self.order.grow();
+        // After 2^32 conflicts a number is used again.
+        self.conflict = self.conflict.wrapping_add(1);
     }
 
     /// Has the variables from a number on be decided before the others, those of lesser numbers first.
@@ -198,12 +205,26 @@ impl Course {
 // The order by which a searcher of this manner decides.
 fn order_of(alloc: Global, vars: u32, manner: Manner) -> Result<EitherOrder, Memory>
     requires { vars ≤ Var.MOST }
-    ensures vars { IfOk result (λ order. order.vars ≡ vars) }
-    ensures inside { IfOk result (λ order. order.inside ≡ replicate vars true) }
+    ensures vars { IfOk result (λ order. order.order.vars ≡ vars) }
+    ensures inside { IfOk result (λ order. order.order.inside ≡ replicate vars true) }
 {
     match manner {
         Manner::Restless => EitherOrder::queue(alloc, vars),
         Manner::Steady => EitherOrder::heap(alloc, vars),
+    }
+}
+
+// Bumps a variable where it wasn't bumped at this conflict.
+fn bump_once(order: &mut EitherOrder, bumped: &mut [u32], conflict: u32, var: Var)
+    requires within { var ≤ order.old.order.vars }
+    requires bumped { length bumped.old ≡ order.old.order.vars }
+    ensures vars { order.new.order.vars ≡ order.old.order.vars }
+    ensures inside { order.new.order.inside ≡ order.old.order.inside }
+    ensures bumped { length bumped.new ≡ length bumped.old }
+{
+    if bumped[var.index()] != conflict {
+        bumped[var.index()] = conflict;
+        order.bump(var);
     }
 }
 
@@ -222,12 +243,12 @@ fn first_phases(alloc: Global, vars: u32, given: &[bool]) -> Result<Vec<bool>, M
 // Puts the variables whose values go with the levels above this one back into the order, and keeps their values for the
 // next time.
 fn release(order: &mut EitherOrder, phases: &mut [bool], trail: &Trail, level: u32)
-    requires vars { order.old.vars ≡ trail.now.vars }
+    requires vars { order.old.order.vars ≡ trail.now.vars }
     requires phases { length phases.old ≡ trail.now.vars }
-    requires waiting { AreWaiting trail.now.entries order.old }
-    ensures vars { order.new.vars ≡ order.old.vars }
+    requires waiting { AreWaiting trail.now.entries order.old.order }
+    ensures vars { order.new.order.vars ≡ order.old.order.vars }
     ensures phases { length phases.new ≡ length phases.old }
-    ensures waiting { AreWaiting (cut_to trail.now level).entries order.new }
+    ensures waiting { AreWaiting (cut_to trail.now level).entries order.new.order }
 {
     let mut k = trail.len();
     while k > 0 {
@@ -251,12 +272,12 @@ fn is_above(trail: &Trail, lit: Lit, level: u32) -> bool
 
 // Takes variables out of the order up to one that has no value.
 fn next_without_value(order: &mut EitherOrder, trail: &Trail) -> Option<Var>
-    requires vars { trail.now.vars ≡ order.old.vars }
-    requires waiting { AreWaiting trail.now.entries order.old }
-    ensures vars { order.new.vars ≡ order.old.vars }
-    ensures some { IfSome result (IsNext order.old.vars trail.now.entries order.new) }
-    ensures none { IfNone result (AllSet order.old.vars trail.now.entries) }
-    ensures none_waiting { IfNone result (AreWaiting trail.now.entries order.new) }
+    requires vars { trail.now.vars ≡ order.old.order.vars }
+    requires waiting { AreWaiting trail.now.entries order.old.order }
+    ensures vars { order.new.order.vars ≡ order.old.order.vars }
+    ensures some { IfSome result (IsNext order.old.order.vars trail.now.entries order.new.order) }
+    ensures none { IfNone result (AllSet order.old.order.vars trail.now.entries) }
+    ensures none_waiting { IfNone result (AreWaiting trail.now.entries order.new.order) }
 {
     while let Some(var) = order.pop_greatest() {
         match trail.value(Lit::new(var, true)) {
@@ -269,10 +290,10 @@ fn next_without_value(order: &mut EitherOrder, trail: &Trail) -> Option<Var>
 
 // How many levels a restart leaves.
 fn levels_to_keep(order: &mut EitherOrder, trail: &Trail) -> u32
-    requires vars { trail.now.vars ≡ order.old.vars }
-    requires waiting { AreWaiting trail.now.entries order.old }
-    ensures vars { order.new.vars ≡ order.old.vars }
-    ensures waiting { AreWaiting trail.now.entries order.new }
+    requires vars { trail.now.vars ≡ order.old.order.vars }
+    requires waiting { AreWaiting trail.now.entries order.old.order }
+    ensures vars { order.new.order.vars ≡ order.old.order.vars }
+    ensures waiting { AreWaiting trail.now.entries order.new.order }
     ensures most { result ≤ trail.now.current }
 {
     match next_without_value(order, trail) {
@@ -286,8 +307,8 @@ fn levels_to_keep(order: &mut EitherOrder, trail: &Trail) -> u32
 
 // How many levels begin with a decision that comes before a variable, from the first on.
 fn levels_before(order: &EitherOrder, trail: &Trail, var: Var) -> u32
-    requires vars { trail.now.vars ≡ order.now.vars }
-    requires within { var ≤ order.now.vars }
+    requires vars { trail.now.vars ≡ order.now.order.vars }
+    requires within { var ≤ order.now.order.vars }
     ensures { result ≤ trail.now.current }
 {
     let mut levels = 0;

@@ -93,13 +93,13 @@ impl Policy {
         self.rare_restarts.learn();
     }
 
-    /// Those of a learnt clause's literals where the search goes on with the clauses that forced their negations: all or none.
+    /// Those of a learnt clause's literals where the search goes on with the clauses that forced their negations: all but the first, or none.
     pub(crate) fn followed<'l>(&self, lits: &'l [Lit]) -> &'l [Lit]
         ensures { (entries : List Entry) → HaveValues entries lits.now → HaveValues entries result.now }
     {
         match self.manner {
             Manner::Restless => &[],
-            Manner::Steady => lits,
+            Manner::Steady => &lits[lits.len().min(1)..],
         }
     }
 

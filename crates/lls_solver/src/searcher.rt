@@ -164,7 +164,7 @@ impl<S: Store> Searcher<S> {
     }
 
     /// What its turns took, by the number of literals that unit propagation forced.
-    pub fn effort(&self) -> u64 {
+    pub(crate) fn effort(&self) -> u64 {
         self.course.effort()
     }
 

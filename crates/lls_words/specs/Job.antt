@@ -20,7 +20,6 @@ use Rattle.lls_words.specs.declared.command.Setting.{Setting}
 use Rattle.lls_words.specs.declared.command.Setting.TheVariants as settings
 use Rattle.lls_words.specs.declared.settings.Settings.{Settings}
 use Rattle.lls_words.specs.declared.crew_plan.CrewPlan.{CrewPlan}
-use Rattle.lls_words.specs.declared.further.TheConstants.Further.{DEFAULT}
 use Rattle.lls_words.specs.declared.job.Job.{Job}
 use Rattle.lls_words.specs.declared.job.Job.TheVariants as jobs
 use Rattle.lls_words.specs.declared.error.WordsError.{WordsError}
@@ -28,7 +27,7 @@ use Rattle.lls_words.specs.declared.error.WordsError.TheVariants.{NoCommand, Unk
 use Rattle.lls_words.specs.Command.{command_of, operand_count}
 use Rattle.lls_base.specs.Results.{and_then}
 use Rattle.lls_words.specs.Scan.{Operand, Given, scan}
-use Rattle.lls_words.specs.Values.{edge_in, period_in, bounds_in, generations_in, budget_in, keep_all_in, manner_in, rle_in, form_in, seed_in, size_in, searchers_in, most_budget, most_size, most_searchers, default_budget}
+use Rattle.lls_words.specs.Values.{edge_in, period_in, bounds_in, generations_in, budget_in, keep_all_in, manner_in, rle_in, form_in, seed_in, size_in, searchers_in, most_budget, most_size, most_searchers, default_budget, default_further}
 
 -- a rule text at a place
 abbrev pub rule_or : ℕ → Result (List Bool) RuleError → Result (List Bool) WordsError
@@ -89,7 +88,7 @@ life = table_of (by_counts 8 12)
 -- Life for each rule, under a closed edge, and nothing else demanded; half of the learnt clauses are kept, patterns are
 -- rows, and formulas are by cover; there is no crew, and turns would be drawn from 0; a search is restless
 abbrev pub defaults : Settings
-defaults = record { rule = life; low = life; high = life; demands = edge_alone Framed; budget = default_budget; keep_all = false; rle = false; form = Cover; crew = None; turns = 0; further = DEFAULT }
+defaults = record { rule = life; low = life; high = life; demands = edge_alone Framed; budget = default_budget; keep_all = false; rle = false; form = Cover; crew = None; turns = 0; further = default_further }
 
 -- the names of a file and of one that is written later, which have to differ
 abbrev pub names_apart : Operand → Operand → Result (List ℕ × List ℕ) WordsError

@@ -14,6 +14,7 @@ use Rattle.lls_problem.specs.declared.demands.Period.{Period}
 use Rattle.lls_problem.specs.declared.form.Form.{Form}
 use Rattle.lls_problem.specs.declared.form.Form.TheVariants.{Rows, Cover}
 use Rattle.lls_problem.specs.Bounds.{most_end}
+use Rattle.lls_words.specs.declared.further.Further.{Further}
 use Rattle.lls_words.specs.declared.further.Manner.{Manner}
 use Rattle.lls_words.specs.declared.further.Manner.TheVariants as manners
 use Rattle.lls_words.specs.Items.{is_dash}
@@ -34,6 +35,10 @@ most_budget = 10000000
 -- the budget of a search for which none is said
 abbrev pub default_budget : ℕ
 default_budget = 100000
+
+-- what a search is told of which nothing is said: one searcher that restarts often
+abbrev pub default_further : Further
+default_further = record { manner = manners.Restless }
 
 -- the greatest number that a problem is made from: that of 64 bits
 abbrev pub most_seed : ℕ

@@ -6,12 +6,12 @@ use Rattle.lls_solver.proofs.course.release.Given as goal
 
 abbrev pub invariant-loop-k : goal.invariant-loop-k
 invariant-loop-k l = record {
-  vars : l.order.vars ≡ l.initial.order.vars;
+  vars : l.order.order.vars ≡ l.initial.order.order.vars;
   phases : length l.phases ≡ length l.initial.phases;
   within : l.k ≤ length l.trail.entries;
-  waiting : AreWaiting l.trail.entries l.order;
+  waiting : AreWaiting l.trail.entries l.order.order;
   above : IsAbove l.trail l.level l.k;
-  released : AreReleased l.trail.entries l.order l.k;
+  released : AreReleased l.trail.entries l.order.order l.k;
 }
 
 abbrev pub decreases-loop-k : goal.decreases-loop-k

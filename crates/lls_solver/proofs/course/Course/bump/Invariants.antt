@@ -4,7 +4,8 @@ use Rattle.lls_solver.proofs.course.Course.bump.Given as goal
 abbrev pub invariant-loop-lit : goal.invariant-loop-lit
 invariant-loop-lit l = record {
   trail : l.self-inside.trail ≡ l.initial.self-inside.trail;
-  inside : l.self-inside.order.inside ≡ l.initial.self-inside.order.inside;
-  vars : l.self-inside.order.vars ≡ l.initial.self-inside.order.vars;
+  inside : l.self-inside.order.order.inside ≡ l.initial.self-inside.order.order.inside;
+  vars : l.self-inside.order.order.vars ≡ l.initial.self-inside.order.order.vars;
   phases : length l.self-inside.phases.items ≡ length l.initial.self-inside.phases.items;
+  bumped : length l.self-inside.bumped.items ≡ length l.initial.self-inside.bumped.items;
 }

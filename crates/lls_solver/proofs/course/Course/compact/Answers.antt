@@ -15,5 +15,6 @@ invariant_of-self g c =
       is_trail = c.current.ensures.kept;
       order_vars = c.self.invariant.order_vars ∙ vars;
       phase_each = c.self.invariant.phase_each ∙ vars;
-      waiting = waiting_renamed (g.S.Store.state c.args.store.now).live old c.compact.new.trail c.self.inside.order c.compact.ensures.renamed c.self.invariant.waiting;
+      bumped_each = c.self.invariant.bumped_each ∙ vars;
+      waiting = waiting_renamed (g.S.Store.state c.args.store.now).live old c.compact.new.trail c.self.inside.order.order c.compact.ensures.renamed c.self.invariant.waiting;
     }

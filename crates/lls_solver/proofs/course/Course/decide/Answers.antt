@@ -11,7 +11,8 @@ invariant_of-self-2 c =
       is_trail = c.current.ensures.kept;
       order_vars = rw c.decide.ensures (c.in_ok-var.ensures.vars ∙ c.self.invariant.order_vars);
       phase_each = rw c.decide.ensures c.self.invariant.phase_each;
-      waiting = rw c.decide.ensures (waiting_decided t.entries (record { lit = lit; level = t.current + 1; reason = None }) c.next_without_value.new.order c.in_ok-var.var c.new.ensures.var c.in_ok-var.ensures.some.others);
+      bumped_each = rw c.decide.ensures c.self.invariant.bumped_each;
+      waiting = rw c.decide.ensures (waiting_decided t.entries (record { lit = lit; level = t.current + 1; reason = None }) c.next_without_value.new.order.order c.in_ok-var.var c.new.ensures.var c.in_ok-var.ensures.some.others);
     }
 
 pub returns-clause-decided : goal.returns-clause-decided

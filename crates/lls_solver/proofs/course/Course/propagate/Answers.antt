@@ -17,7 +17,8 @@ invariant_of-self g c =
       is_trail = c.current-level.ensures.kept;
       order_vars = c.self.invariant.order_vars ∙ vars;
       phase_each = c.self.invariant.phase_each ∙ vars;
-      waiting = waiting_on c.self.inside.trail c.propagate-conflict.new.trail c.self.inside.order on c.self.invariant.waiting;
+      bumped_each = c.self.invariant.bumped_each ∙ vars;
+      waiting = waiting_on c.self.inside.trail c.propagate-conflict.new.trail c.self.inside.order.order on c.self.invariant.waiting;
     }
 
 pub returns-clause-on_course : goal.returns-clause-on_course
