@@ -45,7 +45,8 @@ _lls() {
     [ "${COMP_WORDS[1]-}" != --quiet ] || first=2
     [ "${COMP_WORDS[first]-}" != --as-built ] || first=$((first + 1))
     [[ ${COMP_WORDS[first]-} != --@(trimmed|race) ]] || first=$((first + 1))
-    [[ "${COMP_WORDS[first]-}" != --unproved && "${COMP_WORDS[first]-}" != --posed ]] || first=$((first + 1))
+    [ "${COMP_WORDS[first]-}" != --unproved ] || first=$((first + 1))
+    [[ ${COMP_WORDS[first]-} != --@(bare|posed) ]] || first=$((first + 1))
     # `--edge=open` comes as three words.
     if [ "$current" = = ]; then
         current=
@@ -54,8 +55,8 @@ _lls() {
     fi
     if [ "$COMP_CWORD" -eq "$first" ]; then
         case $first,${COMP_WORDS[1]} in
-        1,*) commands="$commands help --help --version --as-built --posed --quiet --race --trimmed --unproved" ;;
-        2,--quiet) commands="$commands --as-built --posed --race --trimmed --unproved" ;;
+        1,*) commands="$commands help --help --version --as-built --bare --posed --quiet --race --trimmed --unproved" ;;
+        2,--quiet) commands="$commands --as-built --bare --posed --race --trimmed --unproved" ;;
         esac
         read -ra words <<<"$commands"
     elif [[ $previous = --help || $previous = help && $COMP_CWORD -eq 2 ]]; then

@@ -7,18 +7,26 @@
     pose.py spaceship W H P DX DY [--margin N]     a pattern in the box that is there again P generations later, moved by
                                                    DX columns to the right and DY rows down; its phases on the way lie in the
                                                    box, its margin and the room that it moves through
-    pose.py predecessor PICTURE [--margin N] [--at X,Y]
-                                                   a generation before a pattern, in the pattern's own box and its margin
+    pose.py glide W H N DX [--margin N]            a pattern in the box that is there again N generations later as in a mirror that
+                                                   lies along the rows, moved by DX columns: a spaceship of twice that period
+    pose.py copies W H N X,Y X,Y .. [--margin N]   a pattern in the box that is there two or more times N generations later, moved by
+                                                   X columns and Y rows each time, and nothing besides
+    pose.py torus W H P                            what has period P on a torus of W columns and H rows, or lies all over the plane
+                                                   again and again, W columns and H rows apart (an agar)
+    pose.py predecessor PICTURE [--back N] [--margin N] [--at X,Y]
+                                                   a generation before a pattern, or N generations before it, in the pattern's own
+                                                   box and its margin
     pose.py orphan PICTURE [--margin N] [--at X,Y]
                                                    any generation before a pattern, wherever its cells are: `no pattern` says that
                                                    nothing at all comes before these cells
 
-The search file goes to the standard output, the options to the standard error:
+The search file goes to the standard output, or with -o FILE to a file, which is left as it is where the question can't be
+asked; the options go to the standard error:
 
     pose.py oscillator 5 5 2 > q.lls
     options: --period 2 --differ 0,1
 
-They also stand in the file's first line, `#! --period 2 --differ 0,1`, from which `lls --posed COMMAND q.lls ..` takes them.
+They also stand in the file's first line, `#! --period 2 --differ 0,1`, from which `lls COMMAND q.lls ..` takes them.
 
 The margin is N rows and columns more on each side, 0 where it isn't given. Generation 0 is dead there, and later ones may use it;
 of a predecessor it is the other way round, and of an orphan the pattern is dead there. Round the grid everything stays dead. Where a
@@ -29,6 +37,7 @@ with --at with its top left cell in column X and row Y of that grid, counted fro
 """
 import argparse
 import math
+import re
 import sys
 
 import ending
@@ -85,10 +94,60 @@ def spaceship(width, height, period, right, down, margin):
     return Question([first] + [unknown_like(first)] * period, options, (notes if times > 1 else []) + [phases_note(first, margin)])
 
 
-def predecessor(name, margin, at):
+def glide(width, height, later, right, margin):
+    if right == 0:
+        raise BadQuestion("a spaceship moves; without a move this is an oscillator in a mirror")
+    left = margin + max(0, -right)
+    columns, rows = width + 2 * margin + abs(right), height + 2 * margin
+    cells = {(x, y): cell_name(x, y) for y in range(height) for x in range(width)}
+    first = tied(columns, rows, {(left + x, margin + y): name for (x, y), name in cells.items()})
+    last = tied(columns, rows, {(left + right + x, margin + height - 1 - y): name for (x, y), name in cells.items()})
+    notes = [f"it is there again {2 * later} generations later, moved by {2 * right},0", phases_note(first, margin)]
+    return Question([first] + [unknown_like(first)] * (later - 1) + [last], ["--live 0:1-"], notes)
+
+
+def copies(width, height, later, moves, margin):
+    if len(moves) < 2:
+        raise BadQuestion("two or more copies are asked for, each by its move")
+    left, top = (margin + max(0, *(-move[axis] for move in moves)) for axis in (0, 1))
+    columns = left + width + margin + max(0, *(x for x, _ in moves))
+    rows = top + height + margin + max(0, *(y for _, y in moves))
+    cells = {(left + x, top + y): cell_name(x, y) for y in range(height) for x in range(width)}
+    moved = [((x + right, y + down), name) for right, down in moves for (x, y), name in cells.items()]
+    if len(dict(moved)) < len(moved):
+        raise BadQuestion("two of the copies lie on one another")
+    first = tied(columns, rows, cells)
+    generations = [first] + [unknown_like(first)] * (later - 1) + [tied(columns, rows, dict(moved))]
+    return Question(generations, ["--live 0:1-"], [phases_note(first, margin)])
+
+
+def torus(width, height, period):
+    # Each generation has a ring round it of the cells from its other sides, of whose own next states nothing is asked.
+    def generation(number):
+        name = lambda x, y: f"{cell_name(x % width, y % height)}t{number}"
+        is_ring = lambda x, y: x in (-1, width) or y in (-1, height)
+        return [[name(x, y) + "'" * (number > 0 and is_ring(x, y)) for x in range(-1, width + 1)] for y in range(-1, height + 1)]
+
+    if period < 1:
+        raise BadQuestion("the period is 1 or more")
+    told = ["--live 0:1-"] if period == 1 else [f"--differ 0,{period // least_factor(period)}"]
+    notes = ["the picture has a ring more, of the cells from its other sides"]
+    return Question([generation(number) for number in range(period + 1)], ["--edge open", f"--period {period}", *told], notes)
+
+
+def cell_name(x, y):
+    return f"r{y}c{x}"
+
+
+def tied(columns, rows, names):
+    """Returns a generation that has names at places, columns before rows, and is dead elsewhere."""
+    return [[names.get((x, y), "0") for x in range(columns)] for y in range(rows)]
+
+
+def predecessor(name, margin, at, back):
     wanted, options, notes = wanted_pattern(name, margin, at)
     notes.append("generations before it that reach outside of the grid are left out; `orphan` asks for any")
-    return Question([unknown_like(wanted), wanted], options, notes)
+    return Question([unknown_like(wanted)] * back + [wanted], options, notes)
 
 
 def orphan(name, margin, at):
@@ -152,41 +211,69 @@ def margin_size(word):
     return number
 
 
+def move_word(word):
+    right, down = map(int, word.split(","))
+    return right, down
+
+
+# The words of each kind of question behind its name.
+BOX = (("width", "W", size), ("height", "H", size))
+KINDS = {
+    still: BOX,
+    oscillator: (*BOX, ("period", "P", int)),
+    spaceship: (*BOX, ("period", "P", int), ("right", "DX", int), ("down", "DY", int)),
+    glide: (*BOX, ("later", "N", size), ("right", "DX", int)),
+    copies: (*BOX, ("later", "N", size), ("moves", "X,Y", move_word)),
+    torus: (*BOX, ("period", "P", int)),
+    predecessor: (("name", "PICTURE", str),),
+    orphan: (("name", "PICTURE", str),),
+}
+
+
 def question_of_words():
+    """Returns the question that the words ask, and the file that it goes to, or None."""
     parser = argparse.ArgumentParser(description=__doc__, formatter_class=argparse.RawDescriptionHelpFormatter)
-    kinds = parser.add_subparsers(dest="kind", required=True, metavar="still|oscillator|spaceship|predecessor|orphan")
-    for kind in (still, oscillator, spaceship):
+    kinds = parser.add_subparsers(dest="kind", required=True, metavar="|".join(kind.__name__ for kind in KINDS))
+    for kind, operands in KINDS.items():
         words = kinds.add_parser(kind.__name__)
-        words.add_argument("width", metavar="W", type=size)
-        words.add_argument("height", metavar="H", type=size)
-        if kind is not still:
-            words.add_argument("period", metavar="P", type=int)
-        if kind is spaceship:
-            words.add_argument("right", metavar="DX", type=int)
-            words.add_argument("down", metavar="DY", type=int)
+        # A move such as -1,0 is an operand, as -1 is.
+        words._negative_number_matcher = re.compile(r"-\d+(,-?\d+)?$")
+        for name, shown, read in operands:
+            words.add_argument(name, metavar=shown, type=read, **({"nargs": "+"} if name == "moves" else {}))
+        if kind in (predecessor, orphan):
+            words.add_argument("--at", metavar="X,Y", type=place_word)
+        if kind is predecessor:
+            words.add_argument("--back", metavar="N", type=size, default=1)
+        if kind is not torus:
+            words.add_argument("--margin", metavar="N", type=margin_size, default=0)
+        words.add_argument("-o", metavar="FILE", dest="out")
         words.set_defaults(ask=kind)
-    for kind in (predecessor, orphan):
-        words = kinds.add_parser(kind.__name__)
-        words.add_argument("name", metavar="PICTURE")
-        words.add_argument("--at", metavar="X,Y", type=place_word)
-        words.set_defaults(ask=kind)
-    for words in kinds.choices.values():
-        words.add_argument("--margin", metavar="N", type=margin_size, default=0)
     values = vars(parser.parse_args())
     values.pop("kind")
-    return values.pop("ask")(**values)
+    out = values.pop("out")
+    return values.pop("ask")(**values), out
+
+
+def text_of(question):
+    generations = "\n\n".join("\n".join(" ".join(row) for row in rows) for rows in question.generations)
+    return ("#! " + " ".join(question.options) + "\n" if question.options else "") + generations + "\n"
 
 
 def main():
     try:
-        question = question_of_words()
+        question, out = question_of_words()
         test_limits(question.generations)
+        if out is None:
+            print(text_of(question), end="")
+        else:
+            with open(out, "w", encoding="ascii") as file:
+                file.write(text_of(question))
     except BadQuestion as fault:
         print(f"pose.py: {fault}", file=sys.stderr)
         sys.exit(2)
-    if question.options:
-        print("#!", " ".join(question.options))
-    print("\n\n".join("\n".join(" ".join(row) for row in rows) for rows in question.generations))
+    except OSError as fault:
+        print(f"pose.py: {fault.filename}: {fault.strerror}", file=sys.stderr)
+        sys.exit(2)
     print("options:", " ".join(question.options) or "none", file=sys.stderr)
     for note in question.notes:
         print("note:", note, file=sys.stderr)

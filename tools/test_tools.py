@@ -187,8 +187,40 @@ class Pose(unittest.TestCase):
         out, err = self.posed("orphan", path, "--margin", 1)
         self.assertEqual(out.split("\n")[7:10], ["*' *' *' *' *' *'", "*' 0 0 0 0 *'", "*' 0 0 1 0 *'"])
 
+    def test_glide(self):
+        out, err = self.posed("glide", 2, 2, 2, -1)
+        free = "* * *\n* * *\n"
+        self.assertEqual(out, f"#! --live 0:1-\n0 r0c0 r0c1\n0 r1c0 r1c1\n\n{free}\nr1c0 r1c1 0\nr0c0 r0c1 0\n")
+        self.assertIn("note: it is there again 4 generations later, moved by -2,0\n", err)
+
+    def test_copies(self):
+        out, _ = self.posed("copies", 2, 1, 1, "-1,0", "1,1")
+        self.assertEqual(out, "#! --live 0:1-\n0 r0c0 r0c1 0\n0 0 0 0\n\nr0c0 r0c1 0 0\n0 0 r0c0 r0c1\n")
+
+    def test_torus(self):
+        out, err = self.posed("torus", 2, 1, 2)
+        ring = lambda t, mark: f"r0c1t{t}{mark} r0c0t{t}{mark} r0c1t{t}{mark} r0c0t{t}{mark}\n"
+        generation = lambda t, mark: ring(t, mark) + f"r0c1t{t}{mark} r0c0t{t} r0c1t{t} r0c0t{t}{mark}\n" + ring(t, mark)
+        later = "\n".join(generation(t, "'") for t in (1, 2))
+        self.assertEqual(out, "#! --edge open --period 2 --differ 0,1\n" + generation(0, "") + "\n" + later)
+        self.assertTrue(err.startswith("options: --edge open --period 2 --differ 0,1\n"))
+
+    def test_several_generations_before(self):
+        out, _ = self.posed("predecessor", scratch(self, "p.rle", "x = 2, y = 1\nbo!\n"), "--back", 2)
+        self.assertEqual(out, "* *\n\n* *\n\n0 1\n")
+
+    def test_into_a_file(self):
+        path = scratch(self, "q.lls", "as it was")
+        self.assertEqual(ran("tools/pose.py", "still", "65", "3", "-o", path)[:2], (2, ""))
+        with open(path, encoding="ascii") as file:
+            self.assertEqual(file.read(), "as it was")
+        self.assertEqual(self.posed("still", 1, 1, "-o", path)[0], "")
+        with open(path, encoding="ascii") as file:
+            self.assertEqual(file.read(), "#! --period 1 --live 0:1-\n*\n\n*\n")
+        self.assertEqual(ran("tools/pose.py", "still", "1", "1", "-o", "/nowhere/q")[0], 2)
+
     def test_refusals(self):
-        rows = ["still 0 3", "still 65 3", "still 3", "oscillator 5 5 1", "oscillator 5 5 64", "oscillator 64 64 2", "spaceship 3 3 4 0 0"]
+        rows = ["glide 3 3 2 0", "copies 2 2 1 1,1", "copies 2 2 1 0,0 1,1", "torus 2 2 0", "predecessor p --back 0", "still 0 3", "still 65 3", "still 3", "oscillator 5 5 1", "oscillator 5 5 64", "oscillator 64 64 2", "spaceship 3 3 4 0 0"]
         for words in rows + ["spaceship 3 3 0 1 0", "predecessor no-such-file", "orphan no-such-file", "still 3 3 --margin -1", "glider", ""]:
             status, out, err = ran("tools/pose.py", *words.split())
             self.assertEqual((status, out), (2, ""), words)
@@ -354,6 +386,25 @@ class Building(unittest.TestCase):
             said = f"lls: {' '.join(ran_with)}\n"
             self.assertEqual(self.lls("exit 9", "--posed", *words), (3, "\n".join(ran_with) + "\n", said), words)
 
+    def test_posed_by_the_file_alone(self):
+        path = self.write("crates/lls/out/lls", "#!/bin/bash\nprintf '%s\\n' \"$@\"\n")
+        os.utime(path, (2**31, 2**31))
+        self.write("q.lls", "# a ship\n#! --period 4,1,1\n* *\n")
+        self.write("other.lls", "#!/bin/sh\n* *\n")
+        line = "lls: with the options that the file's line '#!' has (--bare leaves them out): search q.lls p --period 4,1,1\n"
+        for words, ran_with, said in [
+            ("search q.lls p", "search q.lls p --period 4,1,1", line),
+            ("--quiet search q.lls p", "search q.lls p --period 4,1,1", ""),
+            ("--bare search q.lls p", "search q.lls p", ""),
+            ("search q.lls p --budget 9", "search q.lls p --budget 9 --period 4,1,1", line.replace("q.lls p", "q.lls p --budget 9")),
+            ("search q.lls p --edge=open", "search q.lls p --edge=open", ""),
+            ("search q.lls p --rule B3/S23", "search q.lls p --rule B3/S23", ""),
+            ("search other.lls p", "search other.lls p", ""),
+            ("search none.lls p", "search none.lls p", ""),
+            ("lrat q.lls p", "lrat q.lls p", ""),
+        ]:
+            self.assertEqual(self.lls("exit 9", *words.split()), (0, "\n".join(ran_with.split()) + "\n", said), words)
+
     def test_posed_refusals(self):
         path = self.write("crates/lls/out/lls", "#!/bin/bash\necho ran\n")
         os.utime(path, (2**31, 2**31))
@@ -401,8 +452,9 @@ class Completion(unittest.TestCase):
         self.assertEqual(self.replies("--posed", "ju"), ["judge"])
         self.assertEqual(self.replies("--quiet", "ju"), ["judge"])
         self.assertEqual(self.replies("--quiet", "--posed", "ju"), ["judge"])
-        self.assertEqual(self.replies("--quiet", "--"), ["--as-built", "--posed", "--race", "--trimmed", "--unproved"])
+        self.assertEqual(self.replies("--quiet", "--"), ["--as-built", "--bare", "--posed", "--race", "--trimmed", "--unproved"])
         self.assertEqual(self.replies("--trimmed", "--posed", "ju"), ["judge"])
+        self.assertEqual(self.replies("--unproved", "--bare", "ju"), ["judge"])
         self.assertEqual(self.replies("--as-built", "--race", "sear"), ["search"])
         self.assertEqual(self.replies("help", "ju"), ["judge"])
         self.assertEqual(self.replies("check", "a.lls", "--edge", "o"), ["open"])
