@@ -405,6 +405,15 @@ class Building(unittest.TestCase):
         ]:
             self.assertEqual(self.lls("exit 9", *words.split()), (0, "\n".join(ran_with.split()) + "\n", said), words)
 
+    def test_outputs_without_a_place(self):
+        path = self.write("crates/lls/out/lls", "#!/bin/bash\n")
+        os.utime(path, (2**31, 2**31))
+        for name, why in (("none/p", "can't be made: no folder 'none'"), ("crates", "is a folder"), ("p", None)):
+            said = f"lls: '{name}' {why}\n" if why else ""
+            self.assertEqual(self.lls("exit 9", "search", "q.lls", name), (0, "", said))
+            self.assertEqual(self.lls("exit 9", "--quiet", "search", "q.lls", name), (0, "", ""))
+            self.assertEqual(self.lls("exit 9", "check", "q.lls", name), (0, "", ""))
+
     def test_posed_refusals(self):
         path = self.write("crates/lls/out/lls", "#!/bin/bash\necho ran\n")
         os.utime(path, (2**31, 2**31))
@@ -553,7 +562,7 @@ class Slips(unittest.TestCase):
                     self.fail(f"{script} {words} ends with 0")
 
     def test_help(self):
-        for script in (self.SCRIPTS + " documents fits words").split():
+        for script in (self.SCRIPTS + " documents fits refused words").split():
             status, out, err = ran(f"tools/{script}.py", "--help")
             self.assertEqual((status, err), (0, ""), script)
             self.assertIn(f"{script}.py", out)

@@ -423,6 +423,48 @@ class Streams(Case):
         self.assertEqual(self.lls("cnf"), (0, b"none\n", ""))
 
 
+class Refused(Case):
+    """What refused.py says of a proof that isn't taken; the program prints a formula of three clauses."""
+
+    ROWS = [
+        (b"4 1 0 1 2 0\n5 0 4 3 0\n", []),
+        (b"5 1 0 1 2 0\n6 0 4 3 0\n", ["the first step of p has the id 5, and the formula of these words has 3 clauses: is it the formula that the proof was found with?"]),
+        (b"4 1 0 1 2 0\n5 d 4 0\n", ["the last line of p adds no empty clause: the log of an undecided search, or a file that was cut off"]),
+        (b"4 1 0 1 2 0\n5 0 4 ", ["the last line of p adds no empty clause: the log of an undecided search, or a file that was cut off"]),
+        (b"\x1f\x8b\x08\x00", ["p is compressed with gzip: `gzip -d` makes the text of it"]),
+        (b"a\x02\x04\x00", ["p is no text: binary DRAT or LRAT isn't read here"]),
+    ]
+
+    def setUp(self):
+        super().setUp()
+        self.addCleanup(os.chdir, os.getcwd())
+        os.chdir(self.top)
+
+    def notes(self, *given):
+        done = subprocess.run(["tools/refused.py", "./program", *given], capture_output=True, text=True, timeout=20, check=True)
+        return [line.removeprefix("lls: note: ") for line in done.stdout.splitlines()]
+
+    def test_what_is_seen(self):
+        self.write("program", '#!/bin/bash\n[ "$*" = "cnf q.lls --period=3" ] && printf "p cnf 2 3\\n1 0\\n"\n')
+        os.chmod("program", 0o755)
+        self.write("f", "c a comment\np cnf 2 3\n1 0\n-1 0\n2 0\n")
+        for proof, notes in self.ROWS:
+            with open("p", "wb") as file:
+                file.write(proof)
+            self.assertEqual(self.notes("check", "q.lls", "p", "--period", "3"), notes)
+            self.assertEqual(self.notes("lrat", "f", "p"), [note.replace("the formula of these words", "the file") for note in notes])
+
+    def test_behind_the_answer(self):
+        note = f"lls: note: {self.ROWS[2][1][0]}\n"
+        self.assertEqual(self.lls("check", "q.lls", "p", OUT="refused", ENDS="1"), (1, b"refused", note))
+        self.assertEqual(self.lls("--quiet", "check", "q.lls", "p", OUT="refused", ENDS="1"), (1, b"refused", ""))
+        self.assertEqual(self.lls("check", "q.lls", "p", OUT="accepted", ENDS="0"), (0, b"accepted", ""))
+
+    def test_nothing_is_said_where_nothing_is_seen(self):
+        for line in ("check q.lls none", "search q.lls p", "check q.lls", "", "judge q.lls p"):
+            self.assertEqual(self.notes(*line.split()), [])
+
+
 class Notes(Case):
     """What the wrapper says of a picture behind the program's answer."""
 
@@ -466,6 +508,8 @@ class Terminal(Case):
 
     def setUp(self):
         super().setUp()
+        # A proof of which there is nothing to say.
+        self.write("p", "4 0 1 0\n")
         with open(f"{TOP}/lls", encoding="utf-8") as file:
             text = file.read()
         self.assertEqual(text.count("\nshown_after=5\n"), 1)
