@@ -1,13 +1,13 @@
 #!/usr/bin/env python3
 """Spreads the search for an absence over processors or machines, and joins the pieces' proofs into one proof of the whole.
 
-    spread.py start SEARCH FOLDER [problem options] [--budget N] [--cells N] [--lls PROGRAM]
+    spread.py start SEARCH FOLDER [problem options] [--bare] [--budget N] [--cells N] [--lls PROGRAM]
     spread.py run FOLDER [-- options of GNU parallel]
     spread.py join FOLDER PROOF
     spread.py look FOLDER
 
 `start` takes the search file, the options of its question (--rule, --edge, --symmetry, --period, --live, --differ) and the form of
-the formula (--formula), and lays out the first pieces in FOLDER: each is the search file with the N unknown cells of generation 0 that
+the formula (--formula), which are those of the file's line `#!` where the words have none and not --bare, and lays out the first pieces in FOLDER: each is the search file with the N unknown cells of generation 0 that
 are nearest to the middle (1 where --cells isn't given) fixed one way. `run` searches all open pieces in rounds, each within its budget (10,000 for the first ones), by GNU
 parallel (Debian's package `parallel`): over this machine's processors, or with `-- --sshloginfile HOSTS` over many machines that have the
 program under the same name, and `rsync`. A piece whose budget is spent is split by one more cell, and its parts get twice the budget. `run` can be
@@ -22,6 +22,7 @@ Nothing here has to be trusted: `lls check SEARCH PROOF [options]` shows the abs
 import argparse
 import json
 import os
+import re
 import shlex
 import shutil
 import subprocess
@@ -136,12 +137,30 @@ def clause_count(program, search, options):
     return int(head[3])
 
 
+def options_in(text):
+    """Returns the options that a search file has on its line `#!`, each as one word, as `lls` takes them."""
+    line = next((line[2:].strip() for line in text.split("\n") if line.startswith("#!")), "")
+    if not line.startswith("--"):
+        return []
+    said = re.sub(r"(--[a-z]+)[ \t]+(?!--)", r"\1=", line).split()
+    for option in said:
+        if option.partition("=")[0].removeprefix("--") not in OPTIONS or not option.partition("=")[2]:
+            raise Stop(f"'{option}' on the file's line '#!' is no option of a question that can be spread")
+    return said
+
+
 def start(words):
     if os.path.exists(words.folder):
         raise Stop(f"{words.folder} is there already")
     options = [f"--{name}={value}" for name in OPTIONS if (value := getattr(words, name)) is not None]
     with open(words.search, encoding="utf-8") as file:
         text = file.read()
+    if not options and not words.bare:
+        options = options_in(text)
+        if options:
+            print("with the options that the file's line '#!' has (--bare leaves them out):", *options)
+    # What the file says of its options stands in asked.json, and nowhere else.
+    text = "".join(line for line in text.splitlines(keepends=True) if not line.startswith("#!"))
     clauses = clause_count(words.lls, words.search, options)
     free = len(splitting_order(read_search_file(text)[0]))
     if words.cells > free:
@@ -365,6 +384,7 @@ def words_given():
         if kind is start:
             for name in OPTIONS:
                 words.add_argument(f"--{name}")
+            words.add_argument("--bare", action="store_true")
             words.add_argument("--budget", type=number(1), default=FIRST_BUDGET)
             words.add_argument("--cells", type=number(0), default=1)
             words.add_argument("--lls", default=f"{os.path.dirname(os.path.abspath(__file__))}/../lls")

@@ -82,6 +82,17 @@ class Pieces(unittest.TestCase):
         self.assertEqual([spread.take_ended(self.piece(name).spread, self.piece(name)) for name in ("r0", "r1", "r00")], [20, 30, None])
         self.assertEqual(sorted(os.listdir(f"{self.folder}/pieces")), ["r0.proof", "r1.split"])
 
+    def test_options_of_the_file(self):
+        for line, options in [
+            ("#! --period 3 --differ 0,1", ["--period=3", "--differ=0,1"]),
+            ("#! --rule=B36/S23 --edge open\r", ["--rule=B36/S23", "--edge=open"]),
+            ("#!/bin/sh", []),
+            ("# --period 3", []),
+        ]:
+            self.assertEqual(spread.options_in(f"# a question\n{line}\n* *\n"), options)
+        for line in ("#! --low B3/S2", "#! --period", "#! --budget 9"):
+            self.assertRaises(spread.Stop, spread.options_in, f"{line}\n")
+
     def test_slips(self):
         for words, why in [
             (["run", "/nowhere"], "/nowhere: no search is laid out here; `start` does that"),
