@@ -180,6 +180,8 @@ def bad_value(line, place):
     near = nearest(value, spoken.CHOICES[name]) if name in spoken.CHOICES else None
     # Names of symmetries are too short for a near one, but for its case.
     guess = f"; is it {near}?" if near and (len(value) > 3 or near.lower() == value.lower()) else ""
+    if name == "live" and re.fullmatch(r"[0-9]+:[0-9]+", value):
+        guess = f"; is it {value}-{value.partition(':')[2]}?"
     return f"--{name} {shown(value)[1:-1]}: {meaning(name)}{guess}"
 
 

@@ -1,5 +1,5 @@
 """Reads pictures in the forms of collections: RLE with or without a header, plaintext (.cells), Life 1.05 and Life 1.06; and says rules in
-B/S notation that go by a name. The forms are those of the LifeWiki's pages `Run Length Encoded`, `Plaintext`, `Life 1.05`, `Life 1.06`.
+B/S notation that go by a name. Of an RLE of LifeHistory the states A, C and E are live; a forum's marks `[code]` round a picture are left out. The forms are those of the LifeWiki's pages `Run Length Encoded`, `Plaintext`, `Life 1.05`, `Life 1.06`.
 """
 import re
 
@@ -71,12 +71,20 @@ def rule_of(text):
     if bound:
         notes.append(f"the bounded grid {bound.group()[1:]!r} of the rule is left out: round the grid of a search file everything stays dead")
         text = text[: bound.start()]
+    if text.lower().endswith("history"):
+        text = text[: -len("history")]
     name = re.sub(r"[ \t'_-]", "", text).lower().replace("×", "x")
     return NAMED_RULES.get(name, text.strip()), notes
 
 
+def without_marks(text):
+    """Returns a text without a forum's marks round it."""
+    return re.sub(r"(?i)\[/?code\]", "", text)
+
+
 def pictures_of(text):
     """Returns the pictures of a text, one behind the other; only RLE has more than one."""
+    text = without_marks(text)
     lines = [line.rstrip() for line in text.splitlines()]
     head = next((line for line in lines if line), "")
     if head.startswith("#Life"):
@@ -93,7 +101,7 @@ def pictures_of(text):
 
 def is_picture(text):
     """Whether a text looks like a picture, and not like the rows of a search file."""
-    lines = [line.rstrip() for line in text.splitlines()]
+    lines = [line.rstrip() for line in without_marks(text).splitlines()]
     content = [line for line in lines if line and not line.startswith("#")]
     head = next((line for line in lines if line), "")
     return head.startswith("#Life") or is_plaintext(lines) or bool(content) and bool(HEADER.match(content[0])) or is_bare_rle(content)

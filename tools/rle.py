@@ -1,10 +1,12 @@
-"""Reads patterns in RLE, the form of Golly and the LifeWiki, with two states."""
+"""Reads patterns in RLE, the form of Golly and the LifeWiki, with two states; of LifeHistory's seven the odd ones are live."""
 import re
 
 HEADER = re.compile(r"[ \t]*x[ \t]*=[ \t]*(\d+)[ \t]*,[ \t]*y[ \t]*=[ \t]*(\d+)[ \t]*(?:,[ \t]*(.*))?$", re.IGNORECASE)
 ITEM = re.compile(r"[ \t\r\n]*(\d*)[ \t\r\n]*([bo$!])")
 
 
+# Golly's states `.` and A to F of a rule with a history, as dead and live.
+HISTORY = str.maketrans(".ABCDEF", "bobobob")
 # The most rows and columns of a picture.
 MOST_SIDE = 10_000
 
@@ -34,7 +36,10 @@ def read_one(lines):
     width, height, rest = HEADER.match(lines[0]).groups()
     # The rule comes last, and its name may have blanks.
     rule = re.search(r"rule[ \t]*=[ \t]*(.*\S)", rest or "", re.IGNORECASE)
-    rows = grid_of(read_runs("\n".join(lines[1:])), int(width), int(height))
+    items = "\n".join(lines[1:])
+    if rule and rule.group(1).rstrip(",").lower().endswith("history"):
+        items = items.translate(HISTORY)
+    rows = grid_of(read_runs(items), int(width), int(height))
     return Pattern(rows, rule and rule.group(1).rstrip(","))
 
 

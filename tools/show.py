@@ -233,6 +233,8 @@ def read_inputs(names):
     for name in names:
         with open(name, encoding="utf-8", errors="replace") as file:
             texts.append(file.read())
+        if "\0" in texts[-1]:
+            raise BadInput(f"{name} is no text")
     return texts
 
 

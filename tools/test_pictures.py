@@ -52,6 +52,15 @@ class Ten(unittest.TestCase):
                 rows = picture.rows
                 self.assertEqual((picture.form, len(rows[0]), len(rows), sum(map(sum, rows)), picture.rule), known)
 
+    def test_a_history_and_marks_of_a_forum(self):
+        text = "[CODE]x = 4, y = 2, rule = LifeHistory\n.A2B$CDEF!\n[/code]\n"
+        self.assertTrue(pictures.is_picture(text))
+        (picture,) = pictures.pictures_of(text)
+        self.assertEqual((picture.rows, picture.rule), ([[0, 1, 0, 0], [1, 0, 1, 0]], "B3/S23"))
+        self.assertEqual(pictures.rule_of("B36/S23History")[0], "B36/S23")
+        with self.assertRaises(pictures.BadPicture):
+            pictures.pictures_of("x = 2, y = 1, rule = Brain\nAB!\n")
+
     def test_drawn(self):
         for name, (_, width, height, live, _) in TEN.items():
             status, out, err = ran("tools/show.py", "--about", f"{FOLDER}/{name}")
@@ -163,8 +172,8 @@ class Notes(unittest.TestCase):
         said = "lls: note: p.rle names the rule B36/S23, and is judged under "
         self.assertEqual(self.notes("x = 1, y = 1, rule = HighLife\no!\n"), f"{said}B3/S23{behind}")
         self.assertEqual(self.notes("x = 1, y = 1, rule = B36/S23\no!\n", "--rule=B2/S"), f"{said}B2/S{behind}")
-        unknown = "lls: note: p.rle names the rule 'LifeHistory', which is not known here, and is judged under B3/S23\n"
-        self.assertEqual(self.notes("x = 1, y = 1, rule = LifeHistory\no!\n"), unknown)
+        unknown = "lls: note: p.rle names the rule 'Wireworld', which is not known here, and is judged under B3/S23\n"
+        self.assertEqual(self.notes("x = 1, y = 1, rule = Wireworld\no!\n"), unknown)
 
     def test_a_bounded_grid(self):
         self.assertIn("the bounded grid 'T9,9'", self.notes("x = 1, y = 1, rule = B3/S23:T9,9\no!\n"))
@@ -201,7 +210,7 @@ class Placing(unittest.TestCase):
     def test_refusals(self):
         rows = [
             ("3o!", ["--at", "2,0"], "a live cell comes to column 4, row 0, outside of the grid of 4 by 3"),
-            ("x = 1, y = 1, rule = LifeHistory\no!", [], "the rule 'LifeHistory' is not in B/S notation, and its name is not known here"),
+            ("x = 1, y = 1, rule = Wireworld\no!", [], "the rule 'Wireworld' is not in B/S notation, and its name is not known here"),
             ("1 0\n", [], "no picture in RLE, plaintext (.cells), Life 1.05 or Life 1.06"),
         ]
         for picture, more, why in rows:
@@ -220,7 +229,7 @@ class Posing(unittest.TestCase):
     def test_refusals(self):
         name = scratch(self, "p.cells", "!\nOO\n")
         self.assertIn("outside of the grid of 4 by 3", ran("tools/pose.py", "orphan", name, "--margin", "1", "--at", "3,0")[2])
-        name = scratch(self, "p.rle", "x = 1, y = 1, rule = LifeHistory\no!\n")
+        name = scratch(self, "p.rle", "x = 1, y = 1, rule = Wireworld\no!\n")
         self.assertIn("its name is not known here", ran("tools/pose.py", "orphan", name)[2])
 
 

@@ -405,6 +405,22 @@ class Building(unittest.TestCase):
         ]:
             self.assertEqual(self.lls("exit 9", *words.split()), (0, "\n".join(ran_with.split()) + "\n", said), words)
 
+    def test_rules_by_name(self):
+        for name in ("ending", "named", "pictures", "rle", "words"):
+            shutil.copy(f"{TOP}/tools/{name}.py", f"{self.top}/tools")
+        path = self.write("crates/lls/out/lls", "#!/bin/bash\nprintf '%s\\n' \"$@\"\n")
+        os.utime(path, (2**31, 2**31))
+        for words, ran_with, said in [
+            (["rule", "HighLife"], ["rule", "B36/S23"], "lls: HighLife is B36/S23\n"),
+            (["cnf", "q", "--rule", "tlife"], ["cnf", "q", "--rule", "B3/S2-i34q"], "lls: tlife is B3/S2-i34q\n"),
+            (["open", "q", "p", "--low=seeds", "--high", "b3/s23"], ["open", "q", "p", "--low=B2/S", "--high", "b3/s23"], "lls: seeds is B2/S\n"),
+            (["--quiet", "rule", "day & night"], ["rule", "B3678/S34678"], ""),
+            (["rule", "23/3"], ["rule", "23/3"], ""),
+            (["rule", "nothing"], ["rule", "nothing"], ""),
+            (["check", "life", "maze", "--edge", "open"], ["check", "life", "maze", "--edge", "open"], ""),
+        ]:
+            self.assertEqual(self.lls("exit 9", *words), (0, "\n".join(ran_with) + "\n", said), words)
+
     def test_outputs_without_a_place(self):
         path = self.write("crates/lls/out/lls", "#!/bin/bash\n")
         os.utime(path, (2**31, 2**31))
@@ -562,7 +578,7 @@ class Slips(unittest.TestCase):
                     self.fail(f"{script} {words} ends with 0")
 
     def test_help(self):
-        for script in (self.SCRIPTS + " documents fits refused words").split():
+        for script in (self.SCRIPTS + " documents fits named refused words").split():
             status, out, err = ran(f"tools/{script}.py", "--help")
             self.assertEqual((status, err), (0, ""), script)
             self.assertIn(f"{script}.py", out)

@@ -67,6 +67,11 @@ WORDS = [
     ("search q.lls p --crew 2 --turns=x", "BadValue 6", "--turns x: a number from 0 to 18446744073709551615"),
     ("make 1 65 q.lls p", "BadValue 3", "SIZE '65': a number from 1 to 64"),
     (
+        "search q.lls p --live 0:8",
+        "BadValue 4",
+        "--live 0:8: T:LOW-HIGH with commas between, T from 0 to 63, LOW and HIGH from 0 to 8192 or left out, as 0:1-,2:-7; is it 0:8-8?",
+    ),
+    (
         "search q.lls p --live 1-2",
         "BadValue 4",
         "--live 1-2: T:LOW-HIGH with commas between, T from 0 to 63, LOW and HIGH from 0 to 8192 or left out, as 0:1-,2:-7",
