@@ -578,7 +578,7 @@ class Slips(unittest.TestCase):
                     self.fail(f"{script} {words} ends with 0")
 
     def test_help(self):
-        for script in (self.SCRIPTS + " documents fits named refused words").split():
+        for script in (self.SCRIPTS + " documents fits moves named refused words").split():
             status, out, err = ran(f"tools/{script}.py", "--help")
             self.assertEqual((status, err), (0, ""), script)
             self.assertIn(f"{script}.py", out)

@@ -470,6 +470,32 @@ class Refused(Case):
             self.assertEqual(self.notes(*line.split()), [])
 
 
+class Moves(Case):
+    """What moves.py says of moves that a symmetry leaves to nothing."""
+
+    # By symmetry the moves that are left, of those one column to the right, one row down, and along both diagonals.
+    LEFT = {"C1": "1,0 0,1 1,1 1,-1", "C2": "", "C4": "", "D2-": "1,0", "D2|": "0,1", "D2\\": "1,1", "D2/": "1,-1", "D4+": "", "D4x": "", "D8": ""}
+
+    def note(self, *given):
+        return subprocess.run([f"{TOP}/tools/moves.py", *given], capture_output=True, text=True, timeout=20, check=True).stdout
+
+    def test_moves_that_are_left(self):
+        for symmetry, left in self.LEFT.items():
+            for move in ("1,0", "0,1", "1,1", "1,-1"):
+                said = "" if move in left.split() else (
+                    f"lls: note: nothing alive moves by {move} and is symmetric by {symmetry} about one middle in every generation, in however large a box\n"
+                )
+                self.assertEqual(self.note("search", "q.lls", "p", "--symmetry", symmetry, f"--period=4,{move}"), said)
+            self.assertEqual(self.note("search", "q.lls", "p", "--symmetry", symmetry, "--period", "4"), "")
+
+    def test_behind_the_answer(self):
+        given = "search q.lls p --symmetry C2 --period 4,1,0".split()
+        status, out, err = self.lls(*given, OUT="no pattern", ENDS="20")
+        self.assertEqual((status, out), (20, b"no pattern"))
+        self.assertTrue(err.startswith("lls: note: nothing alive moves by 1,0 "))
+        self.assertEqual(self.lls(*given, OUT="undecided", ENDS="10")[2], "")
+
+
 class Notes(Case):
     """What the wrapper says of a picture behind the program's answer."""
 
