@@ -146,6 +146,22 @@ cmp -s "$1" cnf && cmp -s "$2" proof && echo "9 0 3 0" > "$3" && echo "kept 1 of
         self.assertRegex(self.calls()[1], r"^check \S+ --live 0:1-$")
         self.assertEqual(self.read("out.lrat"), "9 0 3 0\n")
 
+    def test_kissat(self):
+        script = f"[ \"$1 $2\" = '-q --no-binary' ] || exit 3\nprintf '{PROOF}' > \"$4\"\nexit 20"
+        self.assertEqual(self.solved("kissat", script)[:2], (20, "no pattern\n"))
+
+    def test_a_time_that_is_over(self):
+        os.symlink(shutil.which("sleep"), f"{self.folder}/bin/sleep")
+        self.write("bin/kissat", '#!/bin/sh\necho $$ > process\nsleep 50 & echo $! >> process\nwait\n', True)
+        where = ("--lls", "./lls", "--seconds", "1", f"{self.folder}/bin/kissat", "q.lls", "out.lrat")
+        status, out, _ = ran("with_solver.py", *where, folder=self.folder, path=f"{self.folder}/bin")
+        self.assertEqual((status, out), (30, "undecided\n"))
+        for process in self.read("process").split():
+            path = f"/proc/{process}/stat"
+            # What was ended may wait there for whoever began it.
+            with open(path, encoding="ascii") if os.path.exists(path) else open(os.devnull, encoding="ascii") as file:
+                self.assertIn(file.read().rpartition(")")[2].split()[:1], ([], ["Z"]))
+
     def test_lrat_is_taken_as_it_is(self):
         script = 'case "$*" in --help) echo "  --lrat=bool"; exit 0 ;; *--lrat*) echo "9 0 1 0" > "$5" ;; esac\nexit 20'
         self.assertEqual(self.solved("cadical", script)[:2], (20, "no pattern\n"))
@@ -179,6 +195,10 @@ cmp -s "$1" cnf && cmp -s "$2" proof && echo "9 0 3 0" > "$3" && echo "kept 1 of
         status, out, err = self.tightened(script)
         self.assertEqual((status, out, self.calls()), (10, "least 1\n", ["cnf", "cnf --live 0:-1", "cnf --live 0:-0"]))
         self.assertRegex(err, r"^solving \d+\.\d\d s, formulas \d+\.\d\d s\n$")
+        self.write("q.lls", "#! --period 3 --live 0:1-\n* *\n")
+        self.tightened(script)
+        self.assertEqual(self.calls()[1], "cnf --period 3 --live 0:1-,0:-1")
+        self.write("q.lls", "* *\n")
         self.tightened(script, "--live", "0:1-")
         self.assertEqual(self.calls(), ["cnf --live 0:1-", "cnf --live 0:1-,0:-1", "cnf --live 0:1-,0:-0"])
         self.assertEqual(self.tightened("exit 20")[:2], (20, "no pattern\n"))
@@ -200,7 +220,7 @@ cmp -s "$1" cnf && cmp -s "$2" proof && echo "9 0 3 0" > "$3" && echo "kept 1 of
         status, out, said = self.solved("cadical")
         self.assertEqual((status, out, said), (1, "", [f"no solver '{self.folder}/bin/cadical' is there"]))
         status, out, said = self.solved("solver", "exit 20")
-        fault = "of the solver 'solver' the options aren't known here, only those of cadical, minisat, picosat"
+        fault = "of the solver 'solver' the options aren't known here, only those of cadical, kissat, minisat, picosat"
         self.assertEqual((status, out, said), (1, "", [fault]))
         self.write("lls", "#!/bin/sh\necho 'lls: words: NoWord' >&2\nexit 2\n", True)
         status, out, said = self.solved("cadical", "exit 20")

@@ -15,7 +15,8 @@ import tempfile
 
 import ending
 from pattern import BadInput, pattern_of
-from with_solver import LLS, SOLVERS, NoAnswer, run
+from spread import OPTIONS, Stop, options_in
+from with_solver import LLS, SOLVERS, NoAnswer, Solver, run
 
 
 def bounded(words, most):
@@ -43,7 +44,7 @@ class Looks:
 
     def __init__(self, program, solver, search, folder):
         self.program, self.search, self.folder = program, search, folder
-        self.solver, self.solve = solver, SOLVERS[os.path.basename(solver)]
+        self.solver, self.solve = Solver(solver, None), SOLVERS[os.path.basename(solver)]
         self.making = self.solving = 0
 
     def look(self, words):
@@ -75,12 +76,23 @@ def fewest(looks, words):
     return found
 
 
+def said_by(search):
+    """Returns the options that a search file has on its line `#!`, which no look may miss."""
+    try:
+        with open(search, encoding="utf-8", errors="replace") as file:
+            return [word for option in options_in(file.read()) for word in option.split("=", 1)]
+    except Stop as fault:
+        sys.exit(f"tighten.py: {fault}")
+
+
 def main():
     program = ending.option("--lls", LLS)
     words = sys.argv[1:]
     if len(words) < 2 or os.path.basename(words[0]) not in SOLVERS:
         sys.exit(f"{__doc__}\ntighten.py: a solver ({', '.join(SOLVERS)}) and a search file are needed")
     solver, search, *options = words
+    if not any(word.partition("=")[0].removeprefix("--") in OPTIONS for word in options):
+        options += said_by(search)
     with tempfile.TemporaryDirectory() as folder:
         looks = Looks(program, solver, search, folder)
         try:

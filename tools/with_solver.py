@@ -1,21 +1,22 @@
 #!/usr/bin/env python3
 """Answers a search file with another solver, and has the answer shown by the program.
 
-    with_solver.py [--lls PROGRAM] [--hints PROGRAM] SOLVER SEARCH PROOF [WORD ..]
+    with_solver.py [--lls PROGRAM] [--hints PROGRAM] [--seconds N] SOLVER SEARCH PROOF [WORD ..]
 
 `lls cnf` makes the formula of SEARCH and of the WORDs, which are its options (`--period 3`), and SOLVER solves it. A model is made a
 pattern, which `lls judge` judges; a proof is given its hints, and `lls check` checks it. As with `lls search`, what is printed is the
 pattern (status 10), `no pattern` (20), where the checked proof stands in PROOF, or `undecided` (30). Else the status is 1 with a
 sentence. The standard error says what each step took, and what is shown by what.
 
-SOLVER is a name or a path that ends in one: cadical, or minisat or picosat, which write no proof, so that only their patterns are shown.
-LRAT of newer versions of CaDiCaL is taken as it is; else the proof gets its hints by `lls-hints`. The PROGRAMs are by default `lls` and
+SOLVER is a name or a path that ends in one: cadical or kissat, or minisat or picosat, which write no proof, so that only their patterns are
+shown. With --seconds it is ended after so many by the clock. LRAT of newer versions of CaDiCaL is taken as it is; else the proof gets its hints by `lls-hints`. The PROGRAMs are by default `lls` and
 `lls-hints` in the folder above this file's.
 
 Neither the solver nor this script has to be trusted, only what the program says of the pattern or the proof.
 """
 import os
 import shutil
+import signal
 import subprocess
 import sys
 import tempfile
@@ -59,13 +60,36 @@ def run(*words):
     return done.returncode, done.stdout.decode("utf-8", errors="replace")
 
 
+class Solver:
+    """A solver, which is ended with all that it began when its time is over, or this script ends."""
+
+    def __init__(self, program, seconds):
+        self.program, self.seconds = program, seconds
+
+    def run(self, *words):
+        """Returns its status and what it prints, where it ends in time; else the status of no answer."""
+        try:
+            begun = subprocess.Popen((self.program, *words), stdin=subprocess.DEVNULL, stdout=subprocess.PIPE, start_new_session=True)
+        except OSError as fault:
+            raise NoAnswer(f"{self.program}: {fault.strerror}") from None
+        try:
+            out, _ = begun.communicate(timeout=self.seconds)
+        except subprocess.TimeoutExpired:
+            return 30, ""
+        finally:
+            if begun.returncode is None:
+                os.killpg(begun.pid, signal.SIGKILL)
+                begun.wait()
+        return begun.returncode, out.decode("utf-8", errors="replace")
+
+
 class Question:
     """A search file and the words for it, which the program is asked about."""
 
     def __init__(self, program, search, words):
         self.program, self.search = program, search
-        self.posed = ["--posed"] * ("--posed" in words)
-        self.words = [word for word in words if word != "--posed"]
+        self.flags = [word for word in ("--posed", "--bare") if word in words]
+        self.words = [word for word in words if word not in self.flags]
 
     def words_for(self, command):
         """The words of a command: `judge` makes no formula and takes no form of one."""
@@ -77,23 +101,27 @@ class Question:
     def ask(self, command, *files):
         """Runs a command of the program. Returns its status and what it prints."""
         with Step(f"`lls {command}`"):
-            return run(self.program, *self.posed, command, self.search, *files, *self.words_for(command))
+            return run(self.program, *self.flags, command, self.search, *files, *self.words_for(command))
 
 
-def cadical(program, formula, proof):
-    has_lrat = "--lrat" in run(program, "--help")[1]
+def cadical(solver, formula, proof):
+    has_lrat = "--lrat" in run(solver.program, "--help")[1]
     options = ["-q", "--no-binary", *["--lrat"] * has_lrat]
-    return (*run(program, *options, formula, proof), "lrat" if has_lrat else "drat")
+    return (*solver.run(*options, formula, proof), "lrat" if has_lrat else "drat")
 
 
-def picosat(program, formula, _):
+def kissat(solver, formula, proof):
+    return (*solver.run("-q", "--no-binary", formula, proof), "drat")
+
+
+def picosat(solver, formula, _):
     # Its versions in packages are made without traces.
-    return (*run(program, formula), None)
+    return (*solver.run(formula), None)
 
 
-def minisat(program, formula, proof):
+def minisat(solver, formula, proof):
     result = f"{proof}.result"
-    status, out = run(program, "-verb=0", formula, result)
+    status, out = solver.run("-verb=0", formula, result)
     if status == 10:
         # Its file has a line `SAT` and the values on the next one.
         with open(result, encoding="ascii") as file:
@@ -102,7 +130,7 @@ def minisat(program, formula, proof):
 
 
 # Each returns the solver's status, what it prints, and the form of its proof: LRAT, DRAT in text, or none.
-SOLVERS = {"cadical": cadical, "minisat": minisat, "picosat": picosat}
+SOLVERS = {"cadical": cadical, "kissat": kissat, "minisat": minisat, "picosat": picosat}
 
 
 def lrat_of(program, formula, proof, folder):
@@ -144,7 +172,7 @@ def show_absence(question, lrat, proof):
     return 20
 
 
-def answer(question, hints, solver, proof, folder):
+def answer(question, hints, solver, seconds, proof, folder):
     """Returns the status of the answer that a solver gives and the program shows; a proof gets its hints by the program `hints`."""
     name = os.path.basename(solver)
     if name not in SOLVERS:
@@ -161,7 +189,7 @@ def answer(question, hints, solver, proof, folder):
     with open(formula, "w", encoding="ascii") as file:
         file.write(text)
     with Step(name):
-        status, out, form = SOLVERS[name](program, formula, made)
+        status, out, form = SOLVERS[name](Solver(program, seconds), formula, made)
     if status == 10:
         return show_pattern(question, out, folder)
     if status == 20 and form is None:
@@ -178,10 +206,12 @@ def answer(question, hints, solver, proof, folder):
 
 def main():
     program, hints = ending.option("--lls", LLS), ending.option("--hints", HINTS)
+    seconds = ending.option("--seconds")
+    seconds = None if seconds is None else ending.number(seconds, "--seconds")
     solver, search, proof, *words = ending.words(__doc__, "SOLVER", "SEARCH", "PROOF", "WORD ..")
     try:
         with tempfile.TemporaryDirectory() as folder:
-            return answer(Question(program, search, words), hints, solver, proof, folder)
+            return answer(Question(program, search, words), hints, solver, seconds, proof, folder)
     except NoAnswer as fault:
         return f"with_solver.py: {fault}"
 
