@@ -416,6 +416,11 @@ class Building(unittest.TestCase):
             (["open", "q", "p", "--low=seeds", "--high", "b3/s23"], ["open", "q", "p", "--low=B2/S", "--high", "b3/s23"], "lls: seeds is B2/S\n"),
             (["--quiet", "rule", "day & night"], ["rule", "B3678/S34678"], ""),
             (["rule", "23/3"], ["rule", "23/3"], ""),
+            (["open", "q", "p", "--any"], ["open", "q", "p", "--low=B/S", "--high=B12345678/S012345678"], ""),
+            (["open", "q", "p"], ["open", "q", "p"], "lls: note: without --low and --high the rule is Life's alone; --any leaves it open\n"),
+            (["--quiet", "open", "q", "p"], ["open", "q", "p"], ""),
+            (["search", "q", "p", "--turns", "5"], ["search", "q", "p", "--turns", "5"], "lls: note: --turns says whose turn it is in a crew, and without --crew there is none\n"),
+            (["search", "q", "p", "--turns=5", "--crew=2"], ["search", "q", "p", "--turns=5", "--crew=2"], ""),
             (["rule", "nothing"], ["rule", "nothing"], ""),
             (["check", "life", "maze", "--edge", "open"], ["check", "life", "maze", "--edge", "open"], ""),
         ]:
