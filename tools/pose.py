@@ -28,7 +28,8 @@ asked; the options go to the standard error:
 
 They also stand in the file's first line, `#! --period 2 --differ 0,1`, from which `lls COMMAND q.lls ..` takes them.
 
-The margin is N rows and columns more on each side, 0 where it isn't given. Generation 0 is dead there, and later ones may use it;
+The margin is N rows and columns more on each side: 1 where it isn't given for what has phases besides (an oscillator, a spaceship, a glide), else
+0. Generation 0 is dead there, and later ones may use it;
 of a predecessor it is the other way round, and of an orphan the pattern is dead there. Round the grid everything stays dead. Where a
 question leaves out what a reader may think of, a note says so.
 
@@ -73,7 +74,7 @@ def oscillator(width, height, period, margin):
 
 
 def phases_note(rows, margin):
-    """Says what is left out: patterns whose phases reach out of the grid."""
+    """Says what is left out: patterns whose phases reach out of the grid. The margin is what they have besides the box."""
     return f"all phases have to lie in the grid of {len(rows[0])} by {len(rows)}; --margin {margin + 1} leaves them more room"
 
 
@@ -245,7 +246,7 @@ def question_of_words():
         if kind is predecessor:
             words.add_argument("--back", metavar="N", type=size, default=1)
         if kind is not torus:
-            words.add_argument("--margin", metavar="N", type=margin_size, default=0)
+            words.add_argument("--margin", metavar="N", type=margin_size, default=int(kind in (oscillator, spaceship, glide)))
         words.add_argument("-o", metavar="FILE", dest="out")
         words.set_defaults(ask=kind)
     values = vars(parser.parse_args())

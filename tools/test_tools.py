@@ -146,6 +146,7 @@ class Pose(unittest.TestCase):
         self.assertEqual(err, "options: --period 1 --live 0:1-\n")
 
     def test_oscillator_with_a_margin(self):
+        self.assertEqual(self.posed("oscillator", 2, 1, 2), self.posed("oscillator", 2, 1, 2, "--margin", 1))
         out, err = self.posed("oscillator", 2, 1, 2, "--margin", 1)
         free = "* * * *\n* * * *\n* * * *\n"
         self.assertEqual(out, "#! --period 2 --differ 0,1\n0 0 0 0\n0 * * 0\n0 0 0 0\n\n" + free + "\n" + free)
@@ -155,13 +156,13 @@ class Pose(unittest.TestCase):
     def test_oscillators_of_smaller_periods_are_kept_out(self):
         rows = {3: ("0,1", None), 4: ("0,2", None), 6: ("0,3", "2"), 9: ("0,3", None), 12: ("0,6", "4"), 30: ("0,15", "2 and 6 and 10")}
         for period, (differ, left) in rows.items():
-            err = self.posed("oscillator", 1, 1, period)[1]
+            err = self.posed("oscillator", 1, 1, period, "--margin", 0)[1]
             note = f"note: oscillators of period {left} fit too\n" if left else ""
             room = "note: all phases have to lie in the grid of 1 by 1; --margin 1 leaves them more room\n"
             self.assertEqual(err, f"options: --period {period} --differ {differ}\n{note}{room}")
 
     def test_spaceship_has_room_to_move(self):
-        out, err = self.posed("spaceship", 2, 1, 1, -1, 2)
+        out, err = self.posed("spaceship", 2, 1, 1, -1, 2, "--margin", 0)
         self.assertEqual(out, "#! --period 1,-1,2 --live 0:1-\n0 * *\n0 0 0\n0 0 0\n\n* * *\n* * *\n* * *\n")
         note = "note: all phases have to lie in the grid of 3 by 3; --margin 1 leaves them more room\n"
         self.assertEqual(err, "options: --period 1,-1,2 --live 0:1-\n" + note)
@@ -188,7 +189,7 @@ class Pose(unittest.TestCase):
         self.assertEqual(out.split("\n")[7:10], ["*' *' *' *' *' *'", "*' 0 0 0 0 *'", "*' 0 0 1 0 *'"])
 
     def test_glide(self):
-        out, err = self.posed("glide", 2, 2, 2, -1)
+        out, err = self.posed("glide", 2, 2, 2, -1, "--margin", 0)
         free = "* * *\n* * *\n"
         self.assertEqual(out, f"#! --live 0:1-\n0 r0c0 r0c1\n0 r1c0 r1c1\n\n{free}\nr1c0 r1c1 0\nr0c0 r0c1 0\n")
         self.assertIn("note: it is there again 4 generations later, moved by -2,0\n", err)
@@ -228,7 +229,7 @@ class Pose(unittest.TestCase):
             self.assertNotIn("Traceback", err)
 
     def test_limits_themselves_are_within(self):
-        for words in ("still 64 64", "oscillator 1 1 63", "spaceship 63 1 1 1 0"):
+        for words in ("still 64 64", "oscillator 1 1 63 --margin 0", "spaceship 63 1 1 1 0 --margin 0"):
             self.posed(*words.split())
 
 
