@@ -11,13 +11,14 @@ so is the line that `lls least` and `lls open` print above a pattern.
 In the terminal two rows share a line. A file with cells that aren't known is drawn one row a line and two columns a cell: `??`
 is an unknown cell, a name stands for itself, and a mark as in search files says that the rule needn't hold into the cell.
 
---svg draws a strip of the generations instead, one strip a file, into FILE or for `-` to the standard output; --animate draws one
-generation after the other in one place.
+--svg draws a strip of the generations instead, one strip a file, into FILE or for `-` to the standard output, in which cells of one
+name have one colour, and their opposites a darker one; --animate draws one generation after the other in one place.
 --about says of known generations, in words in place of a drawing, how many cells live in each and in what box, and which is the first
 generation again, where one is, and where.
 --width is the terminal's width, where it isn't to be found out.
 """
 import argparse
+import colorsys
 import re
 import shutil
 import sys
@@ -159,27 +160,41 @@ def escaped(text):
     return text.replace("&", "&amp;").replace("<", "&lt;").replace(">", "&gt;")
 
 
-def cell_elements(word, x, y):
+def colours_of(files):
+    """Returns a colour for each name of some files, and one for its opposite, round the colour wheel."""
+    words = (word.rstrip("'").removeprefix("-") for generations in files for rows in generations for row in rows for word in row)
+    names = list(dict.fromkeys(word for word in words if word not in ("0", "1", "*")))
+    colours = {}
+    for number, name in enumerate(names):
+        for word, light in ((name, 0.82), (f"-{name}", 0.6)):
+            parts = colorsys.hls_to_rgb(number / len(names), light, 0.7)
+            colours[word] = "#" + "".join(f"{round(255 * part):02x}" for part in parts)
+    return colours
+
+
+def cell_elements(word, x, y, colours):
     """Returns the elements of one cell whose top left corner is given."""
     plain, square = word.rstrip("'"), f'x="{x}" y="{y}" width="{SIZE}" height="{SIZE}"'
     elements = []
     if plain == "1":
         elements.append(f'<rect class="live" {square}/>')
     elif plain != "0":
-        text = "?" if plain == "*" else escaped(plain)
-        elements.append(f'<rect class="open" {square}/><text x="{x + SIZE / 2:g}" y="{y + 12}">{text}</text>')
+        text, colour = "?" if plain == "*" else escaped(plain), f' style="fill:{colours[plain]}"' if plain in colours else ""
+        # A longer name is written smaller, so that it stays in its cell.
+        size = f' style="font-size:{28 // len(plain)}px"' if len(plain) > 2 else ""
+        elements.append(f'<rect class="open" {square}{colour}/><text x="{x + SIZE / 2:g}" y="{y + 12}"{size}>{text}</text>')
     if word.endswith("'"):
         elements.append(f'<circle class="mark" cx="{x + SIZE / 2:g}" cy="{y + SIZE / 2:g}" r="{SIZE / 2 - 2:g}"/>')
     return elements
 
 
-def generation_elements(rows, number, left, top):
+def generation_elements(rows, number, left, top, colours):
     """Returns the elements of a generation, with its number below the grid."""
     height, width = len(rows) * SIZE, len(rows[0]) * SIZE
     elements = [f'<rect class="ground" x="{left}" y="{top}" width="{width}" height="{height}"/>']
     for y, row in enumerate(rows):
         for x, word in enumerate(row):
-            elements += cell_elements(word, left + x * SIZE, top + y * SIZE)
+            elements += cell_elements(word, left + x * SIZE, top + y * SIZE, colours)
     lines = [f"M{left} {top + y * SIZE}h{width}" for y in range(len(rows) + 1)]
     lines += [f"M{left + x * SIZE} {top}v{height}" for x in range(len(rows[0]) + 1)]
     elements.append(f'<path class="grid" d="{"".join(lines)}"/>')
@@ -194,11 +209,11 @@ def document(width, height, elements):
 
 def strips(files):
     """Returns an SVG with one strip a file, its generations side by side."""
-    elements, top, right = [], SIZE, 0
+    elements, top, right, colours = [], SIZE, 0, colours_of(files)
     for generations in files:
         step = (len(generations[0][0]) + 1) * SIZE
         for number, rows in enumerate(generations):
-            elements += generation_elements(rows, number, SIZE + number * step, top)
+            elements += generation_elements(rows, number, SIZE + number * step, top, colours)
         right = max(right, SIZE + len(generations) * step)
         top += (len(generations[0]) + 2) * SIZE
     return document(right, top, elements)
@@ -206,7 +221,7 @@ def strips(files):
 
 def animation(files):
     """Returns an SVG that shows one generation after the other, the files side by side."""
-    elements, left, bottom = [], SIZE, 0
+    elements, left, bottom, colours = [], SIZE, 0, colours_of(files)
     for generations in files:
         # Where the last generation is the first one again, it would be seen twice in a row.
         is_closed = len(generations) > 1 and generations[-1] == generations[0]
@@ -219,7 +234,7 @@ def animation(files):
                 f'<animate attributeName="visibility" calcMode="discrete" values="{values}" '
                 f'dur="{count / 2:g}s" repeatCount="indefinite"/>'
             )
-            elements += generation_elements(rows, number, left, SIZE) + ["</g>"]
+            elements += generation_elements(rows, number, left, SIZE, colours) + ["</g>"]
         left += (len(generations[0][0]) + 1) * SIZE
         bottom = max(bottom, (len(generations[0]) + 3) * SIZE)
     return document(left, bottom, elements)

@@ -122,6 +122,20 @@ class Show(unittest.TestCase):
         # The grids are two cells wide and a cell apart: the second one's left end is three cells right of the first one's.
         self.assertEqual((second[0] - first[0], second[1] - first[1]), (2 * show.SIZE, -show.SIZE))
 
+    def test_names_have_colours(self):
+        path = scratch(self, "names.lls", "a b' -a\n* b a\n")
+        rects = [rect for rect in self.svg(path).iter("{http://www.w3.org/2000/svg}rect") if rect.get("class") == "open"]
+        a, b, opposite, unknown, again, same = (rect.get("style") for rect in rects)
+        self.assertEqual((a, b, unknown), (same, again, None))
+        self.assertEqual(len({a, b, opposite, None}), 4)
+
+    def test_the_picture_of_a_glide(self):
+        _, out, _ = ran("tools/show.py", "examples/glide.lls", "examples/glide.pattern", "--svg", "-")
+        with open(f"{TOP}/docs/glide.svg", encoding="utf-8") as file:
+            self.assertEqual(out, file.read())
+        with open(f"{TOP}/examples/glide.lls", encoding="utf-8") as file:
+            self.assertEqual(ran("tools/pose.py", "glide", "5", "5", "2", "1")[1], file.read())
+
     def test_animation_has_a_step_a_generation(self):
         steps = list(self.svg("--animate", "examples/glider.pattern").iter("{http://www.w3.org/2000/svg}animate"))
         self.assertEqual([step.get("values").split(";").index("visible") for step in steps], [0, 1, 2, 3, 4])
