@@ -3,6 +3,7 @@
 
     spread.py start SEARCH FOLDER [problem options] [--bare] [--budget N] [--cells N] [--lls PROGRAM]
     spread.py run FOLDER [-- options of GNU parallel]
+    spread.py next FOLDER [--age SECONDS]
     spread.py join FOLDER PROOF
     spread.py look FOLDER
 
@@ -13,6 +14,10 @@ parallel (Debian's package `parallel`): over this machine's processors, or with 
 program under the same name, and `rsync`. A piece whose budget is spent is split by one more cell, and its parts get twice the budget. `run` can be
 killed at any time and begun again; a piece counts only where its answer stands whole. It ends with 20 where every piece is closed,
 and with 10 where one has a pattern, which fits the whole file too and is judged against it.
+
+`next` is for queues of jobs, and needs no GNU parallel: it searches one open piece and ends with 0, or with 30 where none is free just now, and as `run` does where
+nothing is left. Any number of them may run at once over a folder that their machines share, but not beside `run`. A piece is locked by a file, which counts no more when it
+is older than --age (a day): whoever made it is gone then.
 
 `join` writes the proof that no generations fit SEARCH and the options, and has `lls check` look at it. It reads the pieces' proofs
 line by line, so its memory goes with the clauses that are in use at a time. `look` says how a search stands.
@@ -25,6 +30,7 @@ import os
 import re
 import shlex
 import shutil
+import socket
 import subprocess
 import sys
 import time
@@ -34,6 +40,8 @@ from refute import read_search_file
 
 OPTIONS = ("rule", "edge", "symmetry", "period", "live", "differ", "formula")
 FIRST_BUDGET, MOST_BUDGET = 10_000, 10_000_000
+# the seconds of a day
+MOST_AGE = 86_400
 PATTERN, ABSENT, UNDECIDED = 10, 20, 30
 
 
@@ -183,10 +191,15 @@ JOB = (
 )
 
 
+def text_of(piece):
+    """Returns a piece's search file."""
+    return "\n\n".join("\n".join(map(" ".join, rows)) for rows in piece.generations()) + "\n"
+
+
 def search_round(spread, pieces, more):
     """Searches pieces by GNU parallel, and returns whether it could."""
     for piece in pieces:
-        write_whole(piece.path("lls"), "\n\n".join("\n".join(map(" ".join, rows)) for rows in piece.generations()) + "\n")
+        write_whole(piece.path("lls"), text_of(piece))
     write_whole(f"{spread.folder}/round", "".join(f"{piece.name}\t{piece.budget()}\n" for piece in pieces))
     job = JOB.format(lls=shlex.quote(spread.program), options=" ".join(map(shlex.quote, spread.options)))
     words = ["parallel", "--will-cite", "--joblog", "joblog", "--colsep", "\t", "-a", "round"]
@@ -243,7 +256,7 @@ def run(words):
         for piece in list(spread.leaves()):
             take_ended(spread, piece)
         leaves = list(spread.leaves())
-        found = next((piece for piece in leaves if piece.has("pattern")), None)
+        found = next_of(leaves, "pattern")
         if found:
             return judged(spread, found)
         count, closed, share = stands(leaves)
@@ -254,6 +267,89 @@ def run(words):
         search_round(spread, pieces, words.more)
         if not any(piece.has("ended") for piece in pieces):
             raise Stop(f"no piece ended in this round; {words.folder}/joblog says how the jobs did")
+
+
+# One piece at a time.
+
+
+class Lock:
+    """A file that says that a piece is being searched. `is_held` says whether it was made by this process."""
+
+    def __init__(self, piece, age):
+        self.path, self.age = piece.path("lock"), age
+
+    def make(self):
+        try:
+            os.close(os.open(self.path, os.O_CREAT | os.O_EXCL | os.O_WRONLY))
+            return True
+        except FileExistsError:
+            return False
+
+    def __enter__(self):
+        self.is_held = self.make()
+        try:
+            if not self.is_held and time.time() - os.stat(self.path).st_mtime > self.age:
+                # Of all that find it too old, one can rename it.
+                old = f"{self.path}.{whose()}"
+                os.rename(self.path, old)
+                os.remove(old)
+                self.is_held = self.make()
+        except FileNotFoundError:
+            pass
+        return self
+
+    def __exit__(self, *_):
+        if self.is_held:
+            os.remove(self.path)
+
+
+def whose():
+    """A name that no other process on any machine has."""
+    return f"{socket.gethostname()}.{os.getpid()}"
+
+
+def search_one(spread, piece):
+    """Searches a piece and takes what comes of it."""
+    write_whole(piece.path("lls"), text_of(piece))
+    part, out = piece.path(f"part.{whose()}"), piece.path(f"out.{whose()}")
+    try:
+        with open(out, "wb") as file:
+            words = [spread.program, "search", piece.path("lls"), part, *spread.options, f"--budget={piece.budget()}"]
+            done = subprocess.run(words, stdin=subprocess.DEVNULL, stdout=file, stderr=subprocess.PIPE, check=False)
+        if done.returncode not in (PATTERN, ABSENT, UNDECIDED):
+            raise Stop(f"{piece.name}: {done.stderr.decode(errors='replace').strip() or f'status {done.returncode}'}")
+        found = {PATTERN: out, ABSENT: part, UNDECIDED: os.devnull}[done.returncode]
+        with open(found, encoding="ascii") as file:
+            write_whole(piece.path("ended"), f"{done.returncode}\n{file.read()}")
+    finally:
+        for path in (part, out):
+            if os.path.exists(path):
+                os.remove(path)
+    take_ended(spread, piece)
+
+
+def next_piece(words):
+    spread = Spread(words.folder)
+    leaves = list(spread.leaves())
+    found = next_of(leaves, "pattern")
+    if found:
+        return judged(spread, found)
+    for piece in leaves:
+        if piece.has("proof"):
+            continue
+        with Lock(piece, words.age) as lock:
+            # Another process may have closed or split it meanwhile.
+            if lock.is_held and not piece.has("proof") and not piece.has("split"):
+                # One that was ended may have left its answer.
+                if take_ended(spread, piece) is None:
+                    search_one(spread, piece)
+                return judged(spread, piece) if piece.has("pattern") else 0
+    return ABSENT if all(piece.has("proof") for piece in spread.leaves()) else UNDECIDED
+
+
+def next_of(leaves, ending_):
+    """Returns the first piece with a file of this kind, or None."""
+    return next((piece for piece in leaves if piece.has(ending_)), None)
 
 
 # One proof.
@@ -374,20 +470,22 @@ def number(least):
 def words_given():
     parser = argparse.ArgumentParser(prog="spread.py", usage=ending.usage_of(__doc__))
     kinds = parser.add_subparsers(dest="kind", required=True)
-    for kind in (start, run, join, look):
-        words = kinds.add_parser(kind.__name__)
+    for name, kind in {"start": start, "run": run, "next": next_piece, "join": join, "look": look}.items():
+        words = kinds.add_parser(name)
         if kind is start:
             words.add_argument("search")
         words.add_argument("folder")
         if kind is join:
             words.add_argument("proof")
         if kind is start:
-            for name in OPTIONS:
-                words.add_argument(f"--{name}")
+            for option in OPTIONS:
+                words.add_argument(f"--{option}")
             words.add_argument("--bare", action="store_true")
             words.add_argument("--budget", type=number(1), default=FIRST_BUDGET)
             words.add_argument("--cells", type=number(0), default=1)
             words.add_argument("--lls", default=f"{os.path.dirname(os.path.abspath(__file__))}/../lls")
+        if kind is next_piece:
+            words.add_argument("--age", type=number(0), default=MOST_AGE)
         words.set_defaults(do=kind)
     given = sys.argv[1:]
     end = given.index("--") if "--" in given else len(given)

@@ -82,6 +82,21 @@ class Pieces(unittest.TestCase):
         self.assertEqual([spread.take_ended(self.piece(name).spread, self.piece(name)) for name in ("r0", "r1", "r00")], [20, 30, None])
         self.assertEqual(sorted(os.listdir(f"{self.folder}/pieces")), ["r0.proof", "r1.split"])
 
+    def test_locks(self):
+        piece = self.piece("r0")
+        with spread.Lock(piece, 60) as lock:
+            self.assertTrue(lock.is_held)
+            with spread.Lock(piece, 60) as other:
+                self.assertFalse(other.is_held)
+            self.assertTrue(piece.has("lock"))
+        self.assertFalse(piece.has("lock"))
+        # Whoever made a file that is too old is gone.
+        with open(piece.path("lock"), "wb"):
+            os.utime(piece.path("lock"), (0, 0))
+        with spread.Lock(piece, 60) as lock:
+            self.assertTrue(lock.is_held)
+        self.assertEqual(os.listdir(os.path.dirname(piece.path("lock"))), [])
+
     def test_options_of_the_file(self):
         for line, options in [
             ("#! --period 3 --differ 0,1", ["--period=3", "--differ=0,1"]),
