@@ -406,6 +406,9 @@ class Building(unittest.TestCase):
         os.utime(path, (2**31, 2**31))
         self.write("q.lls", "# a ship\n#! --period 4,1,1\n* *\n")
         self.write("other.lls", "#!/bin/sh\n* *\n")
+        self.write("odd.lls", "#! --budget 4\n* *\n")
+        why = "lls: the file's line '#!' (--bare leaves it out): odd.lls: '--budget' on its line '#!' is no option of a question\n"
+        self.assertEqual(self.lls("exit 9", "search", "odd.lls", "p"), (2, "", why))
         line = "lls: with the options that the file's line '#!' has (--bare leaves them out): search q.lls p --period 4,1,1\n"
         for words, ran_with, said in [
             ("search q.lls p", "search q.lls p --period 4,1,1", line),
@@ -417,6 +420,7 @@ class Building(unittest.TestCase):
             ("search other.lls p", "search other.lls p", ""),
             ("search none.lls p", "search none.lls p", ""),
             ("lrat q.lls p", "lrat q.lls p", ""),
+            ("--bare search odd.lls p", "search odd.lls p", ""),
         ]:
             self.assertEqual(self.lls("exit 9", *words.split()), (0, "\n".join(ran_with.split()) + "\n", said), words)
 
@@ -436,6 +440,11 @@ class Building(unittest.TestCase):
             (["--quiet", "open", "q", "p"], ["open", "q", "p"], ""),
             (["search", "q", "p", "--turns", "5"], ["search", "q", "p", "--turns", "5"], "lls: note: --turns says whose turn it is in a crew, and without --crew there is none\n"),
             (["search", "q", "p", "--turns=5", "--crew=2"], ["search", "q", "p", "--turns=5", "--crew=2"], ""),
+            (
+                ["search", "q", "p", "--manner=both", "--crew", "2"],
+                ["search", "q", "p", "--manner=both", "--crew", "2"],
+                "lls: note: --manner does nothing beside --crew: a crew has searchers of both kinds\n",
+            ),
             (["rule", "nothing"], ["rule", "nothing"], ""),
             (["check", "life", "maze", "--edge", "open"], ["check", "life", "maze", "--edge", "open"], ""),
         ]:
