@@ -6,20 +6,21 @@ use Rattle.std.proofs.lemmas.List.{take_all}
 use Rattle.lls_base.specs.Shelf.{Files}
 use Rattle.lls_words.specs.declared.error.WordsError.{WordsError}
 use Rattle.lls_cli.specs.declared.task.Task.{Task}
-use Rattle.lls_cli.specs.Questions.{Question}
-use Rattle.lls_cli.specs.declared.answer_file.AnswerFile.{AnswerFile}
-use Rattle.lls_cli.specs.declared.answer.Answer.{Answer}
+use Rattle.lls_answers.specs.Questions.{Question}
+use Rattle.lls_answers.specs.declared.answer_file.AnswerFile.{AnswerFile}
+use Rattle.lls_answers.specs.declared.answer.Answer.{Answer}
 use Rattle.lls_cli.specs.declared.fault.Fault.{Fault}
 use Rattle.lls_cli.specs.declared.fault.Fault.TheVariants as faults
 use Rattle.lls_cli.specs.declared.fault.OutsideFault.TheVariants as outside
-use Rattle.lls_cli.specs.declared.status.Status.{Status}
-use Rattle.lls_cli.specs.declared.status.Status.TheVariants as statuses
-use Rattle.lls_cli.specs.Moment.{ShelfMoment, Moment, files_at}
-use Rattle.lls_cli.specs.Answer.{ahead_of}
-use Rattle.lls_cli.specs.Ends.{LeavesPart, with_file, End, refused, lacked, input_failed, ahead_failed, answered, file_failed, output_failed, IsEnd}
+use Rattle.lls_answers.specs.declared.status.Status.{Status}
+use Rattle.lls_answers.specs.declared.status.Status.TheVariants as statuses
+use Rattle.lls_outside.specs.Moment.{ShelfMoment, Moment, files_at}
+use Rattle.lls_answers.specs.Answer.{ahead_of}
+use Rattle.lls_cli.specs.Ends.{LeavesPart, End, refused, lacked, input_failed, ahead_failed, answered, file_failed, output_failed, IsEnd}
+use Rattle.lls_answers.specs.Standing.{with_file}
 use Rattle.lls_cli.specs.Claims.{IsAnswered, IsBegun, IsBegunFor, LeavesBegun}
 use Rattle.lls_cli.proofs.Behind.{WroteAhead, answer_of, lacking}
-use Rattle.lls_cli.proofs.Changes.{option_map-none}
+use Rattle.lls_answers.proofs.Standing.{option_map-none}
 use Rattle.lls_cli.proofs.Consequences.{no_fault_status, is_answered, ahead_part, of_question}
 
 -- a file that failed

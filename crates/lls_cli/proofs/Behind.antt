@@ -2,13 +2,14 @@
 use Rattle.std.proofs.Common.{◌≡◌, Option, None, Some, Ok, refl, sym, subst, inl, inr, ◌⊎◌}
 use Rattle.lls_base.specs.Shelf.{Files}
 use Rattle.lls_cli.specs.declared.task.Task.{Task}
-use Rattle.lls_cli.specs.Questions.{Question}
-use Rattle.lls_cli.specs.declared.answer_file.AnswerFile.{AnswerFile}
-use Rattle.lls_cli.specs.declared.status.Status.{Status}
+use Rattle.lls_answers.specs.Questions.{Question}
+use Rattle.lls_answers.specs.declared.answer_file.AnswerFile.{AnswerFile}
+use Rattle.lls_answers.specs.declared.status.Status.{Status}
 use Rattle.lls_cli.specs.Question.{Asks}
-use Rattle.lls_cli.specs.Moment.{ShelfMoment, Moment, with_shelf}
-use Rattle.lls_cli.specs.Answer.{ahead_of}
-use Rattle.lls_cli.specs.Ends.{LacksMemory, WroteFile, End, refused, lacked, input_failed, ahead_failed, answered, file_failed, output_failed, IsEndOf, IsEndBehind, Ends}
+use Rattle.lls_outside.specs.Moment.{ShelfMoment, Moment, with_shelf}
+use Rattle.lls_answers.specs.Answer.{ahead_of}
+use Rattle.lls_cli.specs.Ends.{LacksMemory, End, refused, lacked, input_failed, ahead_failed, answered, file_failed, output_failed, IsEndOf, IsEndBehind, Ends}
+use Rattle.lls_answers.specs.Standing.{WroteFile}
 
 -- the file stands, or there is none and the shelf is as before
 abbrev pub WroteAhead : Option AnswerFile → ShelfMoment → ShelfMoment → Type 0

@@ -7,24 +7,12 @@ use Rattle.std.specs.FinMap as map
 use Rattle.std.specs.Option.{option_map}
 use Rattle.lls_base.specs.Shelf.{Files}
 use Rattle.lls_base.proofs.FileMaps.{same_name-false}
-use Rattle.lls_cli.specs.declared.answer_file.AnswerFile.{AnswerFile}
+use Rattle.lls_answers.specs.declared.answer_file.AnswerFile.{AnswerFile}
 use Rattle.lls_cli.specs.declared.fault.Fault.{Fault}
 use Rattle.lls_cli.specs.declared.fault.Fault.TheVariants as faults
 use Rattle.lls_cli.specs.declared.fault.OutsideFault.TheVariants as outside
-use Rattle.lls_cli.specs.Moment.{ShelfMoment, files_at}
-use Rattle.lls_cli.specs.Ends.{WroteFile, LeavesPart, with_file}
+use Rattle.lls_cli.specs.Ends.{LeavesPart}
 use Rattle.lls_cli.specs.Claims.{ChangesOnly}
-
-pub option_map-none : (files : Option Files) → option_map (with_file None) files ≡ files
-option_map-none None = refl
-option_map-none (Some files) = refl
-
-pub wrote_none : (file : Option AnswerFile) (before after : ShelfMoment) → file ≡ None → WroteFile file before after → files_at after ≡ files_at before
-wrote_none file before after none wrote = wrote.files ∙ ap (λ f. option_map (with_file f) (files_at before)) none ∙ option_map-none (files_at before)
-
-pub wrote_some : (file : Option AnswerFile) (some : AnswerFile) (before after : ShelfMoment) → file ≡ Some some → WroteFile file before after
-    → files_at after ≡ option_map (λ files. map.insert files some.name some.bytes) (files_at before)
-wrote_some file some before after is wrote = wrote.files ∙ ap (λ f. option_map (with_file f) (files_at before)) is
 
 pub changes_none : (outputs : List (List ℕ)) (before after : Option Files) → after ≡ before → ChangesOnly outputs before after
 changes_none [] before after same = same

@@ -4,7 +4,7 @@ use Rattle.lls_base.specs.Shelf.{Files}
 use Rattle.lls_cli.specs.declared.task.Task.{Task}
 use Rattle.lls_cli.specs.declared.fault.Fault.{Fault}
 use Rattle.lls_cli.specs.Question.{Asks}
-use Rattle.lls_cli.specs.Moment.{ShelfMoment}
+use Rattle.lls_outside.specs.Moment.{ShelfMoment}
 use Rattle.lls_cli.specs.Steps.{Reads, ComesTo}
 
 -- a refusal of the inputs is what they come to

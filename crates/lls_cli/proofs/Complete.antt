@@ -4,13 +4,13 @@ use Rattle.lls_base.specs.Faults.{Rose}
 use Rattle.lls_base.specs.Shelf.{Files}
 use Rattle.lls_words.specs.declared.error.WordsError.{WordsError}
 use Rattle.lls_cli.specs.declared.task.Task.{Task}
-use Rattle.lls_cli.specs.Questions.{Question}
+use Rattle.lls_answers.specs.Questions.{Question}
 use Rattle.lls_cli.specs.declared.fault.Fault.{Fault}
-use Rattle.lls_cli.specs.declared.status.Status.{Status}
-use Rattle.lls_cli.specs.declared.status.Status.TheVariants as statuses
+use Rattle.lls_answers.specs.declared.status.Status.{Status}
+use Rattle.lls_answers.specs.declared.status.Status.TheVariants as statuses
 use Rattle.lls_cli.specs.Question.{question_of, Asks}
-use Rattle.lls_cli.specs.Answer.{Holds, ahead_of}
-use Rattle.lls_cli.specs.Moment.{Moment, files_at}
+use Rattle.lls_answers.specs.Answer.{Holds, ahead_of}
+use Rattle.lls_outside.specs.Moment.{Moment, files_at}
 use Rattle.lls_cli.specs.Ends.{End, refused, lacked, input_failed, ahead_failed, answered, file_failed, output_failed, IsEnd}
 use Rattle.lls_cli.specs.Claims.{IsComplete}
 use Rattle.lls_cli.proofs.Behind.{ahead_faults, answer_of, lacking}

@@ -13,19 +13,20 @@ use Rattle.lls_problem.specs.declared.demands.DemandError.TheVariants as demands
 use Rattle.lls_words.specs.declared.error.WordsError.{WordsError}
 use Rattle.lls_words.specs.declared.error.WordsError.TheVariants as words
 use Rattle.lls_cli.specs.declared.task.Task.{Task}
-use Rattle.lls_cli.specs.Questions.{Question}
-use Rattle.lls_cli.specs.declared.answer_file.AnswerFile.{AnswerFile}
-use Rattle.lls_cli.specs.declared.answer.Answer.{Answer}
+use Rattle.lls_answers.specs.Questions.{Question}
+use Rattle.lls_answers.specs.declared.answer_file.AnswerFile.{AnswerFile}
+use Rattle.lls_answers.specs.declared.answer.Answer.{Answer}
 use Rattle.lls_cli.specs.declared.fault.Fault.{Fault}
 use Rattle.lls_cli.specs.declared.fault.Fault.TheVariants as faults
 use Rattle.lls_cli.specs.declared.fault.OutsideFault.TheVariants as outside
-use Rattle.lls_cli.specs.declared.status.Status.{Status}
-use Rattle.lls_cli.specs.declared.status.Status.TheVariants as statuses
+use Rattle.lls_answers.specs.declared.status.Status.{Status}
+use Rattle.lls_answers.specs.declared.status.Status.TheVariants as statuses
 use Rattle.lls_cli.specs.Fault.{status_of, words_status, posed_status, demand_status, dimacs_status}
-use Rattle.lls_cli.specs.Answer.{IsAnswer, Holds, ahead_of}
+use Rattle.lls_answers.specs.Answer.{IsAnswer, Holds, ahead_of}
 use Rattle.lls_cli.specs.Question.{Asking, of_none, of_one, of_two, asking_of, question_by, question_of, AsksBy, Asks, input_of}
-use Rattle.lls_cli.specs.Moment.{ShelfMoment, SinkMoment, Moment, files_at}
-use Rattle.lls_cli.specs.Ends.{FileFailed, IsCurrent, KeepsOutput, WroteFile, IsDecided, End, refused, lacked, input_failed, ahead_failed, answered, file_failed, output_failed, IsEndBehind, Ends, IsEnd}
+use Rattle.lls_outside.specs.Moment.{ShelfMoment, SinkMoment, Moment, files_at}
+use Rattle.lls_cli.specs.Ends.{FileFailed, IsDecided, End, refused, lacked, input_failed, ahead_failed, answered, file_failed, output_failed, IsEndBehind, Ends, IsEnd}
+use Rattle.lls_answers.specs.Standing.{IsCurrent, KeepsOutput, WroteFile}
 use Rattle.lls_cli.proofs.Behind.{answer_of, WroteAhead, ahead_faults, lacking}
 use Rattle.lls_cli.specs.Claims.{OfQuestion, IsSilent, IsAnswered, IsFaultStatus, MissesFile, HasCause, NoCallFailed, NothingFailed, CountsNeverFall, SaysAnswer}
 

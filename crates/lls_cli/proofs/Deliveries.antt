@@ -1,17 +1,19 @@
 -- How an answer was given, by how its file and its text were.
 use Rattle.std.proofs.Common.{◌≡◌, Option, Result, Ok, Err, refl}
 use Rattle.lls_base.specs.declared.sink.Failed.{Failed}
-use Rattle.lls_cli.specs.declared.answer_file.AnswerFile.{AnswerFile}
-use Rattle.lls_cli.specs.declared.answer.Answer.{Answer}
+use Rattle.lls_answers.specs.declared.answer_file.AnswerFile.{AnswerFile}
+use Rattle.lls_answers.specs.declared.answer.Answer.{Answer}
 use Rattle.lls_cli.specs.declared.fault.Fault.TheVariants.{Outside}
 use Rattle.lls_cli.specs.declared.fault.OutsideFault.{OutsideFault}
 use Rattle.lls_cli.specs.declared.fault.OutsideFault.TheVariants as outside
-use Rattle.lls_cli.specs.declared.status.Status.{Status}
-use Rattle.lls_cli.specs.declared.status.Status.TheVariants as statuses
+use Rattle.lls_answers.specs.declared.status.Status.{Status}
+use Rattle.lls_answers.specs.declared.status.Status.TheVariants as statuses
 use Rattle.lls_cli.specs.Fault.{fault_line}
-use Rattle.lls_cli.specs.Moment.{ShelfMoment, SinkMoment, moment}
-use Rattle.lls_cli.specs.Ends.{GrewBy, WroteFile, FileFailed, End, answered, file_failed, output_failed}
-use Rattle.lls_cli.specs.Steps.{IsDelivery, Unwritten, Writes}
+use Rattle.lls_outside.specs.Moment.{ShelfMoment, SinkMoment, moment}
+use Rattle.lls_outside.specs.Grown.{GrewBy, Writes}
+use Rattle.lls_answers.specs.Standing.{WroteFile}
+use Rattle.lls_cli.specs.Ends.{FileFailed, End, answered, file_failed, output_failed}
+use Rattle.lls_cli.specs.Steps.{IsDelivery, Unwritten}
 
 -- its file stands, and its text was given
 pub gave_whole : (answer : Answer) (before after : ShelfMoment) (out_before out_after err : SinkMoment) (result : Result (Unit {0}) Failed) → WroteFile answer.file before after

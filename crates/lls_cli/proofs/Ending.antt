@@ -6,20 +6,23 @@ use Rattle.lls_base.proofs.Faults.{Counts-refl}
 use Rattle.lls_words.specs.declared.error.WordsError.{WordsError}
 use Rattle.lls_words.specs.declared.error.WordsError.TheVariants as words
 use Rattle.lls_cli.specs.declared.task.Task.{Task}
-use Rattle.lls_cli.specs.Questions.{Question}
-use Rattle.lls_cli.specs.declared.answer_file.AnswerFile.{AnswerFile}
-use Rattle.lls_cli.specs.declared.answer.Answer.{Answer}
+use Rattle.lls_answers.specs.Questions.{Question}
+use Rattle.lls_answers.specs.declared.answer_file.AnswerFile.{AnswerFile}
+use Rattle.lls_answers.specs.declared.answer.Answer.{Answer}
 use Rattle.lls_cli.specs.declared.fault.Fault.{Fault}
 use Rattle.lls_cli.specs.declared.fault.Fault.TheVariants as faults
 use Rattle.lls_cli.specs.declared.fault.OutsideFault.{OutsideFault}
 use Rattle.lls_cli.specs.declared.fault.OutsideFault.TheVariants as outside
-use Rattle.lls_cli.specs.declared.status.Status.{Status}
-use Rattle.lls_cli.specs.declared.status.Status.TheVariants as statuses
+use Rattle.lls_answers.specs.declared.status.Status.{Status}
+use Rattle.lls_answers.specs.declared.status.Status.TheVariants as statuses
 use Rattle.lls_cli.specs.Fault.{fault_line, words_fault}
-use Rattle.lls_cli.specs.Answer.{IsAnswer, ahead_of}
+use Rattle.lls_answers.specs.Answer.{IsAnswer, ahead_of}
 use Rattle.lls_cli.specs.Question.{Asking, of_none, of_one, of_two, asking_of, Asks}
-use Rattle.lls_cli.specs.Moment.{ShelfMoment, SinkMoment, Moment, moment, files_at}
-use Rattle.lls_cli.specs.Ends.{GrewBy, KeepsFiles, KeepsInput, LacksMemory, IsOfInput, WroteFile, FileFailed, LeavesPart, LeavesInput, ReadsInputs, HasInputs, IsDecided, with_file, End, refused, lacked, input_failed, ahead_failed, answered, file_failed, output_failed, IsEndOf, IsEndBehind, Ends, IsEnd}
+use Rattle.lls_outside.specs.Moment.{ShelfMoment, SinkMoment, Moment, moment, files_at}
+use Rattle.lls_outside.specs.Grown.{GrewBy}
+use Rattle.lls_outside.specs.Kept.{KeepsFiles, KeepsInput}
+use Rattle.lls_cli.specs.Ends.{LacksMemory, IsOfInput, FileFailed, LeavesPart, LeavesInput, ReadsInputs, HasInputs, IsDecided, End, refused, lacked, input_failed, ahead_failed, answered, file_failed, output_failed, IsEndOf, IsEndBehind, Ends, IsEnd}
+use Rattle.lls_answers.specs.Standing.{WroteFile, with_file}
 use Rattle.lls_cli.specs.Steps.{Reads, Stops, ComesTo, Says, IsDelivery}
 
 -- a right answer that was delivered

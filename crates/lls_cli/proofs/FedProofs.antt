@@ -12,20 +12,21 @@ use Rattle.lls_lrat.specs.declared.error.CheckError.{CheckError}
 use Rattle.lls_lrat.specs.declared.error.CheckError.TheVariants as errors
 use Rattle.lls_lrat.specs.Feeding.{Feeding, FeedState, begun, fed, piece_answer}
 use Rattle.lls_lrat.proofs.Feedings.{fed_fed}
-use Rattle.lls_cli.specs.Answer.{IsAnswer}
-use Rattle.lls_cli.specs.declared.answer.Answer.{Answer}
+use Rattle.lls_answers.specs.Answer.{IsAnswer}
+use Rattle.lls_answers.specs.declared.answer.Answer.{Answer}
 use Rattle.lls_base.specs.Faults.{Counts}
 use Rattle.lls_base.specs.Results.{and_then}
-use Rattle.lls_cli.specs.Questions.{Question}
-use Rattle.lls_cli.specs.Questions as questions
-use Rattle.lls_cli.specs.Subject.{Subject}
+use Rattle.lls_answers.specs.Questions.{Question}
+use Rattle.lls_answers.specs.Questions as questions
+use Rattle.lls_answers.specs.Subject.{Subject}
 use Rattle.lls_cli.specs.declared.task.Source.{Source}
 use Rattle.lls_cli.specs.declared.task.Task.TheVariants as tasks
-use Rattle.lls_cli.specs.Ends.{KeepsFiles}
+use Rattle.lls_outside.specs.Kept.{KeepsFiles}
 use Rattle.lls_cli.specs.declared.fault.Fault.{Fault}
 use Rattle.lls_cli.specs.declared.fault.Fault.TheVariants as faults
-use Rattle.lls_cli.specs.Fed.{FedRest, IsFed, fed_with, ProofComesTo}
-use Rattle.lls_cli.specs.Moment.{ShelfMoment, files_at}
+use Rattle.lls_cli.specs.Fed.{FedRest, IsFed, ProofComesTo}
+use Rattle.lls_answers.specs.Checks.{fed_with}
+use Rattle.lls_outside.specs.Moment.{ShelfMoment, files_at}
 use Rattle.lls_cli.specs.Question.{IsInput, MadeOfOne, input_from, proof_limit, source_file, source_limit, subject_from}
 use Rattle.lls_cli.specs.Steps.{ComesTo, Reads}
 use Rattle.lls_cli.proofs.Stopped.{Stops-along, Stops-from}

@@ -7,23 +7,25 @@ use Rattle.lls_base.specs.Shelf.{Files}
 use Rattle.lls_words.specs.declared.error.WordsError.{WordsError}
 use Rattle.lls_cli.specs.declared.task.Task.{Task}
 use Rattle.lls_cli.specs.declared.task.Task.TheVariants as tasks
-use Rattle.lls_cli.specs.Questions.{Question}
-use Rattle.lls_cli.specs.declared.answer_file.AnswerFile.{AnswerFile}
-use Rattle.lls_cli.specs.declared.answer.Answer.{Answer}
+use Rattle.lls_answers.specs.Questions.{Question}
+use Rattle.lls_answers.specs.declared.answer_file.AnswerFile.{AnswerFile}
+use Rattle.lls_answers.specs.declared.answer.Answer.{Answer}
 use Rattle.lls_cli.specs.declared.fault.Fault.{Fault}
-use Rattle.lls_cli.specs.declared.status.Status.{Status}
-use Rattle.lls_cli.specs.declared.status.Status.TheVariants as statuses
+use Rattle.lls_answers.specs.declared.status.Status.{Status}
+use Rattle.lls_answers.specs.declared.status.Status.TheVariants as statuses
 use Rattle.lls_cli.specs.Question.{Asks}
-use Rattle.lls_cli.specs.Meaning.{Meaning}
-use Rattle.lls_cli.specs.Answer.{ahead_of, meaning_of}
-use Rattle.lls_cli.specs.Moment.{ShelfMoment, Moment, files_at}
-use Rattle.lls_cli.specs.Ends.{WroteFile, LeavesPart, End, refused, lacked, input_failed, ahead_failed, answered, file_failed, output_failed, IsEndBehind, Ends, IsEnd}
-use Rattle.lls_cli.specs.Claims.{search_file_at, outputs_of, outputs_of_words, ChangesOnly}
+use Rattle.lls_answers.specs.Meaning.{Meaning, search_file_at}
+use Rattle.lls_answers.specs.Answer.{ahead_of, meaning_of}
+use Rattle.lls_outside.specs.Moment.{ShelfMoment, Moment, files_at}
+use Rattle.lls_answers.specs.Standing.{WroteFile}
+use Rattle.lls_cli.specs.Ends.{LeavesPart, End, refused, lacked, input_failed, ahead_failed, answered, file_failed, output_failed, IsEndBehind, Ends, IsEnd}
+use Rattle.lls_cli.specs.Claims.{outputs_of, outputs_of_words, ChangesOnly}
 use Rattle.lls_cli.proofs.Behind.{answer_of, WroteAhead}
 use Rattle.lls_cli.proofs.Consequences.{ahead_part}
-use Rattle.lls_cli.proofs.Changes.{Same, changes_both, changes_none, inserted, part_changes, wrote_none, wrote_some}
-use Rattle.lls_cli.proofs.Laws.{lawful}
-use Rattle.lls_cli.proofs.Outputs.{MayWriteAhead, WritesAtMost}
+use Rattle.lls_cli.proofs.Changes.{Same, changes_both, changes_none, inserted, part_changes}
+use Rattle.lls_answers.proofs.Standing.{wrote_none, wrote_some}
+use Rattle.lls_answers.proofs.Laws.{lawful}
+use Rattle.lls_answers.proofs.Outputs.{MayWriteAhead, WritesAtMost}
 use Rattle.lls_cli.proofs.Tasks.{IsOf, is_of}
 
 -- the files that may have changed at a status: the one that is written ahead, and the one of the answer

@@ -6,10 +6,9 @@ use Rattle.lls_open.specs.declared.transition.TheConstants.{MOST_OPEN_CELLS}
 use Rattle.lls_solver.specs.declared.solving.TheConstants as solving
 use Rattle.lls_words.specs.Values.{most_budget, most_size}
 use Rattle.lls_cli.specs.declared.input.TheConstants.{SEARCH_LIMIT, PROOF_LIMIT}
-use Rattle.lls_cli.specs.declared.model.TheConstants.{NUMBERS_A_LINE}
-use Rattle.lls_cli.specs.ModelText.{numbers_a_line}
 use Rattle.lls_cli.specs.Limits.{AreLimits}
-use Rattle.lls_cli.specs.Question.{search_limit, proof_limit, formula_limit, most_open_cells}
+use Rattle.lls_cli.specs.Question.{search_limit, proof_limit, formula_limit}
+use Rattle.lls_answers.specs.Subject.{most_open_cells}
 
 pub search_limit-is : SEARCH_LIMIT ≡ search_limit
 search_limit-is = refl
@@ -22,9 +21,6 @@ formula_limit-is = refl
 
 pub most_open_cells-is : MOST_OPEN_CELLS ≡ most_open_cells
 most_open_cells-is = refl
-
-pub numbers_a_line-is : NUMBERS_A_LINE ≡ numbers_a_line
-numbers_a_line-is = refl
 
 -- the greatest budget of the words is the one that the solver takes
 pub most_budget-is : solving.MOST_BUDGET ≡ most_budget

@@ -11,8 +11,8 @@ use Rattle.lls_problem.specs.declared.demands.DemandError.{DemandError}
 use Rattle.lls_problem.specs.Problem.{PosedProblem, problem_made, unless, square_fault, generation_fault, bound_fault, period_fault, counter_fault}
 use Rattle.lls_cli.specs.declared.fault.Fault.{Fault}
 use Rattle.lls_cli.specs.declared.fault.Fault.TheVariants as faults
-use Rattle.lls_cli.specs.Moment.{ShelfMoment}
-use Rattle.lls_cli.specs.Ends.{KeepsFiles}
+use Rattle.lls_outside.specs.Moment.{ShelfMoment}
+use Rattle.lls_outside.specs.Kept.{KeepsFiles}
 use Rattle.lls_cli.specs.Question.{IsInput, MadeOfOne, posed_in, demanded, problem_in}
 use Rattle.lls_cli.specs.Steps.{Reads, Stops}
 

@@ -16,25 +16,25 @@ use Rattle.lls_problem.specs.Solution.{IsAbsent}
 use Rattle.lls_least.specs.Fewer.{fewer, live_cells}
 use Rattle.lls_least.proofs.Solutions.{solution-fewer, live_cells-fewer}
 use Rattle.lls_words.specs.declared.error.WordsError.{WordsError}
-use Rattle.lls_cli.specs.declared.effort.Effort.{Effort}
-use Rattle.lls_cli.specs.declared.task.Further.{Further}
+use Rattle.lls_answers.specs.declared.effort.Effort.{Effort}
+use Rattle.lls_answers.specs.declared.effort.Further.{Further}
 use Rattle.lls_cli.specs.declared.task.ProblemSource.{ProblemSource}
 use Rattle.lls_cli.specs.declared.task.Source.{Source}
 use Rattle.lls_cli.specs.declared.task.Source.TheVariants as sources
 use Rattle.lls_cli.specs.declared.task.Task.{Task}
 use Rattle.lls_cli.specs.declared.task.Task.TheVariants as tasks
-use Rattle.lls_cli.specs.Subject.{Subject, asked_with}
-use Rattle.lls_cli.specs.Subject as subjects
-use Rattle.lls_cli.specs.Questions.{Question}
-use Rattle.lls_cli.specs.Questions as questions
-use Rattle.lls_cli.specs.declared.asked.Asked.{Asked}
-use Rattle.lls_cli.specs.declared.status.Status.{Status}
-use Rattle.lls_cli.specs.declared.status.Status.TheVariants as statuses
+use Rattle.lls_answers.specs.Subject.{Subject, asked_with}
+use Rattle.lls_answers.specs.Subject as subjects
+use Rattle.lls_answers.specs.Questions.{Question}
+use Rattle.lls_answers.specs.Questions as questions
+use Rattle.lls_answers.specs.declared.asked.Asked.{Asked}
+use Rattle.lls_answers.specs.declared.status.Status.{Status}
+use Rattle.lls_answers.specs.declared.status.Status.TheVariants as statuses
 use Rattle.lls_cli.specs.declared.fault.Fault.{Fault}
 use Rattle.lls_cli.specs.Question.{demanded, input_from, input_of, problem_in, roomy_problem_in, with_room, proof_limit, search_limit, source_file, source_limit, subject_from}
-use Rattle.lls_cli.specs.Fewest.{asked_fewer, IsOfFewest}
-use Rattle.lls_cli.specs.Meaning.{certificate_at, log_at}
-use Rattle.lls_cli.specs.Answer.{NoneHolds, YesHolds}
+use Rattle.lls_answers.specs.Fewest.{asked_fewer, IsOfFewest}
+use Rattle.lls_answers.specs.Meaning.{certificate_at, log_at}
+use Rattle.lls_answers.specs.Answer.{NoneHolds, YesHolds}
 use Rattle.lls_cli.specs.Claims.{OfQuestion, LeavesCertificate, LeavesProof, ChangesOnly, IsPublished, Publishes, PublishesFewest, demands_fewer, source_fewer, outputs_of_words}
 use Rattle.lls_cli.proofs.Apart.{AreApart}
 use Rattle.lls_cli.proofs.Made.{made_is}

@@ -1,10 +1,10 @@
 -- What a run promises follows from how it ends.
 use Rattle.std.proofs.Common.{Result, ap, refl}
 use Rattle.lls_words.specs.declared.error.WordsError.{WordsError}
-use Rattle.lls_cli.specs.declared.status.Status.{Status}
-use Rattle.lls_cli.specs.declared.status.Status.TheVariants as statuses
+use Rattle.lls_answers.specs.declared.status.Status.{Status}
+use Rattle.lls_answers.specs.declared.status.Status.TheVariants as statuses
 use Rattle.lls_cli.specs.declared.task.Task.{Task}
-use Rattle.lls_cli.specs.Moment.{SinkMoment, Moment}
+use Rattle.lls_outside.specs.Moment.{SinkMoment, Moment}
 use Rattle.lls_cli.specs.Ends.{End, IsEnd}
 use Rattle.lls_cli.specs.Run.{IsRun}
 use Rattle.lls_cli.proofs.Apart.{AreApart}

@@ -7,22 +7,24 @@ use Rattle.lls_base.proofs.FileMaps.{get-insert_same}
 use Rattle.lls_words.specs.declared.error.WordsError.{WordsError}
 use Rattle.lls_cli.specs.declared.task.Task.{Task}
 use Rattle.lls_cli.specs.declared.task.Task.TheVariants as tasks
-use Rattle.lls_cli.specs.Questions.{Question}
-use Rattle.lls_cli.specs.Questions as questions
-use Rattle.lls_cli.specs.declared.answer_file.AnswerFile.{AnswerFile}
-use Rattle.lls_cli.specs.declared.answer.Answer.{Answer}
-use Rattle.lls_cli.specs.declared.status.Status.{Status}
-use Rattle.lls_cli.specs.declared.status.Status.TheVariants as statuses
-use Rattle.lls_cli.specs.Answer.{ahead_of, meaning_of}
-use Rattle.lls_cli.specs.Moment.{ShelfMoment, Moment, files_at}
-use Rattle.lls_cli.specs.Ends.{WroteFile, End, IsEnd}
+use Rattle.lls_answers.specs.Questions.{Question}
+use Rattle.lls_answers.specs.Questions as questions
+use Rattle.lls_answers.specs.declared.answer_file.AnswerFile.{AnswerFile}
+use Rattle.lls_answers.specs.declared.answer.Answer.{Answer}
+use Rattle.lls_answers.specs.declared.status.Status.{Status}
+use Rattle.lls_answers.specs.declared.status.Status.TheVariants as statuses
+use Rattle.lls_answers.specs.Answer.{ahead_of, meaning_of}
+use Rattle.lls_outside.specs.Moment.{ShelfMoment, Moment, files_at}
+use Rattle.lls_answers.specs.Standing.{WroteFile}
+use Rattle.lls_cli.specs.Ends.{End, IsEnd}
 use Rattle.lls_cli.specs.Claims.{OfQuestion, IsAnswered, HasWhole}
 use Rattle.lls_cli.proofs.Apart.{AreApart, IsApart}
 use Rattle.lls_cli.proofs.Behind.{WroteAhead}
 use Rattle.lls_cli.proofs.Consequences.{IsAsked, meant, of_this}
-use Rattle.lls_cli.proofs.Changes.{Same, wrote_some}
+use Rattle.lls_cli.proofs.Changes.{Same}
+use Rattle.lls_answers.proofs.Standing.{wrote_some}
 use Rattle.lls_cli.proofs.Files.{answer_leaves}
-use Rattle.lls_cli.proofs.Laws.{lawful}
+use Rattle.lls_answers.proofs.Laws.{lawful}
 use Rattle.lls_cli.proofs.Tasks.{IsOf, is_of}
 
 -- the files that a question writes have different names

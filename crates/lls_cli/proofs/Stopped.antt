@@ -2,11 +2,11 @@
 use Rattle.std.proofs.Common.{ℕ, List, [], Option, None, Some, Result, Ok, Err, ◌≡◌, ◌∙◌, refl, ap, arith}
 use Rattle.lls_base.specs.Results.{and_then}
 use Rattle.lls_base.specs.Shelf.{Files}
-use Rattle.lls_cli.specs.Questions.{Question}
+use Rattle.lls_answers.specs.Questions.{Question}
 use Rattle.lls_cli.specs.declared.fault.Fault.{Fault}
 use Rattle.lls_cli.specs.declared.fault.Fault.TheVariants as faults
 use Rattle.lls_cli.specs.declared.fault.OutsideFault.TheVariants as outside
-use Rattle.lls_cli.specs.Moment.{ShelfMoment}
+use Rattle.lls_outside.specs.Moment.{ShelfMoment}
 use Rattle.lls_cli.specs.Question.{IsInput, MadeOfOne, MadeOf, input_of}
 use Rattle.lls_cli.specs.Steps.{Reads, Stops}
 

@@ -5,12 +5,12 @@ use Rattle.lls_base.specs.Shelf.{Files}
 use Rattle.lls_lit.specs.Formula.{Cnf}
 use Rattle.lls_grid.specs.History.{History}
 use Rattle.lls_problem.specs.Problem.{PosedProblem}
-use Rattle.lls_cli.specs.declared.asked.Asked.{Asked}
+use Rattle.lls_answers.specs.declared.asked.Asked.{Asked}
 use Rattle.lls_cli.specs.declared.task.Task.{Task}
 use Rattle.lls_cli.specs.declared.task.Task.TheVariants as tasks
-use Rattle.lls_cli.specs.Subject.{Subject, asked_with}
-use Rattle.lls_cli.specs.Questions.{Question}
-use Rattle.lls_cli.specs.Questions as questions
+use Rattle.lls_answers.specs.Subject.{Subject, asked_with}
+use Rattle.lls_answers.specs.Questions.{Question}
+use Rattle.lls_answers.specs.Questions as questions
 use Rattle.lls_cli.specs.Question.{problem_in, roomy_problem_in, formula_in, pattern_in, subject_from, Asks}
 
 -- a result of two parts is Ok by both

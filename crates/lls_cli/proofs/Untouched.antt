@@ -1,21 +1,22 @@
 -- The printing of a rule reads nothing and writes nothing, so it leaves the shelf as it is.
-use Rattle.std.proofs.Common.{◌≡◌, Bool, List, ℕ, Option, None, Some, Result, Ok, Err, refl, ap, sym, subst, ◌∙◌, inl, inr}
+use Rattle.std.proofs.Common.{◌≡◌, Bool, List, ℕ, Option, None, Some, Result, Ok, Err, refl, ap, subst, ◌∙◌, inl, inr}
 use Rattle.lls_base.specs.Shelf.{Contents, Files, known_files, known_rest, known_target}
 use Rattle.lls_words.specs.declared.error.WordsError.{WordsError}
-use Rattle.lls_cli.specs.Questions.{Question}
-use Rattle.lls_cli.specs.Questions as questions
-use Rattle.lls_cli.specs.declared.answer.Answer.{Answer}
-use Rattle.lls_cli.specs.declared.answer_file.AnswerFile.{AnswerFile}
-use Rattle.lls_cli.specs.declared.status.Status.{Status}
+use Rattle.lls_answers.specs.Questions.{Question}
+use Rattle.lls_answers.specs.Questions as questions
+use Rattle.lls_answers.specs.declared.answer.Answer.{Answer}
+use Rattle.lls_answers.specs.declared.status.Status.{Status}
 use Rattle.lls_cli.specs.declared.task.Task.{Task}
 use Rattle.lls_cli.specs.declared.task.Task.TheVariants as tasks
-use Rattle.lls_cli.specs.Answer.{IsAnswer}
+use Rattle.lls_answers.specs.Answer.{IsAnswer}
 use Rattle.lls_cli.specs.Question.{Asks}
-use Rattle.lls_cli.proofs.Changes.{option_map-none}
+use Rattle.lls_answers.proofs.Standing.{option_map-none}
 use Rattle.lls_cli.proofs.Tasks.{is_of}
-use Rattle.lls_cli.specs.Moment.{ShelfMoment, Moment, files_at}
+use Rattle.lls_outside.specs.Moment.{ShelfMoment, Moment, files_at}
 use Rattle.lls_cli.specs.Claims.{ReadsAndWritesNothing}
-use Rattle.lls_cli.specs.Ends.{KeepsFiles, KeepsInput, WroteFile, End, refused, lacked, input_failed, ahead_failed, answered, file_failed, output_failed, Ends, IsEnd}
+use Rattle.lls_outside.specs.Kept.{KeepsInput}
+use Rattle.lls_answers.specs.Standing.{WroteFile}
+use Rattle.lls_cli.specs.Ends.{End, refused, lacked, input_failed, ahead_failed, answered, file_failed, output_failed, Ends, IsEnd}
 
 abbrev contents_of : Files → Option (List ℕ) → Option (List ℕ) → Contents
 contents_of files rest target = record { files = files; rest = rest; target = target }

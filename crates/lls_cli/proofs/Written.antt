@@ -1,28 +1,16 @@
--- What a whole write leaves on a sink, and the file of an answer that wasn't written.
-use Rattle.std.proofs.Common.{◌≡◌, ◌≤◌, ℕ, List, length, take, Result, Ok, Err, Option, None, Some, OnOk, OnErr, refl, ap, sym, ◌∙◌, arith, inl, inr}
-use Rattle.std.proofs.Math.Seq.{take-length}
-use Rattle.std.specs.Io.KnownBytes.{append_known}
+-- The file of an answer that wasn't written.
+use Rattle.std.proofs.Common.{◌≡◌, ◌≤◌, ℕ, List, length, take, Option, None, Some, refl, ap, ◌∙◌}
 use Rattle.std.specs.Option.{option_map}
 use Rattle.std.specs.FinMap as map
 use Rattle.lls_base.specs.Faults.{Counts, Rose}
 use Rattle.lls_base.specs.Shelf.{Contents, known_rest}
 use Rattle.lls_base.specs.Writing.{with_output, without_output}
-use Rattle.lls_base.specs.declared.sink.Failed.{Failed}
 use Rattle.lls_base.specs.declared.writing.FileFault.{FileFault}
 use Rattle.lls_base.specs.declared.writing.FileFault.TheVariants as writes
-use Rattle.lls_cli.specs.declared.answer_file.AnswerFile.{AnswerFile}
-use Rattle.lls_cli.specs.Moment.{SinkMoment, ShelfMoment}
-use Rattle.lls_cli.specs.Ends.{GrewBy, KeepsInput}
+use Rattle.lls_answers.specs.declared.answer_file.AnswerFile.{AnswerFile}
+use Rattle.lls_outside.specs.Moment.{ShelfMoment}
+use Rattle.lls_outside.specs.Kept.{KeepsInput}
 use Rattle.lls_cli.specs.Steps.{Unwritten, file_fault}
-
-pub grew_by : (answer : Result (Unit {0}) Failed) (text : List ℕ) (before after : SinkMoment)
-    → OnOk answer (after.written ≡ append_known before.written text)
-    → OnErr answer ((n : ℕ) × (n ≤ length text) × (after.written ≡ append_known before.written (take n text)))
-    → OnErr answer (Rose before.faults after.faults) → Counts before.faults after.faults → GrewBy text before after
-grew_by (Ok done) text before after ok err failed counts =
-    record { taken = (length text, ok ∙ ap (append_known before.written) (sym (take-length text)), inl (omega arith)); counts = counts }
-grew_by (Err e) text before after ok err failed counts =
-    record { taken = (err.0, err.2, inr failed); counts = counts }
 
 -- the files where an output was given up, and where it has these bytes
 files_at-without_output : (told : Option Contents) → option_map (λ c. c.files) (option_map without_output told) ≡ option_map (λ c. c.files) told

@@ -13,26 +13,27 @@ use Rattle.lls_cli.specs.declared.task.ProblemSource.{ProblemSource}
 use Rattle.lls_cli.specs.declared.task.Source.TheVariants as sources
 use Rattle.lls_cli.specs.declared.task.Task.{Task}
 use Rattle.lls_cli.specs.declared.task.Task.TheVariants as tasks
-use Rattle.lls_cli.specs.Questions.{Question}
-use Rattle.lls_cli.specs.Questions as questions
-use Rattle.lls_cli.specs.declared.answer_file.AnswerFile.{AnswerFile}
-use Rattle.lls_cli.specs.declared.answer.Answer.{Answer}
+use Rattle.lls_answers.specs.Questions.{Question}
+use Rattle.lls_answers.specs.Questions as questions
+use Rattle.lls_answers.specs.declared.answer_file.AnswerFile.{AnswerFile}
+use Rattle.lls_answers.specs.declared.answer.Answer.{Answer}
 use Rattle.lls_cli.specs.declared.fault.Fault.{Fault}
 use Rattle.lls_cli.specs.declared.fault.Fault.TheVariants as faults
 use Rattle.lls_cli.specs.declared.fault.OutsideFault.TheVariants as outside
-use Rattle.lls_cli.specs.declared.asked.Asked.{Asked}
-use Rattle.lls_cli.specs.declared.status.Status.{Status}
-use Rattle.lls_cli.specs.declared.status.Status.TheVariants as statuses
-use Rattle.lls_cli.specs.Subject.{Subject}
-use Rattle.lls_cli.specs.Subject as subjects
+use Rattle.lls_answers.specs.declared.asked.Asked.{Asked}
+use Rattle.lls_answers.specs.declared.status.Status.{Status}
+use Rattle.lls_answers.specs.declared.status.Status.TheVariants as statuses
+use Rattle.lls_answers.specs.Subject.{Subject}
+use Rattle.lls_answers.specs.Subject as subjects
 use Rattle.lls_cli.specs.Question.{proof_limit, question_of, Asks}
 use Rattle.lls_cli.specs.Fault.{fault_line, status_of}
-use Rattle.lls_cli.specs.Ends.{GrewBy, IsCurrent, with_file}
-use Rattle.lls_cli.specs.Fewest.{asked_fewer, IsOfFewest}
-use Rattle.lls_cli.specs.Meaning.{certificate_at, log_at}
-use Rattle.lls_cli.specs.Trimming.{trimmed_at}
-use Rattle.lls_cli.specs.Answer.{Holds, IsAnswer, Leaves, YesHolds, ahead_of}
-use Rattle.lls_cli.specs.Moment.{SinkMoment, Moment, files_at}
+use Rattle.lls_outside.specs.Grown.{GrewBy}
+use Rattle.lls_answers.specs.Standing.{IsCurrent, with_file}
+use Rattle.lls_answers.specs.Fewest.{asked_fewer, IsOfFewest}
+use Rattle.lls_answers.specs.Meaning.{certificate_at, log_at, search_file_at}
+use Rattle.lls_answers.specs.Trimming.{trimmed_at}
+use Rattle.lls_answers.specs.Answer.{Holds, IsAnswer, Leaves, YesHolds, ahead_of}
+use Rattle.lls_outside.specs.Moment.{SinkMoment, Moment, files_at}
 
 -- a fact of the question that words and files ask. Where the shelf doesn't tell its files, it is a question that the words ask of
 -- some bytes for each input, which the system gave
@@ -78,14 +79,6 @@ pub record SaysAnswer (before after : Moment) (status : Status) (question : Ques
 -- the standard error says why: it grew by the line of a fault of this status, or by first bytes of it where it failed itself
 abbrev pub SaysWhy : Status → SinkMoment → SinkMoment → Type 0
 SaysWhy status before after = (fault : Fault) × (status ≡ status_of fault) × GrewBy (fault_line fault) before after
-
--- the search file of a made problem, at the statuses at which it may have changed
-abbrev pub search_file_at : Status → List ℕ → List (List ℕ)
-search_file_at statuses.Outside name = name ∷ []
-search_file_at statuses.Memory name = name ∷ []
-search_file_at statuses.Pattern name = name ∷ []
-search_file_at statuses.Undecided name = name ∷ []
-search_file_at status name = []
 
 -- the files that a task may have changed, by the status at which it ends
 abbrev pub outputs_of : Task → Status → List (List ℕ)

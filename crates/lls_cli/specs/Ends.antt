@@ -1,35 +1,27 @@
 -- How a run ends: what relates the outside at its exit to the outside at its entry, by cases.
-use Rattle.std.specs.Prelude.{◌≡◌, ◌≤◌, ◌⊎◌, ℕ, true, false, List, length, take, Option, None, Some, Result, Ok, Err}
+use Rattle.std.specs.Prelude.{◌≡◌, ◌≤◌, ◌⊎◌, ℕ, true, false, length, take, Option, None, Some, Result, Ok, Err}
 use Rattle.std.specs.Io.KnownBytes.{append_known}
 use Rattle.std.specs.FinMap as map
 use Rattle.std.specs.Option.{option_map}
 use Rattle.lls_base.specs.Faults.{Counts, Rose}
-use Rattle.lls_base.specs.Shelf.{Files, known_rest, known_target}
+use Rattle.lls_base.specs.Shelf.{Files}
 use Rattle.lls_words.specs.declared.error.WordsError.{WordsError}
 use Rattle.lls_cli.specs.declared.task.Task.{Task}
-use Rattle.lls_cli.specs.Questions.{Question}
-use Rattle.lls_cli.specs.declared.answer_file.AnswerFile.{AnswerFile}
-use Rattle.lls_cli.specs.declared.answer.Answer.{Answer}
+use Rattle.lls_answers.specs.Questions.{Question}
+use Rattle.lls_answers.specs.declared.answer_file.AnswerFile.{AnswerFile}
+use Rattle.lls_answers.specs.declared.answer.Answer.{Answer}
 use Rattle.lls_cli.specs.declared.fault.Fault.{Fault}
 use Rattle.lls_cli.specs.declared.fault.Fault.TheVariants as faults
 use Rattle.lls_cli.specs.declared.fault.OutsideFault.TheVariants as outside
-use Rattle.lls_cli.specs.declared.status.Status.{Status}
-use Rattle.lls_cli.specs.declared.status.Status.TheVariants as statuses
+use Rattle.lls_answers.specs.declared.status.Status.{Status}
+use Rattle.lls_answers.specs.declared.status.Status.TheVariants as statuses
 use Rattle.lls_cli.specs.Fault.{fault_line, status_of}
 use Rattle.lls_cli.specs.Question.{Asking, of_none, asking_of, Asks}
-use Rattle.lls_cli.specs.Answer.{IsAnswer, ahead_of}
-use Rattle.lls_cli.specs.Moment.{ShelfMoment, SinkMoment, Moment, with_shelf, files_at}
-
--- a sink grew by some first bytes of a text, and by all of it but where its count of faults rose
-pub record GrewBy (text : List ℕ) (before after : SinkMoment) : Type 0 where
-  pub taken : (n : ℕ) × (after.written ≡ append_known before.written (take n text)) × ((length text ≤ n) ⊎ Rose before.faults after.faults)
-  pub counts : Counts before.faults after.faults
-
--- the shelf's files and its current output are as before; what is left of an input may differ
-pub record KeepsFiles (before after : ShelfMoment) : Type 0 where
-  pub files : files_at after ≡ files_at before
-  pub target : known_target after.told ≡ known_target before.told
-  pub has_output : after.has_output ≡ before.has_output
+use Rattle.lls_answers.specs.Answer.{IsAnswer, ahead_of}
+use Rattle.lls_outside.specs.Moment.{ShelfMoment, Moment, with_shelf, files_at}
+use Rattle.lls_outside.specs.Grown.{GrewBy}
+use Rattle.lls_outside.specs.Kept.{KeepsFiles, KeepsInput}
+use Rattle.lls_answers.specs.Standing.{WroteFile}
 
 -- a fault that inputs decide: of the outside, the absence of a file alone
 abbrev pub IsDecided : Fault → Type 0
@@ -71,26 +63,6 @@ pub record InputFailed (fault : Fault) (before after : Moment) (status : Status)
   pub shelf_rose : Rose before.shelf.faults after.shelf.faults
   pub out : after.out ≡ before.out
   pub err : GrewBy (fault_line fault) before.err after.err
-
--- the files with the one of an answer
-abbrev pub with_file : Option AnswerFile → Files → Files
-with_file None files = files
-with_file (Some file) files = map.insert files file.name file.bytes
-
--- a file is the current output
-abbrev pub IsCurrent : AnswerFile → ShelfMoment → Type 0
-IsCurrent file after = (known_target after.told ≡ option_map (λ _. Some file.name) after.told) × (after.has_output ≡ true)
-
--- where an answer has no file, the current output is as before, and else it is that file
-abbrev pub KeepsOutput : Option AnswerFile → ShelfMoment → ShelfMoment → Type 0
-KeepsOutput None before after = (known_target after.told ≡ known_target before.told) × (after.has_output ≡ before.has_output)
-KeepsOutput (Some file) before after = IsCurrent file after
-
--- the file of an answer stands whole, if it has one
-pub record WroteFile (file : Option AnswerFile) (before after : ShelfMoment) : Type 0 where
-  pub files : files_at after ≡ option_map (with_file file) (files_at before)
-  pub output : KeepsOutput file before after
-  pub faults : after.faults ≡ before.faults
 
 -- an answer was given whole: its file, then its text
 pub record Delivered (answer : Answer) (before after : Moment) (status : Status) : Type 0 where
@@ -168,11 +140,6 @@ ReadsInputs asking = Unit {0}
 
 abbrev pub HasInputs : Task → Type 0
 HasInputs task = ReadsInputs (asking_of task)
-
--- the shelf's current input is as before, and as much of it is left
-pub record KeepsInput (before after : ShelfMoment) : Type 0 where
-  pub rest : known_rest after.told ≡ known_rest before.told
-  pub has_input : after.has_input ≡ before.has_input
 
 -- a task that reads none leaves the shelf's input alone
 abbrev pub LeavesInput : Asking → ShelfMoment → ShelfMoment → Type 0

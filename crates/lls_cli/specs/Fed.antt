@@ -1,18 +1,15 @@
 -- For private contracts alone: a proof that goes through its checker as it is read.
-use Rattle.std.specs.Prelude.{◌≡◌, ◌<◌, ◌≤◌, ℕ, List, length, Option, Some, Result, Ok, Err, IfSome}
+use Rattle.std.specs.Prelude.{◌≡◌, ◌<◌, ◌≤◌, ℕ, List, length, Option, Result, Ok, Err, IfSome}
 use Rattle.lls_base.specs.Shelf.{Files}
 use Rattle.lls_lit.specs.Formula.{Cnf}
-use Rattle.lls_lrat.specs.Feeding.{FeedState, begun, fed}
-use Rattle.lls_cli.specs.declared.answer.Answer.{Answer}
+use Rattle.lls_lrat.specs.Feeding.{FeedState}
+use Rattle.lls_answers.specs.declared.answer.Answer.{Answer}
 use Rattle.lls_cli.specs.declared.fault.Fault.{Fault}
 use Rattle.lls_cli.specs.declared.fault.Fault.TheVariants as faults
-use Rattle.lls_cli.specs.Questions.{Question}
+use Rattle.lls_answers.specs.Questions.{Question}
 use Rattle.lls_cli.specs.Question.{IsInput, proof_limit}
-use Rattle.lls_cli.specs.Answer.{IsAnswer}
-
--- the check of a formula's proof of which these bytes have come
-abbrev pub fed_with : Cnf → List ℕ → FeedState
-fed_with formula bytes = record { formula = formula; feeding = Some (fed (begun formula) bytes) }
+use Rattle.lls_answers.specs.Answer.{IsAnswer}
+use Rattle.lls_answers.specs.Checks.{fed_with}
 
 -- all that was left of an input was fed, or it has more bytes than a proof may
 abbrev pub FedRest : Option (List ℕ) → FeedState → Result (Unit {0}) Fault → Type 0

@@ -24,14 +24,14 @@ use Rattle.lls_problem.specs.declared.demands.DemandError.TheVariants.{Counters}
 use Rattle.lls_problem.specs.Bounds.{most_counters}
 use Rattle.lls_problem.specs.Problem.{PosedProblem, problem_made}
 use Rattle.lls_least.specs.Fewer.{counters_with_one_more}
-use Rattle.lls_cli.specs.Subject.{Subject, asked_with, opened_with}
-use Rattle.lls_cli.specs.Subject as subjects
+use Rattle.lls_answers.specs.Subject.{Subject, asked_with, opened_with, most_open_cells}
+use Rattle.lls_answers.specs.Subject as subjects
 use Rattle.lls_cli.specs.declared.task.Source.{Source}
 use Rattle.lls_cli.specs.declared.task.Source.TheVariants as sources
 use Rattle.lls_cli.specs.declared.task.Task.{Task}
 use Rattle.lls_cli.specs.declared.task.Task.TheVariants as tasks
-use Rattle.lls_cli.specs.Questions.{Question}
-use Rattle.lls_cli.specs.Questions as questions
+use Rattle.lls_answers.specs.Questions.{Question}
+use Rattle.lls_answers.specs.Questions as questions
 use Rattle.lls_cli.specs.declared.fault.Fault.{Fault}
 use Rattle.lls_cli.specs.declared.fault.Fault.TheVariants as faults
 use Rattle.lls_cli.specs.declared.fault.OutsideFault.TheVariants as outside
@@ -75,10 +75,6 @@ with_room problem =
 
 abbrev pub roomy_problem_in : List Bool → Demands → List ℕ → Result PosedProblem Fault
 roomy_problem_in rule demands bytes = and_then (problem_in rule demands bytes) with_room
-
--- how many cells a file has at most whose rule is left open
-abbrev pub most_open_cells : ℕ
-most_open_cells = 2048
 
 -- the problem, where it has no more
 abbrev pub with_few_cells : PosedProblem → Result PosedProblem Fault

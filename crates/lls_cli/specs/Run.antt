@@ -1,15 +1,15 @@
 -- What a run promises: the contract of `run`, as a page.
 use Rattle.std.specs.Prelude.{◌≡◌, ◌≢◌, ◌⊎◌, IsErr, Result}
 use Rattle.lls_words.specs.declared.error.WordsError.{WordsError}
-use Rattle.lls_cli.specs.Questions.{Question}
-use Rattle.lls_cli.specs.declared.status.Status.{Status}
-use Rattle.lls_cli.specs.declared.status.Status.TheVariants as statuses
+use Rattle.lls_answers.specs.Questions.{Question}
+use Rattle.lls_answers.specs.declared.status.Status.{Status}
+use Rattle.lls_answers.specs.declared.status.Status.TheVariants as statuses
 use Rattle.lls_cli.specs.declared.task.Task.{Task}
-use Rattle.lls_cli.specs.Answer.{HasShortBudget, NoHolds, NoneHolds, SomeHolds, YesHolds, ahead_of}
+use Rattle.lls_answers.specs.Answer.{HasShortBudget, NoHolds, NoneHolds, SomeHolds, YesHolds, ahead_of}
 use Rattle.lls_cli.specs.Claims.{ChangesOnly, CountsNeverFall, HasCause, HasWhole, IsAnswered, IsComplete, IsFaultStatus, IsSilent, LeavesBegun, LeavesCertificate, LeavesLog, LeavesProof, LeavesTrimmed, NoCallFailed, NothingFailed, OfQuestion, Publishes, PublishesFewest, ReadsAndWritesNothing, SaysAnswer, SaysWhy, outputs_of_words}
 use Rattle.lls_cli.specs.Ends.{End, IsEnd}
 use Rattle.lls_cli.specs.Limits.{AreLimits}
-use Rattle.lls_cli.specs.Moment.{Moment, files_at}
+use Rattle.lls_outside.specs.Moment.{Moment, files_at}
 
 -- a fact of the question that the words and the files ask that stand before the run
 abbrev pub Asked : (Question → Type 0) → Result Task WordsError → Moment → Type 0

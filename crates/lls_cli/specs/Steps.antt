@@ -1,28 +1,28 @@
 -- For private contracts alone: the steps of a run, from reading an input to giving an answer.
-use Rattle.std.specs.Prelude.{◌≡◌, ◌≤◌, ◌⊎◌, ℕ, true, false, List, length, take, Option, None, Some, Result, Ok, Err, IfOk, IfErr, OnOk, OnErr}
-use Rattle.std.specs.Io.KnownBytes.{append_known}
+use Rattle.std.specs.Prelude.{◌≡◌, ◌⊎◌, true, false, Option, None, Some, Result, Ok, Err, IfOk, IfErr}
 use Rattle.lls_base.specs.Faults.{Counts, Rose}
 use Rattle.lls_base.specs.declared.reading.ReadError.{ReadError}
 use Rattle.lls_base.specs.declared.reading.ReadError.TheVariants as reads
-use Rattle.lls_base.specs.declared.sink.Failed.{Failed}
 use Rattle.lls_base.specs.declared.writing.FileFault.{FileFault}
 use Rattle.lls_base.specs.declared.writing.FileFault.TheVariants as writes
 use Rattle.lls_base.specs.Shelf.{Files}
 use Rattle.lls_cli.specs.declared.task.Task.{Task}
-use Rattle.lls_cli.specs.Questions.{Question}
-use Rattle.lls_cli.specs.declared.answer_file.AnswerFile.{AnswerFile}
-use Rattle.lls_cli.specs.declared.answer.Answer.{Answer}
+use Rattle.lls_answers.specs.Questions.{Question}
+use Rattle.lls_answers.specs.declared.answer_file.AnswerFile.{AnswerFile}
+use Rattle.lls_answers.specs.declared.answer.Answer.{Answer}
 use Rattle.lls_cli.specs.declared.fault.Fault.{Fault}
 use Rattle.lls_cli.specs.declared.fault.Fault.TheVariants as faults
 use Rattle.lls_cli.specs.declared.fault.OutsideFault.{OutsideFault}
 use Rattle.lls_cli.specs.declared.fault.OutsideFault.TheVariants as outside
-use Rattle.lls_cli.specs.declared.status.Status.{Status}
-use Rattle.lls_cli.specs.declared.status.Status.TheVariants as statuses
+use Rattle.lls_answers.specs.declared.status.Status.{Status}
+use Rattle.lls_answers.specs.declared.status.Status.TheVariants as statuses
 use Rattle.lls_cli.specs.Fault.{fault_line, status_of}
 use Rattle.lls_cli.specs.Question.{Asks}
-use Rattle.lls_cli.specs.Answer.{IsAnswer, ahead_of}
-use Rattle.lls_cli.specs.Moment.{ShelfMoment, SinkMoment, Moment, files_at}
-use Rattle.lls_cli.specs.Ends.{GrewBy, KeepsFiles, LeavesPart, Delivered, FileFailed, OutputFailed, End, refused, lacked, input_failed, ahead_failed, answered, file_failed, output_failed}
+use Rattle.lls_answers.specs.Answer.{IsAnswer, ahead_of}
+use Rattle.lls_outside.specs.Moment.{ShelfMoment, SinkMoment, Moment, files_at}
+use Rattle.lls_outside.specs.Grown.{GrewBy}
+use Rattle.lls_outside.specs.Kept.{KeepsFiles}
+use Rattle.lls_cli.specs.Ends.{LeavesPart, Delivered, FileFailed, OutputFailed, End, refused, lacked, input_failed, ahead_failed, answered, file_failed, output_failed}
 
 -- why reading stopped: since a call of the shelf failed; or for want of memory, or for what the inputs say, and no call failed
 abbrev pub Stops : Fault → (Fault → Type 0) → ShelfMoment → ShelfMoment → Type 0
@@ -46,14 +46,6 @@ pub record Reads {X : Type 0} (Says : Result X Fault → Type 0) (result : Resul
 abbrev pub ComesTo : Task → Option Files → Result Answer Fault → Type 0
 ComesTo task files (Ok answer) = (question : Question) × Asks task files (Ok question) × (ahead_of question ≡ None) × IsAnswer question answer
 ComesTo task files (Err fault) = Asks task files (Err fault)
-
--- a whole write to a sink. After a failure it has first bytes of the text
-pub record Writes (text : List ℕ) (result : Result (Unit {0}) Failed) (before after : SinkMoment) : Type 0 where
-  pub ok : OnOk result (after.written ≡ append_known before.written text)
-  pub err : OnErr result ((n : ℕ) × (n ≤ length text) × (after.written ≡ append_known before.written (take n text)))
-  pub counts : Counts before.faults after.faults
-  pub failed : OnErr result (Rose before.faults after.faults)
-  pub no_fault : OnOk result (after.faults ≡ before.faults)
 
 -- the fault of an input that wasn't read
 abbrev pub input_fault : ReadError → Fault

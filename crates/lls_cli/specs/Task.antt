@@ -1,17 +1,23 @@
 -- What a command line asks for, with what several jobs say as one value: the only place that takes a job apart.
 use Rattle.std.specs.Prelude.{◌≤◌, ℕ, Bool, false, List, Option, None, Result, Ok, Err}
-use Rattle.std.specs.Option.{ForSome}
+use Rattle.std.specs.Option.{ForSome, option_map}
 use Rattle.lls_hensel.specs.Isotropy.{IsIsotropic}
 use Rattle.lls_problem.specs.declared.demands.Demands.{Demands}
-use Rattle.lls_words.specs.Job.{AreAllowed, AreOpen, AreWithinLimits, IsCrew}
+use Rattle.lls_words.specs.Job.{AreAllowed, AreOpen, AreWithinLimits}
 use Rattle.lls_words.specs.Values.{default_budget, most_budget, most_size}
-use Rattle.lls_words.specs.declared.crew_plan.CrewPlan.{CrewPlan}
-use Rattle.lls_words.specs.declared.further.Manner.{Manner}
+use Rattle.lls_words.specs.declared.crew_plan.CrewPlan as said_crews
+use Rattle.lls_words.specs.declared.further.Manner as said_manners
+use Rattle.lls_words.specs.declared.further.Manner.TheVariants as said
+use Rattle.lls_solver.specs.declared.manner.Manner.TheVariants as searchers
+use Rattle.lls_solver.specs.declared.manner.Manners.{Manners}
+use Rattle.lls_solver.specs.declared.manner.Manners.TheVariants.{Alone, Both}
+use Rattle.lls_answers.specs.Crew.{IsCrew}
+use Rattle.lls_answers.specs.declared.effort.CrewPlan.{CrewPlan}
+use Rattle.lls_answers.specs.declared.effort.Further.{Further}
 use Rattle.lls_words.specs.declared.job.Job.{Job}
 use Rattle.lls_words.specs.declared.job.Job.TheVariants as jobs
 use Rattle.lls_words.specs.declared.error.WordsError.{WordsError}
-use Rattle.lls_cli.specs.declared.effort.Effort.{Effort}
-use Rattle.lls_cli.specs.declared.task.Further.{Further}
+use Rattle.lls_answers.specs.declared.effort.Effort.{Effort}
 use Rattle.lls_cli.specs.declared.task.ProblemSource.{ProblemSource}
 use Rattle.lls_cli.specs.declared.task.Source.{Source}
 use Rattle.lls_cli.specs.declared.task.Source.TheVariants as sources
@@ -24,8 +30,17 @@ problem_by file rule demands = record { file = file; rule = rule; demands = dema
 abbrev pub effort_of : ℕ → Bool → List ℕ → Effort
 effort_of budget keep_all proof = record { budget = budget; keep_all = keep_all; proof = proof }
 
-abbrev pub further_of : Bool → Option CrewPlan → Manner → Further
-further_of rle crew manner = record { rle = rle; crew = crew; manner = manner }
+-- a manner of the words, and a crew
+abbrev pub manners_said : said_manners.Manner → Manners
+manners_said said.Restless = Alone searchers.Restless
+manners_said said.Steady = Alone searchers.Steady
+manners_said said.Both = Both
+
+abbrev pub crew_said : said_crews.CrewPlan → CrewPlan
+crew_said crew = record { searchers = crew.searchers; seed = crew.seed }
+
+abbrev pub further_of : Bool → Option said_crews.CrewPlan → Option said_manners.Manner → Further
+further_of rle crew manner = record { rle = rle; crew = option_map crew_said crew; manners = option_map manners_said manner }
 
 -- the task of a job: a check, a search or another
 abbrev pub task_of : Job → Task

@@ -1,20 +1,20 @@
 // From a task to its answer: the inputs are read in their order.
 ghost use Rattle.lls_words.specs.Job.{AreWithinLimits};
-ghost use Rattle.lls_cli.specs.Moment.{files_of, shelf_at};
+ghost use Rattle.lls_outside.specs.Moment.{files_of, shelf_at};
 ghost use Rattle.lls_cli.specs.Steps.{ComesTo, Reads};
 ghost use Rattle.lls_cli.specs.Task.{KeepsSource};
 ghost use Rattle.lls_cli.specs.declared.task.Task.TheVariants as tasks;
 
-use crate::answer::Answer;
 use crate::check::check;
 use crate::fault::Fault;
 use crate::input::{
     PROOF_LIMIT, read_formula, read_input, read_pattern, read_problem, read_subject,
 };
-use crate::judge::judge;
-use crate::print::print_formula;
 use crate::task::{ProblemSource, Source};
-use crate::trim::trim;
+use lls_answers::Answer;
+use lls_answers::judge::judge;
+use lls_answers::print::print_formula;
+use lls_answers::trim::trim;
 use lls_base::{Name, Shelf};
 use std::alloc::Global;
 

@@ -1,28 +1,22 @@
 // The delivery of answers and faults: the file first, then the text; or the line of a fault.
 ghost use Rattle.std.specs.Prelude.{◌≡◌, IfErr, IfOk, OnOk};
 ghost use Rattle.lls_cli.specs.declared.fault.Fault.TheVariants.{Outside as OfOutside};
-ghost use Rattle.lls_cli.specs.Questions as questions;
-ghost use Rattle.lls_cli.specs.Answer.{IsAnswer};
-ghost use Rattle.lls_cli.specs.Ends.{End, GrewBy, IsEndOf, KeepsInput, WroteFile};
+ghost use Rattle.lls_answers.specs.Questions as questions;
+ghost use Rattle.lls_answers.specs.Answer.{IsAnswer};
+ghost use Rattle.lls_cli.specs.Ends.{End, IsEndOf};
+ghost use Rattle.lls_outside.specs.Grown.{GrewBy};
+ghost use Rattle.lls_outside.specs.Kept.{KeepsInput};
+ghost use Rattle.lls_answers.specs.Standing.{WroteFile};
 ghost use Rattle.lls_cli.specs.Fault.{fault_line};
-ghost use Rattle.lls_cli.specs.Moment.{shelf_at, sink_at};
-ghost use Rattle.lls_cli.specs.Outside.{BorrowsSame, moment_of};
+ghost use Rattle.lls_outside.specs.Moment.{shelf_at, sink_at};
+ghost use Rattle.lls_outside.specs.Outside.{BorrowsSame, moment_of};
 ghost use Rattle.lls_cli.specs.Steps.{IsDelivery, Says, Unwritten, file_fault};
 
-use crate::answer::Answer;
-use crate::answer_file::AnswerFile;
 use crate::fault::{Fault, OutsideFault};
-use crate::outside::Outside;
-use crate::status::Status;
-use lls_base::{FileFault, Memory, Shelf, Sink, write_all, write_file};
+use lls_answers::{Answer, AnswerFile, Status};
+use lls_base::{FileFault, Memory, Shelf, Sink, write_file};
+use lls_outside::{Outside, write_line};
 use std::alloc::Global;
-
-// Writes a line to the standard error. A fault of it changes nothing.
-fn write_line<E: Sink>(err: &mut E, line: &[u8])
-    ensures { GrewBy line.now (sink_at E.Sink err.old) (sink_at E.Sink err.new) }
-{
-    let _ = write_all(err, line);
-}
 
 /// Says a failure of the outside on the standard error. It takes no memory.
 pub fn say<E: Sink>(fault: OutsideFault, err: &mut E) -> Status

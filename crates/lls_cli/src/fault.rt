@@ -2,7 +2,7 @@
 ghost use Rattle.std.specs.Prelude.{◌≡◌, IfOk, string_bytes};
 ghost use Rattle.lls_cli.specs.Fault.{status_of, fault_line};
 
-use crate::status::Status;
+use lls_answers::Status;
 use lls_base::Memory;
 use lls_cnf::DimacsFault;
 use lls_problem::DemandError;

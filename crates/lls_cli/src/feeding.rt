@@ -3,7 +3,7 @@ ghost use Rattle.std.specs.Prelude.{◌≡◌, IsTrue, Some};
 ghost use Rattle.lls_base.specs.Shelf.{known_rest};
 ghost use Rattle.lls_lrat.specs.Feeding.{begun};
 ghost use Rattle.lls_cli.specs.Fed.{FedRest, IsFed};
-ghost use Rattle.lls_cli.specs.Moment.{files_of, shelf_at};
+ghost use Rattle.lls_outside.specs.Moment.{files_of, shelf_at};
 ghost use Rattle.lls_cli.specs.Steps.{Reads};
 
 use crate::fault::{Fault, OutsideFault};

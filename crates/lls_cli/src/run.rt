@@ -7,28 +7,25 @@ ghost use Rattle.lls_cli.specs.declared.task.Task as tasks;
 ghost use Rattle.lls_cli.specs.declared.task.Task.TheVariants as all_tasks;
 ghost use Rattle.lls_cli.specs.CommandLine.{task_in};
 ghost use Rattle.lls_cli.specs.Ends.{End, HasInputs, IsEnd};
-ghost use Rattle.lls_cli.specs.Making.{IsSize};
-ghost use Rattle.lls_cli.specs.Moment.{ShelfMoment, files_at, moment_at, with_shelf};
-ghost use Rattle.lls_cli.specs.Outside.{BorrowsSame, moment_of};
+ghost use Rattle.lls_answers.specs.Making.{IsSize};
+ghost use Rattle.lls_outside.specs.Moment.{ShelfMoment, files_at, moment_at, with_shelf};
+ghost use Rattle.lls_outside.specs.Outside.{BorrowsSame, moment_of};
 ghost use Rattle.lls_cli.specs.Run.{IsRun};
 ghost use Rattle.lls_cli.specs.Steps.{ComesTo, Reads};
 ghost use Rattle.lls_cli.specs.Task.{KeepsSearch, KeepsTask};
 
-use crate::answer::Answer;
 use crate::answering::{answer_check, answer_encode, answer_judge, answer_trim};
-use crate::asked::Asked;
 use crate::deliver::{give, refuse};
-use crate::effort::Effort;
 use crate::fault::Fault;
 use crate::fewest::give_fewest;
 use crate::input::{read_roomy_problem, read_subject};
 use crate::making::give_making;
-use crate::outside::Outside;
-use crate::print::print_rule;
-use crate::search::{manners_of, search};
-use crate::status::Status;
-use crate::task::{Further, ProblemSource, Source, Task, task_of};
+use crate::task::{ProblemSource, Source, Task, task_of};
+use lls_answers::print::print_rule;
+use lls_answers::search::search;
+use lls_answers::{Answer, Asked, Effort, Further, Status, manners_of};
 use lls_base::{Name, Shelf, Sink};
+use lls_outside::Outside;
 use lls_problem::Form;
 use lls_rule::Rule;
 use lls_words::read_job;
@@ -85,7 +82,7 @@ fn run_least<S: Shelf, O: Sink, E: Sink>(
     match read_roomy_problem(alloc, outside.shelf, source) {
         Ok(problem) => {
             let asked = Asked { problem, form };
-            let manners = manners_of(further.manner);
+            let manners = manners_of(further.manners, asked.problem.demands().period);
             give_fewest(alloc, asked, effort, further.rle, manners, outside)
         }
         Err(fault) => refuse(alloc, fault, outside.err),

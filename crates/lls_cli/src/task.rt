@@ -1,13 +1,14 @@
 // What a command line asks for, with what several jobs say as one value.
 ghost use Rattle.std.specs.Prelude.{◌≡◌};
 ghost use Rattle.lls_words.specs.Job.{KeepsLimits};
-ghost use Rattle.lls_cli.specs.Task.{KeepsTask, task_of};
+ghost use Rattle.lls_cli.specs.Task.{KeepsTask, crew_said, further_of, manners_said, task_of};
 
-use crate::effort::Effort;
+use lls_answers::{CrewPlan, Effort, Further};
 use lls_base::Name;
 use lls_problem::{Demands, Form};
 use lls_rule::Rule;
-use lls_words::{CrewPlan, DEFAULT_BUDGET, Job, Manner};
+use lls_solver::{Manner, Manners};
+use lls_words::{CrewPlan as SaidCrew, DEFAULT_BUDGET, Job, Manner as SaidManner};
 
 /// A problem, as words pose it.
 #[derive(Drop)]
@@ -41,17 +42,6 @@ pub enum Source {
     Formula(Name),
 }
 
-/// What a search is told besides.
-#[derive(Drop)]
-pub struct Further {
-    /// Whether a solution is printed as RLE, and not as rows.
-    pub rle: bool,
-    /// The searchers that take turns, where there are several.
-    pub crew: Option<CrewPlan>,
-    /// By which manner it goes about it, where there is no crew.
-    pub manner: Manner,
-}
-
 /// What a command line asks for. Each job of the words is one of these tasks.
 #[derive(Drop)]
 pub enum Task {
@@ -71,6 +61,42 @@ pub enum Task {
     Least(ProblemSource, Form, Effort, Further),
     /// Write what the empty clause of a proof rests on: the files of the formula, of the proof, and that are written.
     Trim(Name, Name, Name),
+}
+
+// The manners that words say.
+fn manners_said(manner: SaidManner) -> Manners
+    ensures { result ≡ manners_said manner }
+{
+    match manner {
+        SaidManner::Restless => Manners::Alone(Manner::Restless),
+        SaidManner::Steady => Manners::Alone(Manner::Steady),
+        SaidManner::Both => Manners::Both,
+    }
+}
+
+// The crew that words say.
+fn crew_said(crew: SaidCrew) -> CrewPlan
+    ensures { result ≡ crew_said crew }
+{
+    CrewPlan {
+        searchers: crew.searchers,
+        seed: crew.seed,
+    }
+}
+
+// What a search is told besides, where words say so much.
+fn further_of(rle: bool, crew: Option<SaidCrew>, manner: Option<SaidManner>) -> Further
+    ensures { result ≡ further_of rle crew manner }
+{
+    let crew = match crew {
+        Some(crew) => Some(crew_said(crew)),
+        None => None,
+    };
+    let manners = match manner {
+        Some(manner) => Some(manners_said(manner)),
+        None => None,
+    };
+    Further { rle, crew, manners }
 }
 
 /// The task of a job of the words, which keeps to their limits.
@@ -117,8 +143,7 @@ pub fn task_of(job: Job) -> Task
             let problem = ProblemSource::new(search, rule, demands);
             let effort = Effort::new(budget, keep_all, proof);
             let source = Source::Problem(problem, form);
-            let manner = further.manner;
-            Task::Search(source, effort, Further { rle, crew, manner })
+            Task::Search(source, effort, further_of(rle, crew, further.manner))
         }
         Job::Loose {
             search,
@@ -135,12 +160,7 @@ pub fn task_of(job: Job) -> Task
             let problem = ProblemSource::new(search, low, demands);
             let effort = Effort::new(budget, keep_all, proof);
             let source = Source::Rules(problem, high, form);
-            let further = Further {
-                rle,
-                crew: None,
-                manner: further.manner,
-            };
-            Task::Search(source, effort, further)
+            Task::Search(source, effort, further_of(rle, None, further.manner))
         }
         Job::Sat {
             formula,
@@ -150,11 +170,7 @@ pub fn task_of(job: Job) -> Task
             further,
         } => {
             let effort = Effort::new(budget, keep_all, proof);
-            let further = Further {
-                rle: false,
-                crew: None,
-                manner: further.manner,
-            };
+            let further = further_of(false, None, further.manner);
             Task::Search(Source::Formula(formula), effort, further)
         }
         Job::Judge {
@@ -196,11 +212,7 @@ pub fn task_of(job: Job) -> Task
         } => {
             let problem = ProblemSource::new(search, rule, demands);
             let effort = Effort::new(budget, keep_all, proof);
-            let further = Further {
-                rle,
-                crew: None,
-                manner: further.manner,
-            };
+            let further = further_of(rle, None, further.manner);
             Task::Least(problem, form, effort, further)
         }
         Job::Trim {

@@ -8,8 +8,8 @@ mod places;
 mod searches;
 
 use lls_base::{MemShelf, MemSink, Name, Plan};
+use lls_cli::Status;
 use lls_cli::run::run;
-use lls_cli::status::Status;
 use std::alloc::{AllocError, Global};
 use std::process::Abort;
 use std::test::Fail;

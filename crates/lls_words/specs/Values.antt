@@ -36,9 +36,9 @@ most_budget = 10000000
 abbrev pub default_budget : ℕ
 default_budget = 100000
 
--- what a search is told of which nothing is said: one searcher that restarts often
+-- what a search is told of which nothing is said
 abbrev pub default_further : Further
-default_further = record { manner = manners.Restless }
+default_further = record { manner = None }
 
 -- the greatest number that a problem is made from: that of 64 bits
 abbrev pub most_seed : ℕ

@@ -14,12 +14,11 @@ pub enum Manner {
 /// What a search is told besides its budget and what it keeps. Each value has a default.
 #[derive(Clone, Copy, Debug, PartialEq, Eq)]
 pub struct Further {
-    pub manner: Manner,
+    /// The manner, where one is said. Where none is, the search takes what suits its question.
+    pub manner: Option<Manner>,
 }
 
 impl Further {
     /// What a search is told where the words say nothing of it.
-    pub const DEFAULT: Further = Further {
-        manner: Manner::Restless,
-    };
+    pub const DEFAULT: Further = Further { manner: None };
 }

@@ -1,6 +1,6 @@
 // The command that checks proofs.
 use super::{Row, answers};
-use lls_cli::status::Status;
+use lls_cli::Status;
 use std::test::Fail;
 
 // Any call may answer want of memory, and no clause excludes it. With ample memory none does.

@@ -1,11 +1,9 @@
 // The command that makes a problem. What it makes is as tools/made.py makes it.
 use super::{Ended, Failing, NOTHING, is_fault, run_over, shelf_of, words_of};
 use lls_base::{MemSink, Name};
-use lls_cli::effort::Effort;
 use lls_cli::making::give_making;
-use lls_cli::outside::Outside;
 use lls_cli::run::run;
-use lls_cli::status::Status;
+use lls_cli::{Effort, Outside, Status};
 use std::alloc::Global;
 use std::test::Fail;
 

@@ -1,6 +1,6 @@
 // Runs in which a call of the outside fails.
 use super::{Failing, NOTHING, is_fault, run_over, words_of};
-use lls_cli::status::Status;
+use lls_cli::Status;
 use std::test::Fail;
 
 const ONE_CELL: &[u8] = b"1\n\n1\n";

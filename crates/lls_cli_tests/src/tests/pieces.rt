@@ -2,8 +2,8 @@
 use super::long_shelf::LongShelf;
 use super::{Failing, NOTHING, is_fault, run_over, words_of};
 use lls_base::MemSink;
+use lls_cli::Status;
 use lls_cli::run::run;
-use lls_cli::status::Status;
 use std::test::Fail;
 
 const ONE_CELL: &[u8] = b"1\n\n1\n";

@@ -1,6 +1,6 @@
 // Every place of a run that may fail, for each command.
 use super::{Ended, Failing, NOTHING, is_fault, run_over, words_of};
-use lls_cli::status::Status;
+use lls_cli::Status;
 use std::alloc::Global;
 use std::process::Abort;
 use std::test::Fail;

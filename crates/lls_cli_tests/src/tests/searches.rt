@@ -1,6 +1,6 @@
 // The commands that search.
 use super::{Failing, NOTHING, is_fault, run_over, words_of};
-use lls_cli::status::Status;
+use lls_cli::Status;
 use std::alloc::Global;
 use std::process::Abort;
 use std::test::Fail;

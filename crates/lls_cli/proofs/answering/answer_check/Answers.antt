@@ -3,8 +3,8 @@ use Rattle.std.proofs.lemmas.Result.{err_from_is_err_and}
 use Rattle.lls_base.specs.Results.{and_then}
 use Rattle.lls_cli.specs.declared.task.Task.TheVariants as tasks
 use Rattle.lls_cli.specs.Question.{subject_from}
-use Rattle.lls_cli.specs.Questions as questions
-use Rattle.lls_cli.specs.Moment.{shelf_at}
+use Rattle.lls_answers.specs.Questions as questions
+use Rattle.lls_outside.specs.Moment.{shelf_at}
 use Rattle.lls_cli.proofs.Coming.{comes_refused}
 use Rattle.lls_cli.proofs.FedProofs.{check_comes}
 use Rattle.lls_cli.proofs.Stopped.{first_stopped}

@@ -3,7 +3,7 @@ use Rattle.std.proofs.lemmas.Result.{err_from_is_err_and}
 use Rattle.lls_base.specs.Results.{and_then}
 use Rattle.lls_cli.specs.declared.task.Task.TheVariants as tasks
 use Rattle.lls_cli.specs.Question.{formula_in}
-use Rattle.lls_cli.specs.Questions as questions
+use Rattle.lls_answers.specs.Questions as questions
 use Rattle.lls_cli.proofs.Coming.{comes_refused}
 use Rattle.lls_cli.proofs.Stopped.{first_stopped}
 use Rattle.lls_cli.proofs.answering.answer_trim.Goals as goal

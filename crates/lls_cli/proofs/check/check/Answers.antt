@@ -1,9 +1,9 @@
 use Rattle.std.proofs.Common.{subst}
 use Rattle.lls_lit.specs.Formula.{Cnf, IsUnsatisfiable}
-use Rattle.lls_cli.specs.Questions as questions
-use Rattle.lls_cli.specs.Subject.{HasNone, subject_formula}
-use Rattle.lls_cli.specs.Subject as subjects
-use Rattle.lls_cli.proofs.Checks.{checked_answer}
+use Rattle.lls_answers.specs.Questions as questions
+use Rattle.lls_answers.specs.Subject.{HasNone, subject_formula}
+use Rattle.lls_answers.specs.Subject as subjects
+use Rattle.lls_answers.proofs.Checks.{checked_answer}
 use Rattle.lls_cli.proofs.FedProofs.{comes_along}
 use Rattle.lls_cli.proofs.Stopped.{Reads-along}
 use Rattle.lls_cli.proofs.check.check.Goals as goal

@@ -1,5 +1,5 @@
 use Rattle.std.proofs.lemmas.Result.{err_from_is_err_and}
-use Rattle.lls_cli.specs.Moment.{shelf_at}
+use Rattle.lls_outside.specs.Moment.{shelf_at}
 use Rattle.lls_cli.proofs.FedProofs.{not_fed}
 use Rattle.lls_cli.proofs.feeding.feed_file.Goals as goal
 

@@ -2,8 +2,8 @@ use Rattle.std.proofs.Common.{◌≡◌, ◌≤◌, ◌-◌, drop}
 use Rattle.std.specs.Option.{option_map}
 use Rattle.lls_base.specs.Faults.{Counts}
 use Rattle.lls_base.specs.Shelf.{known_rest}
-use Rattle.lls_cli.specs.Ends.{KeepsFiles}
-use Rattle.lls_cli.specs.Moment.{shelf_at}
+use Rattle.lls_outside.specs.Kept.{KeepsFiles}
+use Rattle.lls_outside.specs.Moment.{shelf_at}
 use Rattle.lls_cli.specs.Question.{proof_limit}
 use Rattle.lls_cli.proofs.FedProofs.{HasFed}
 use Rattle.lls_cli.proofs.feeding.feed_rest.Given as goal

@@ -3,14 +3,14 @@ use Rattle.std.proofs.lemmas.Result.{IfOk-weaker}
 use Rattle.lls_solver.specs.Searching.{KeepsAll}
 use Rattle.lls_least.specs.declared.answer.Least.{Least}
 use Rattle.lls_least.specs.Least.{IsLeast, log_of}
-use Rattle.lls_cli.specs.Evidence.{IsEvidence}
-use Rattle.lls_cli.specs.Questions as questions
+use Rattle.lls_answers.specs.Evidence.{IsEvidence}
+use Rattle.lls_answers.specs.Questions as questions
 use Rattle.lls_cli.specs.Ends.{lacked}
-use Rattle.lls_cli.specs.Shown.{ShowsNone}
-use Rattle.lls_cli.specs.Subject.{Subject, formula_asked, subject_formula}
+use Rattle.lls_answers.specs.Shown.{ShowsNone}
+use Rattle.lls_answers.specs.Subject.{Subject, formula_asked, subject_formula}
 use Rattle.lls_cli.proofs.Ending.{lacks}
-use Rattle.lls_cli.proofs.FewestAnswers.{no_solution_answer}
-use Rattle.lls_cli.proofs.Searches.{evidence_of}
+use Rattle.lls_answers.proofs.FewestAnswers.{no_solution_answer}
+use Rattle.lls_answers.proofs.Searches.{evidence_of}
 use Rattle.lls_cli.proofs.fewest.give_fewest.Goals as goal
 
 pub returns-in-Ok-Shown-clause-end : goal.returns-in-Ok-Shown-clause-end

@@ -1,6 +1,6 @@
 use Rattle.std.proofs.Common.{subst, sym}
 use Rattle.lls_hensel.specs.Isotropy.{IsIsotropic}
-use Rattle.lls_cli.specs.Subject.{CanBePrinted}
+use Rattle.lls_answers.specs.Subject.{CanBePrinted}
 use Rattle.lls_cli.specs.Task.{IsPrintable}
 use Rattle.lls_cli.proofs.input.read_subject.Goals as goal
 

@@ -1,9 +1,9 @@
 -- The problem's file stands, and then the search's answer is given; or the file failed.
 use Rattle.std.proofs.Common.{Some, inl}
 use Rattle.lls_cli.specs.declared.fault.Fault.TheVariants.{Outside}
-use Rattle.lls_cli.specs.Questions as questions
+use Rattle.lls_answers.specs.Questions as questions
 use Rattle.lls_cli.specs.Ends.{lacked, ahead_failed}
-use Rattle.lls_cli.specs.Making.{made_file}
+use Rattle.lls_answers.specs.Making.{made_file}
 use Rattle.lls_cli.proofs.Deliveries.{failed}
 use Rattle.lls_cli.proofs.Ending.{KeepsInput-trans, behind_file, lacks}
 use Rattle.lls_cli.proofs.making.give_making.Goals as goal

@@ -3,8 +3,8 @@ use Rattle.lls_base.specs.Results.{and_then}
 use Rattle.lls_hensel.specs.Isotropy.{IsIsotropic}
 use Rattle.lls_cli.specs.declared.task.Task.TheVariants as tasks
 use Rattle.lls_cli.specs.Question.{roomy_problem_in}
-use Rattle.lls_cli.specs.Subject.{asked_with}
-use Rattle.lls_cli.specs.Questions as questions
+use Rattle.lls_answers.specs.Subject.{asked_with}
+use Rattle.lls_answers.specs.Questions as questions
 use Rattle.lls_cli.proofs.Ending.{stopped, task_ended}
 use Rattle.lls_cli.proofs.Stopped.{only_made, only_stopped}
 use Rattle.lls_cli.proofs.run.run_least.Goals as goal

@@ -1,6 +1,6 @@
 use Rattle.std.proofs.Common.{refl}
 use Rattle.lls_cli.specs.declared.task.Task.TheVariants as tasks
-use Rattle.lls_cli.specs.Questions as questions
+use Rattle.lls_answers.specs.Questions as questions
 use Rattle.lls_cli.proofs.Ending.{KeepsFiles-refl, KeepsInput-refl, task_ended}
 use Rattle.lls_cli.proofs.run.run_print.Goals as goal
 

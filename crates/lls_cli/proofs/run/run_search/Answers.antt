@@ -1,7 +1,7 @@
 use Rattle.std.proofs.Common.{Ok}
 use Rattle.lls_cli.specs.declared.task.Task.TheVariants as tasks
 use Rattle.lls_cli.specs.Question.{subject_from}
-use Rattle.lls_cli.specs.Questions as questions
+use Rattle.lls_answers.specs.Questions as questions
 use Rattle.lls_cli.proofs.Ending.{stopped, task_ended}
 use Rattle.lls_cli.proofs.Stopped.{only_made, only_stopped}
 use Rattle.lls_cli.proofs.run.run_search.Goals as goal

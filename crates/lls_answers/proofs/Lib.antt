@@ -1,0 +1,9 @@
+pub mod Outputs
+pub mod Standing
+pub mod Checks
+pub mod Searches
+pub mod FewestAnswers
+pub mod Makings
+pub mod Trims
+pub mod Laws
+pub mod Limits

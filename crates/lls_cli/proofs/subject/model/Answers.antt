@@ -1,9 +1,0 @@
-use Rattle.std.proofs.Common.{subst, sym}
-use Rattle.std.proofs.lemmas.Result.{IfOk-weaker}
-use Rattle.lls_cli.specs.Subject.{Shows}
-use Rattle.lls_cli.specs.Subject as subjects
-use Rattle.lls_cli.proofs.subject.model.Goals as goal
-
-pub returns : goal.returns
-returns c =
-    IfOk-weaker c.print_model.result _ _ (λ text is rle. subst (Shows (subjects.Formula c.args.formula.now) rle) (sym is) (subjects.model c.args.assignment.now c.requires)) c.print_model.ensures

@@ -1,0 +1,4 @@
+pub mod Moment
+pub mod Outside
+pub mod Grown
+pub mod Kept
