@@ -11,7 +11,7 @@ use Rattle.lls_hinting.specs.declared.fault.Fault.{Fault}
 use Rattle.lls_hinting.specs.declared.fault.Fault.TheVariants as faults
 use Rattle.lls_hinting.specs.declared.proof_file.Next.{Next}
 use Rattle.lls_hinting.specs.Asked.{proof_limit}
-use Rattle.lls_hinting.specs.Moment.{ShelfMoment, files_at}
+use Rattle.lls_outside.specs.Moment.{ShelfMoment, files_at}
 use Rattle.lls_hinting.specs.Place.{Came, Ended, EndsBehind, FaultBehind, Faulty, IsAtEnd, LastSays, NextSays, Passed, Passes, Place}
 use Rattle.lls_hinting.specs.Steps.{Reads}
 use Rattle.lls_hinting.proofs.Passing.{at, known}

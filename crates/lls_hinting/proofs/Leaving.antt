@@ -7,7 +7,7 @@ use Rattle.lls_base.specs.Shelf.{Files}
 use Rattle.lls_hinting.specs.declared.request.Request.{Request}
 use Rattle.lls_hinting.specs.declared.outcome.Hints.{Hints}
 use Rattle.lls_hinting.specs.declared.outcome.Outcome.TheVariants.{Hinted}
-use Rattle.lls_hinting.specs.Moment.{SinkMoment}
+use Rattle.lls_outside.specs.Moment.{SinkMoment}
 use Rattle.lls_hinting.specs.Outcome.{RequestComesTo}
 use Rattle.lls_hinting.specs.Ends.{LeavesHints}
 

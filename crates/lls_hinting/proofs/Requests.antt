@@ -13,7 +13,7 @@ use Rattle.lls_hinting.specs.declared.outcome.Outcome.{Outcome}
 use Rattle.lls_hinting.specs.declared.request.Request.{Request}
 use Rattle.lls_hinting.specs.Asked.{asked_in, form_in, formula_in, formula_limit, input_from, input_of, lemmas_in, lemmas_read, proof_limit}
 use Rattle.lls_hinting.specs.Judging.{IsProved, IsSurveyed, Surveyed}
-use Rattle.lls_hinting.specs.Moment.{ShelfMoment, files_at}
+use Rattle.lls_outside.specs.Moment.{ShelfMoment, files_at}
 use Rattle.lls_hinting.specs.Outcome.{RequestComesTo}
 use Rattle.lls_hinting.specs.Steps.{IsForm, IsFormula, Reads}
 use Rattle.lls_hinting.proofs.Inputs.{input_some}

@@ -4,7 +4,7 @@ use Rattle.lls_base.proofs.Faults.{Counts-trans}
 use Rattle.lls_hinting.specs.declared.fault.Fault.{Fault}
 use Rattle.lls_hinting.specs.declared.fault.Fault.TheVariants as faults
 use Rattle.lls_hinting.specs.declared.fault.OutsideFault.TheVariants as outside
-use Rattle.lls_hinting.specs.Moment.{ShelfMoment}
+use Rattle.lls_outside.specs.Moment.{ShelfMoment}
 use Rattle.lls_hinting.specs.Steps.{Reads, Stops}
 
 pub stops_along : (fault : Fault) (One Two : Fault → Type 0) (before after : ℕ) → (One fault → Two fault) → Stops fault One before after → Stops fault Two before after

@@ -11,7 +11,7 @@ use Rattle.lls_hinting.specs.declared.status.Status.TheVariants as statuses
 use Rattle.lls_hinting.specs.declared.words_error.WordsError.{WordsError}
 use Rattle.lls_hinting.specs.Asked.{Asked, asked_in}
 use Rattle.lls_hinting.specs.Ends.{HasCause, HasFault, HasNoFault, IsAnswered, IsComplete, IsContent, IsStatusOf, OfRequest}
-use Rattle.lls_hinting.specs.Moment.{SinkMoment}
+use Rattle.lls_outside.specs.Moment.{SinkMoment}
 use Rattle.lls_hinting.specs.Outcome.{RequestComesTo}
 use Rattle.lls_hinting.specs.Saying.{SaysFault}
 use Rattle.lls_hinting.specs.Steps.{Stops}

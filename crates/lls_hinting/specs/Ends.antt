@@ -1,9 +1,9 @@
 -- How a run ends.
-use Rattle.std.specs.Prelude.{◌≡◌, ◌≤◌, ◌⊎◌, ℕ, List, length, take, Option, None, Some, Result, Ok, Err}
+use Rattle.std.specs.Prelude.{◌≡◌, ◌⊎◌, ℕ, List, Option, None, Some, Result, Ok, Err}
 use Rattle.std.specs.Io.KnownBytes.{append_known}
 use Rattle.std.specs.FinMap as map
 use Rattle.std.specs.Option.{option_map}
-use Rattle.lls_base.specs.Faults.{Counts, Rose}
+use Rattle.lls_base.specs.Faults.{Rose}
 use Rattle.lls_base.specs.Shelf.{Files}
 use Rattle.lls_hinting.specs.declared.request.Request.{Request}
 use Rattle.lls_hinting.specs.declared.words_error.WordsError.{WordsError}
@@ -14,7 +14,8 @@ use Rattle.lls_hinting.specs.declared.fault.Fault.TheVariants as faults
 use Rattle.lls_hinting.specs.declared.fault.OutsideFault.TheVariants as outside
 use Rattle.lls_hinting.specs.Asked.{Asked, asked_in}
 use Rattle.lls_hinting.specs.Fault.{fault_line, status_of}
-use Rattle.lls_hinting.specs.Moment.{SinkMoment}
+use Rattle.lls_outside.specs.Grown.{GrewBy}
+use Rattle.lls_outside.specs.Moment.{SinkMoment}
 use Rattle.lls_hinting.specs.Refusal.{IsRefusal}
 use Rattle.lls_hinting.specs.Hinted.{IsHinted}
 
@@ -63,11 +64,6 @@ LeavesHints out_before out_after (Ok request) (Some before) after = (files : Fil
 abbrev pub KeepsOthers : Result Request WordsError → Option Files → Option Files → Type 0
 KeepsOthers (Err error) before after = ⊥
 KeepsOthers (Ok request) before after = KeepsBut request.output before after
-
--- a sink grew by some first bytes of a text, and by all of it but where its count of faults rose
-pub record GrewBy (text : List ℕ) (before after : SinkMoment) : Type 0 where
-  pub taken : (n : ℕ) × (after.written ≡ append_known before.written (take n text)) × ((length text ≤ n) ⊎ Rose before.faults after.faults)
-  pub counts : Counts before.faults after.faults
 
 -- a fact of what the words ask and the shelf tells
 abbrev pub OfRequest : (Request → Files → Type 0) → Result Request WordsError → Option Files → Type 0

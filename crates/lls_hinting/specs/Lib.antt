@@ -2,7 +2,6 @@ pub mod Status
 pub mod Fault
 pub mod Words
 pub mod Hinted
-pub mod Moment
 pub mod Asked
 pub mod Behind
 pub mod Refusal

@@ -5,9 +5,9 @@ use Rattle.lls_base.specs.Faults.{Rose}
 use Rattle.lls_hinting.specs.declared.fault.Fault.{Fault}
 use Rattle.lls_hinting.specs.declared.status.Status.{Status}
 use Rattle.lls_hinting.specs.declared.status.Status.TheVariants as statuses
-use Rattle.lls_hinting.specs.Ends.{GrewBy}
+use Rattle.lls_outside.specs.Grown.{GrewBy}
 use Rattle.lls_hinting.specs.Fault.{fault_line, status_of}
-use Rattle.lls_hinting.specs.Moment.{SinkMoment}
+use Rattle.lls_outside.specs.Moment.{SinkMoment}
 
 -- a fault is said on the standard error, but where there is no memory for its line
 abbrev pub SaysFault : Fault → Status → SinkMoment → SinkMoment → Type 0

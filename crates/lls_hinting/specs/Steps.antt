@@ -12,7 +12,7 @@ use Rattle.lls_hinting.specs.declared.fault.Fault.{Fault}
 use Rattle.lls_hinting.specs.declared.fault.Fault.TheVariants as faults
 use Rattle.lls_hinting.specs.declared.fault.OutsideFault.TheVariants as outside
 use Rattle.lls_hinting.specs.Asked.{form_in, input_of, formula_in, formula_limit, proof_limit}
-use Rattle.lls_hinting.specs.Moment.{ShelfMoment, files_at}
+use Rattle.lls_outside.specs.Moment.{ShelfMoment, files_at}
 
 -- why reading stopped: for want of memory; since a call of the shelf failed; or for what the inputs say, and no call failed
 abbrev pub Stops : Fault → (Fault → Type 0) → ℕ → ℕ → Type 0

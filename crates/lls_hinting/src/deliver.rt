@@ -7,8 +7,9 @@ ghost use Rattle.lls_base.specs.Faults.{Rose};
 ghost use Rattle.lls_base.specs.Shelf.{known_files};
 ghost use Rattle.lls_hinting.specs.declared.fault.Fault.TheVariants.{Outside as OfOutside};
 ghost use Rattle.lls_hinting.specs.Fault.{fault_line, words_status};
-ghost use Rattle.lls_hinting.specs.Ends.{GrewBy, KeepsBut};
-ghost use Rattle.lls_hinting.specs.Moment.{sink_at};
+ghost use Rattle.lls_outside.specs.Grown.{GrewBy};
+ghost use Rattle.lls_hinting.specs.Ends.{KeepsBut};
+ghost use Rattle.lls_outside.specs.Moment.{sink_at};
 ghost use Rattle.lls_hinting.specs.Saying.{GivesText, SaysFault};
 
 use crate::fault::{Fault, OutsideFault};
@@ -16,14 +17,8 @@ use crate::outcome::Hints;
 use crate::status::Status;
 use crate::words_error::WordsError;
 use lls_base::{FileFault, Name, Shelf, Sink, write_all, write_file};
+use lls_outside::write_line;
 use std::alloc::Global;
-
-// Writes a line to the standard error. A fault of it changes nothing.
-fn write_line<E: Sink>(err: &mut E, line: &[u8])
-    ensures { GrewBy line.now (sink_at E.Sink err.old) (sink_at E.Sink err.new) }
-{
-    let _ = write_all(err, line);
-}
 
 /// Says a failure of the outside on the standard error. It takes no memory.
 pub fn say<E: Sink>(fault: OutsideFault, err: &mut E) -> Status

@@ -2,7 +2,7 @@
 ghost use Rattle.std.specs.Prelude.{◌≡◌, ◌≤◌, ◌+◌, length, IfOk, IsTrue, OnOk};
 ghost use Rattle.lls_base.specs.Results.{Gives};
 ghost use Rattle.lls_hinting.specs.Asked.{formula_in};
-ghost use Rattle.lls_hinting.specs.Moment.{files_at, rest_at, shelf_at};
+ghost use Rattle.lls_outside.specs.Moment.{files_at, rest_at, shelf_at};
 ghost use Rattle.lls_hinting.specs.Place.{PieceSays};
 ghost use Rattle.lls_hinting.specs.Steps.{IsFormula, IsOpened, Reads, input_fault};
 

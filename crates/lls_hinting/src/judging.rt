@@ -3,7 +3,7 @@ ghost use Rattle.std.specs.Prelude.{◌≡◌, ◌≤◌, ◌<◌, [], IsTrue, O
 ghost use Rattle.lls_lit.specs.Formula.{is_within, IsUnsatisfiable};
 ghost use Rattle.lls_lemmas.specs.Lemmas.{EndsEmpty, IsNotImplied};
 ghost use Rattle.lls_hinting.specs.Judging.{IsJudged, IsResting, JudgeSays, LemmaSays, progress};
-ghost use Rattle.lls_hinting.specs.Moment.{files_at, rest_at, shelf_at};
+ghost use Rattle.lls_outside.specs.Moment.{files_at, rest_at, shelf_at};
 ghost use Rattle.lls_hinting.specs.Place.{place_at};
 ghost use Rattle.lls_hinting.specs.Steps.{Reads};
 

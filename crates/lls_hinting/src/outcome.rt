@@ -6,7 +6,7 @@ ghost use Rattle.lls_prooflog.specs.Spent.{EachStep, IsGood, is_addition, log_st
 ghost use Rattle.lls_lemmas.specs.Lemmas.{AreRising, Begins, EndsEmpty, GoesOnWell, HasNoFault, KeepsPlain};
 ghost use Rattle.lls_hinting.specs.Hinted.{AreHints, hints_text};
 ghost use Rattle.lls_hinting.specs.Judging.{IsProved, IsResting, progress};
-ghost use Rattle.lls_hinting.specs.Moment.{files_at, shelf_at};
+ghost use Rattle.lls_outside.specs.Moment.{files_at, shelf_at};
 ghost use Rattle.lls_hinting.specs.Outcome.{RequestComesTo};
 ghost use Rattle.lls_hinting.specs.Refusal.{no_empty_text, not_implied_text};
 ghost use Rattle.lls_hinting.specs.Steps.{Reads};

@@ -1,7 +1,7 @@
 // The file of a proof, whose lemmas are read as its bytes come.
 ghost use Rattle.std.specs.Prelude.{◌≡◌, ◌≤◌, ◌<◌, ◌+◌, ◌^◌, IfOk, IsTrue, Ok, Some};
 ghost use Rattle.lls_drat.specs.Reading.{begun};
-ghost use Rattle.lls_hinting.specs.Moment.{rest_at, shelf_at};
+ghost use Rattle.lls_outside.specs.Moment.{rest_at, shelf_at};
 ghost use Rattle.lls_hinting.specs.Place.{FillSays, LastSays, NextSays, RestSays, WholeSays, place_at};
 ghost use Rattle.lls_hinting.specs.Steps.{Reads};
 

@@ -2,7 +2,7 @@
 ghost use Rattle.std.specs.Prelude.{◌≡◌, ◌≢◌, ◌⊎◌, Ok, IsErr, map, string_bytes};
 ghost use Rattle.lls_base.specs.Shelf.{known_files};
 ghost use Rattle.lls_hinting.specs.Ends.{HasCause, HasFault, HasNoFault, IsAnswered, IsComplete, IsContent, IsRefused, IsSilent, KeepsOthers, LeavesHints, OfRequest};
-ghost use Rattle.lls_hinting.specs.Moment.{sink_at};
+ghost use Rattle.lls_outside.specs.Moment.{sink_at};
 ghost use Rattle.lls_hinting.specs.Words.{request_in};
 
 use crate::deliver::{give_hints, give_text, refuse, refuse_words};

@@ -2,7 +2,7 @@
 ghost use Rattle.std.specs.Prelude.{◌≡◌, ◌≤◌, [], IfOk, IsTrue, true};
 ghost use Rattle.lls_lit.specs.Formula.{is_within};
 ghost use Rattle.lls_hinting.specs.Judging.{IsSurveyed, SurveySays};
-ghost use Rattle.lls_hinting.specs.Moment.{files_at, rest_at, shelf_at};
+ghost use Rattle.lls_outside.specs.Moment.{files_at, rest_at, shelf_at};
 ghost use Rattle.lls_hinting.specs.Place.{StartSays, place_at};
 ghost use Rattle.lls_hinting.specs.Steps.{IsForm, Reads};
 

@@ -1,5 +1,5 @@
 use Rattle.std.proofs.lemmas.Result.{err_from_is_err_and}
-use Rattle.lls_hinting.specs.Moment.{shelf_at}
+use Rattle.lls_outside.specs.Moment.{shelf_at}
 use Rattle.lls_hinting.proofs.Requests.{surveyed_then, survey_refused}
 use Rattle.lls_hinting.proofs.outcome.outcome_of.Goals as goal
 

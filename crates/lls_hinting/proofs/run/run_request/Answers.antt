@@ -3,7 +3,7 @@ use Rattle.std.specs.FinMap as map
 use Rattle.std.specs.Io.KnownBytes.{append_known}
 use Rattle.std.specs.Option.{option_map}
 use Rattle.lls_base.specs.Shelf.{Files, known_files}
-use Rattle.lls_hinting.specs.Moment.{sink_at}
+use Rattle.lls_outside.specs.Moment.{sink_at}
 use Rattle.lls_hinting.specs.Outcome.{RequestComesTo}
 use Rattle.lls_hinting.specs.declared.outcome.Hints.{Hints}
 use Rattle.lls_hinting.specs.declared.outcome.Outcome.{Outcome}

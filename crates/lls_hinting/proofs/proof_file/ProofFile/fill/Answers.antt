@@ -1,5 +1,5 @@
 use Rattle.std.proofs.Common.{◌<◌, ◌+◌, length, refl, arith}
-use Rattle.lls_hinting.specs.Moment.{rest_at, shelf_at}
+use Rattle.lls_outside.specs.Moment.{rest_at, shelf_at}
 use Rattle.lls_hinting.specs.Place.{FillSays, PieceSays, place_at}
 use Rattle.lls_hinting.proofs.ReadingPieces.{filled}
 use Rattle.lls_hinting.proofs.Stopping.{reads_value}

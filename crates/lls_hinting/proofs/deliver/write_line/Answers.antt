@@ -1,5 +1,0 @@
-use Rattle.lls_hinting.proofs.Outputs.{grew_by}
-use Rattle.lls_hinting.proofs.deliver.write_line.Goals as goal
-
-pub returns : goal.returns
-returns g c = grew_by c.write_all.result _ _ _ c.write_all.ensures.ok c.write_all.ensures.err c.write_all.ensures.failed c.write_all.ensures.counts
