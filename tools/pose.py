@@ -4,6 +4,8 @@
     pose.py still W H [--margin N]                 a still life in a box of W columns and H rows
     pose.py oscillator W H P [--margin N]          an oscillator of period P whose first phase lies in the box, and whose other
                                                    phases lie in the box and its margin
+    pose.py rotor W H P RW RH [--margin N]         an oscillator of period P in the box, of which nothing changes but cells of RW columns and RH rows in the
+                                                   middle of the box
     pose.py spaceship W H P DX DY [--margin N]     a pattern in the box that is there again P generations later, moved by
                                                    DX columns to the right and DY rows down; its phases on the way lie in the
                                                    box, its margin and the room that it moves through
@@ -11,6 +13,8 @@
                                                    lies along the rows, moved by DX columns: a spaceship of twice that period
     pose.py copies W H N X,Y X,Y .. [--margin N]   a pattern in the box that is there two or more times N generations later, moved by
                                                    X columns and Y rows each time, and nothing besides
+    pose.py eater W H N PICTURE X,Y [--margin M]   a still life in the box that N generations after a pattern came to it is there as before, and
+                                                   nothing else is
     pose.py torus W H P                            what has period P on a torus of W columns and H rows, or lies all over the plane
                                                    again and again, W columns and H rows apart (an agar)
     pose.py predecessor PICTURE [--back N] [--margin N] [--at X,Y]
@@ -32,6 +36,9 @@ The margin is N rows and columns more on each side: 1 where it isn't given for w
 0. Generation 0 is dead there, and later ones may use it;
 of a predecessor it is the other way round, and of an orphan the pattern is dead there. Round the grid everything stays dead. Where a
 question leaves out what a reader may think of, a note says so.
+
+The picture of an eater stands with its top left cell X columns to the right of the box's and Y rows below, also to the left and above (-3,-2); the margin is on each side of both, and
+dead when the pattern comes.
 
 A PICTURE is a file in RLE with or without a header, plaintext (.cells), Life 1.05 or Life 1.06. It stands in the middle of its margin, or
 with --at with its top left cell in column X and row Y of that grid, counted from 0.
@@ -71,6 +78,46 @@ def oscillator(width, height, period, margin):
     left = [divisor for divisor in range(2, period) if period % divisor == 0 and apart % divisor]
     notes = [f"oscillators of period {' and '.join(map(str, left))} fit too"] if left else []
     return Question([first] + [unknown_like(first)] * period, [f"--period {period}", f"--differ 0,{apart}"], notes + [phases_note(first, margin)])
+
+
+def rotor(width, height, period, columns, rows, margin):
+    if columns > width or rows > height:
+        raise BadQuestion("the cells that change have to lie in the box")
+    question = oscillator(width, height, period, margin)
+    # Outside of the middle a cell has one name in all generations, and there is nothing round the box at any time.
+    left, top = margin + (width - columns) // 2, margin + (height - rows) // 2
+    in_box = lambda x, y: margin <= x < margin + width and margin <= y < margin + height
+    turns = lambda x, y: left <= x < left + columns and top <= y < top + rows
+    word = lambda x, y: "*" if turns(x, y) else cell_name(x, y) if in_box(x, y) else "0"
+    generation = [[word(x, y) for x in range(width + 2 * margin)] for y in range(height + 2 * margin)]
+    question.generations = [generation] * (period + 1)
+    question.notes = [note for note in question.notes if "phases" not in note] + [f"the cells that change lie at columns {left} to {left + columns - 1}, rows {top} to {top + rows - 1}"]
+    return question
+
+
+def eater(width, height, later, name, at, margin):
+    try:
+        with open(name, encoding="utf-8", errors="replace") as file:
+            picture = pictures_of(file.read())[0]
+        if not picture.rows or not picture.rows[0]:
+            raise BadPicture("a picture without cells")
+        rule = picture.known_rule()
+    except OSError as fault:
+        raise BadQuestion(f"{name}: {fault.strerror}") from None
+    except BadPicture as fault:
+        raise BadQuestion(f"{name}: {fault}") from None
+    left, top = (margin - min(0, way) for way in at)
+    columns = left + max(width, at[0] + len(picture.rows[0])) + margin
+    rows = top + max(height, at[1] + len(picture.rows)) + margin
+    names = {(left + x, top + y): cell_name(x, y) for y in range(height) for x in range(width)}
+    coming = {(left + at[0] + x, top + at[1] + y): str(cell) for y, row in enumerate(picture.rows) for x, cell in enumerate(row) if cell}
+    if set(names) & set(coming):
+        raise BadQuestion("the picture lies on the box")
+    first, last = tied(columns, rows, {**names, **coming}), tied(columns, rows, names)
+    # Once more behind it: what is there alone then is a still life.
+    generations = [first] + [unknown_like(first)] * (later - 1) + [last, last]
+    notes = [*picture.notes, f"all happens in the grid of {columns} by {rows}; --margin {margin + 1} leaves more room"]
+    return Question(generations, ([f"--rule {rule}"] if rule else []) + [f"--live {later}:1-"], notes)
 
 
 def phases_note(rows, margin):
@@ -222,9 +269,11 @@ BOX = (("width", "W", size), ("height", "H", size))
 KINDS = {
     still: BOX,
     oscillator: (*BOX, ("period", "P", int)),
+    rotor: (*BOX, ("period", "P", int), ("columns", "RW", size), ("rows", "RH", size)),
     spaceship: (*BOX, ("period", "P", int), ("right", "DX", int), ("down", "DY", int)),
     glide: (*BOX, ("later", "N", size), ("right", "DX", int)),
     copies: (*BOX, ("later", "N", size), ("moves", "X,Y", move_word)),
+    eater: (*BOX, ("later", "N", size), ("name", "PICTURE", str), ("at", "X,Y", move_word)),
     torus: (*BOX, ("period", "P", int)),
     predecessor: (("name", "PICTURE", str),),
     orphan: (("name", "PICTURE", str),),
@@ -246,7 +295,7 @@ def question_of_words():
         if kind is predecessor:
             words.add_argument("--back", metavar="N", type=size, default=1)
         if kind is not torus:
-            words.add_argument("--margin", metavar="N", type=margin_size, default=int(kind in (oscillator, spaceship, glide)))
+            words.add_argument("--margin", metavar="N", type=margin_size, default=int(kind in (oscillator, rotor, spaceship, glide)) or 2 * (kind is eater))
         words.add_argument("-o", metavar="FILE", dest="out")
         words.set_defaults(ask=kind)
     values = vars(parser.parse_args())

@@ -212,6 +212,22 @@ class Pose(unittest.TestCase):
         out, _ = self.posed("copies", 2, 1, 1, "-1,0", "1,1")
         self.assertEqual(out, "#! --live 0:1-\n0 r0c0 r0c1 0\n0 0 0 0\n\nr0c0 r0c1 0 0\n0 0 r0c0 r0c1\n")
 
+    def test_rotor(self):
+        out, err = self.posed("rotor", 3, 2, 2, 1, 2, "--margin", 0)
+        rows = "r0c0 * r0c2\nr1c0 * r1c2\n"
+        self.assertEqual(out, "#! --period 2 --differ 0,1\n" + "\n".join([rows] * 3))
+        self.assertIn("note: the cells that change lie at columns 1 to 1, rows 0 to 1\n", err)
+        self.assertEqual(self.posed("rotor", 1, 1, 2, 1, 1)[0].split("\n\n")[1], "0 0 0\n0 * 0\n0 0 0")
+        self.assertEqual(ran("tools/pose.py", "rotor", "3", "3", "2", "4", "1")[0], 2)
+
+    def test_eater(self):
+        picture = scratch(self, "p.rle", "x = 1, y = 1\no!\n")
+        out, err = self.posed("eater", 1, 1, 2, picture, "-2,0", "--margin", 0)
+        self.assertEqual(out, "#! --live 2:1-\n1 0 r0c0\n\n* * *\n\n0 0 r0c0\n\n0 0 r0c0\n")
+        self.assertIn("note: all happens in the grid of 3 by 1; --margin 1 leaves more room\n", err)
+        self.assertEqual(self.posed("eater", 1, 1, 1, picture, "0,1", "--margin", 0)[0], "#! --live 1:1-\nr0c0\n1\n\nr0c0\n0\n\nr0c0\n0\n")
+        self.assertEqual(ran("tools/pose.py", "eater", "2", "2", "3", picture, "1,1")[1:], ("", "pose.py: the picture lies on the box\n"))
+
     def test_torus(self):
         out, err = self.posed("torus", 2, 1, 2)
         ring = lambda t, mark: f"r0c1t{t}{mark} r0c0t{t}{mark} r0c1t{t}{mark} r0c0t{t}{mark}\n"
