@@ -1,7 +1,7 @@
 #!/usr/bin/env python3
 """Draws generations of cells, in the terminal or as an SVG.
 
-    show.py [FILE ..] [--about] [--svg FILE [--animate]] [--width COLUMNS]
+    show.py [FILE ..] [--about] [--svg FILE [--animate]] [--width COLUMNS] [--status]
 
 A FILE is a history (rows of 0 and 1, an empty line between generations), a search file, patterns in RLE, one behind the other, or a
 picture in plaintext (.cells), Life 1.05 or Life 1.06.
@@ -16,6 +16,8 @@ name have one colour, and their opposites a darker one; --animate draws one gene
 --about says of known generations, in words in place of a drawing, how many cells live in each and in what box, and which is the first
 generation again, where one is, and where.
 --width is the terminal's width, where it isn't to be found out.
+--status ends with the status of the search whose answer is drawn, which a pipe hides: 10 where there is a pattern, 20 behind `no pattern`, 30 behind `undecided`
+and a line that begins with `at most`.
 """
 import argparse
 import colorsys
@@ -28,7 +30,9 @@ from refute import read_search_file
 from pictures import BadPicture, is_picture, pictures_of
 
 CELL = re.compile(r"(?:[01*]|-?[A-Za-z][A-Za-z0-9]{0,31})'?")
-ANSWERS = ("no pattern", "undecided")
+# The answers that show no pattern, with the status of the search.
+ANSWERS = {"no pattern": 20, "undecided": 30}
+PATTERN, UNDECIDED = 10, 30
 HEADLINE = re.compile(r"(?:least|at most) [0-9]+|B\S*/S\S*")
 
 
@@ -268,6 +272,7 @@ def main():
     parser.add_argument("--svg", metavar="FILE")
     parser.add_argument("--animate", action="store_true")
     parser.add_argument("--width", metavar="COLUMNS", type=int)
+    parser.add_argument("--status", action="store_true")
     words = parser.parse_args()
     if words.animate and not words.svg:
         parser.error("--animate goes with --svg FILE")
@@ -278,17 +283,19 @@ def main():
         texts = read_inputs(words.files)
         if len(texts) == 1 and texts[0].strip() in ANSWERS:
             print(texts[0].strip())
-            return
+            return ANSWERS[texts[0].strip()] if words.status else 0
         headlines, texts = zip(*map(cut_headline, texts))
+        is_open = any(line.startswith("at most") for headline in headlines for line in headline)
+        status = 0 if not words.status else UNDECIDED if is_open else PATTERN
         files = [read_generations(text) for text in texts]
         if words.about:
             if not all(map(is_known, files)):
                 raise BadInput("--about is for generations that are known; this one has unknown or tied cells")
             print("\n".join(line for headline, generations in zip(headlines, files) for line in headline + about(generations)))
-            return
+            return status
         if words.svg:
             write(words.svg, animation(files) if words.animate else strips(files))
-            return
+            return status
     except OSError as fault:
         sys.exit(f"show.py: {fault.filename}: {fault.strerror}")
     except BadInput as fault:
@@ -296,6 +303,7 @@ def main():
     columns = words.width or shutil.get_terminal_size().columns
     for headline, generations in zip(headlines, files):
         print("\n".join(headline + drawn(generations, columns)))
+    return status
 
 
 if __name__ == "__main__":

@@ -129,6 +129,13 @@ class Show(unittest.TestCase):
         self.assertEqual((a, b, unknown), (same, again, None))
         self.assertEqual(len({a, b, opposite, None}), 4)
 
+    def test_status_of_the_search_in_front(self):
+        rows = [("no pattern\n", 20), ("undecided\n", 30), ("1\n", 10), ("least 1\n1\n", 10), ("at most 1\n1\n", 30), ("B3/S23\n1\n", 10)]
+        for text, status in rows:
+            self.assertEqual(ran("tools/show.py", "--status", text=text)[0], status, text)
+            self.assertEqual(ran("tools/show.py", text=text)[0], 0, text)
+        self.assertEqual(ran("tools/show.py", "--status", "--about", text="1\n")[0], 10)
+
     def test_the_picture_of_a_glide(self):
         _, out, _ = ran("tools/show.py", "examples/glide.lls", "examples/glide.pattern", "--svg", "-")
         with open(f"{TOP}/docs/glide.svg", encoding="utf-8") as file:

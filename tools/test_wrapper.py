@@ -289,6 +289,36 @@ class Case(unittest.TestCase):
         return done.returncode, done.stdout, done.stderr.decode()
 
 
+class KeptProofs(Case):
+    """A search writes over PROOF, and a proof of another question is kept."""
+
+    def kept(self, first_id, *words, out="p cnf 4 9\n"):
+        """What is said, and the files of the proof behind it, by name."""
+        self.write("proof", f"{first_id} 1 0 2 0\n")
+        said = self.lls(*(words or ("search", "q.lls", "proof")), OUT=out, ENDS="20")[2]
+        return said, sorted(it for it in os.listdir(self.top) if it.startswith("proof"))
+
+    def test_of_another_question(self):
+        said, files = self.kept(9)
+        self.assertEqual((said, files), ("lls: 'proof' has a proof of another question, which is kept as 'proof.old'\n", ["proof", "proof.old"]))
+        self.assertEqual(self.kept(7)[1], ["proof", "proof.old", "proof.old2"])
+        with open(f"{self.top}/proof.old2", encoding="utf-8") as file:
+            self.assertEqual(file.read(), "7 1 0 2 0\n")
+
+    def test_of_the_same_question_or_none(self):
+        rows = [
+            (10, (), "p cnf 4 9\n"),
+            ("no", (), "p cnf 4 9\n"),
+            (9, (), "no formula\n"),
+            (9, ("least", "q.lls", "proof"), "p cnf 4 9\n"),
+            (9, ("check", "q.lls", "proof"), "p cnf 4 9\n"),
+            (9, ("--quiet", "search", "q.lls", "proof"), "p cnf 4 9\n"),
+        ]
+        for first_id, words, out in rows:
+            said, files = self.kept(first_id, *words, out=out)
+            self.assertEqual(("is kept" in said, files), (False, ["proof"]), (first_id, words))
+
+
 class Explanations(Case):
     def setUp(self):
         super().setUp()
