@@ -1,8 +1,8 @@
 // In which manner a search is made.
 ghost use Rattle.std.specs.Prelude.{◌≡◌, ◌↔◌, None, Some, IsTrue};
-ghost use Rattle.lls_answers.specs.Manners.{HasLong, IsLong};
+ghost use Rattle.lls_answers.specs.Manners.{AreSteady, IsLong};
 
-use lls_problem::Period;
+use lls_problem::{Demands, Edge, Period};
 use lls_solver::{Manner, Manners};
 
 // The least period with which the steady manner needs fewer clauses, whether the pattern moves or not; and where it stands still.
@@ -20,27 +20,32 @@ fn is_long(period: Period) -> bool
     period.length == LONG_IN_PLACE && period.dx == 0 && period.dy == 0
 }
 
-// The manner that mostly needs fewer clauses with such a period.
-fn suited(period: Option<Period>) -> Manner
-    ensures steady { HasLong period → result ≡ Manner.Steady }
-    ensures restless { (HasLong period → ⊥) → result ≡ Manner.Restless }
+// Whether the steady manner mostly needs fewer clauses for what is demanded.
+fn are_steady(demands: &Demands) -> bool
+    ensures { IsTrue result ↔ AreSteady demands.now }
 {
-    if let Some(period) = period {
-        if is_long(period) {
-            return Manner::Steady;
-        }
+    match demands.period {
+        Some(period) => is_long(period),
+        None => match demands.edge {
+            Edge::Bare => true,
+            Edge::Framed => false,
+        },
     }
-    Manner::Restless
 }
 
-/// The manners of a search: those that are said, or else the one that mostly needs fewer clauses with such a period.
-pub fn manners_of(said: Option<Manners>, period: Option<Period>) -> Manners
+/// The manners of a search for a problem's solution: those that are said, or else the one that mostly needs fewer clauses for what is
+/// demanded.
+pub fn manners_of(said: Option<Manners>, demands: &Demands) -> Manners
     ensures said { (manners : Manners) → said ≡ Some manners → result ≡ manners }
-    ensures steady { said ≡ None → HasLong period → result ≡ Manners.Alone Manner.Steady }
-    ensures restless { said ≡ None → (HasLong period → ⊥) → result ≡ Manners.Alone Manner.Restless }
+    ensures steady { said ≡ None → AreSteady demands.now → result ≡ Manners.Alone Manner.Steady }
+    ensures restless { said ≡ None → (AreSteady demands.now → ⊥) → result ≡ Manners.Alone Manner.Restless }
 {
-    match said {
-        Some(manners) => manners,
-        None => Manners::Alone(suited(period)),
+    if let Some(manners) = said {
+        return manners;
+    }
+    if are_steady(demands) {
+        Manners::Alone(Manner::Steady)
+    } else {
+        Manners::Alone(Manner::Restless)
     }
 }

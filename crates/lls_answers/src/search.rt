@@ -11,7 +11,6 @@ ghost use Rattle.lls_answers.specs.Crew.{IsCrew};
 use crate::answer::Answer;
 use crate::effort::{CrewPlan, Effort, Further};
 use crate::evidence::{absence_of, log_file};
-use crate::manners::manners_of;
 use crate::status::Status;
 use crate::subject::Subject;
 use crate::text::Text;
@@ -49,7 +48,7 @@ fn solve_by(
             alloc,
             formula,
             &[],
-            manners_of(further.manners, subject.period()),
+            subject.manners(further.manners),
             effort.budget,
             effort.keep_all,
             log,

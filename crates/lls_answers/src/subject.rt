@@ -1,5 +1,5 @@
 // What a check or a search is about, with its formula.
-ghost use Rattle.std.specs.Prelude.{◌≡◌, ◌≤◌, Bool, length, IfOk};
+ghost use Rattle.std.specs.Prelude.{◌≡◌, ◌≤◌, Bool, length, None, Some, IfOk};
 ghost use Rattle.lls_lit.specs.Formula.{IsUnsatisfiable};
 ghost use Rattle.lls_hensel.specs.Isotropy.{IsIsotropic};
 ghost use Rattle.lls_open.specs.Between.{AreEnds};
@@ -9,10 +9,11 @@ ghost use Rattle.lls_answers.specs.Opened.{opened_text};
 ghost use Rattle.lls_answers.specs.Subject.{most_open_cells, CanBePrinted, HasNone, Shows, asked_with, formula_asked, formula_opened, none_text, opened_with, subject_formula, undecided_text};
 ghost use Rattle.lls_outside.specs.Grown.{Writes};
 ghost use Rattle.lls_answers.specs.Subject as subjects;
-ghost use Rattle.lls_answers.specs.Manners.{period_of};
+ghost use Rattle.lls_answers.specs.Manners.{IsSteadySubject};
 
 use crate::absence::{print_no_rule, print_none, print_unsatisfiable};
 use crate::asked::{Asked, OpenAsked};
+use crate::manners::manners_of;
 use crate::model::print_model;
 use crate::pattern::print_pattern;
 use crate::print::rule_line;
@@ -22,8 +23,9 @@ use lls_encode::{decode, encode};
 use lls_grid::History;
 use lls_lrat::Checked;
 use lls_open::{decode_open, encode_open};
-use lls_problem::{Form, Period, Problem};
+use lls_problem::{Form, Problem};
 use lls_rule::Rule;
+use lls_solver::{Manner, Manners};
 use std::alloc::Global;
 use std::marker::Model;
 
@@ -134,13 +136,18 @@ impl Subject {
         }
     }
 
-    /// The period that is demanded, where a problem is solved by its own rule.
-    pub fn period(&self) -> Option<Period>
-        ensures { result ≡ period_of self.now }
+    /// The manners by which it is searched: those that are said, or else by what a problem demands. Others are searched restlessly.
+    pub fn manners(&self, said: Option<Manners>) -> Manners
+        ensures said { (manners : Manners) → said ≡ Some manners → result ≡ manners }
+        ensures steady { said ≡ None → IsSteadySubject self.now → result ≡ Manners.Alone Manner.Steady }
+        ensures restless { said ≡ None → (IsSteadySubject self.now → ⊥) → result ≡ Manners.Alone Manner.Restless }
     {
         match &self.about {
-            About::Problem(asked) => asked.problem.demands().period,
-            About::Rules(_) | About::Formula => None,
+            About::Problem(asked) => manners_of(said, asked.problem.demands()),
+            About::Rules(_) | About::Formula => match said {
+                Some(manners) => manners,
+                None => Manners::Alone(Manner::Restless),
+            },
         }
     }
 

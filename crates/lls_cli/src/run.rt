@@ -82,7 +82,7 @@ fn run_least<S: Shelf, O: Sink, E: Sink>(
     match read_roomy_problem(alloc, outside.shelf, source) {
         Ok(problem) => {
             let asked = Asked { problem, form };
-            let manners = manners_of(further.manners, asked.problem.demands().period);
+            let manners = manners_of(further.manners, asked.problem.demands());
             give_fewest(alloc, asked, effort, further.rle, manners, outside)
         }
         Err(fault) => refuse(alloc, fault, outside.err),
