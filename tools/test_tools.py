@@ -129,6 +129,10 @@ class Show(unittest.TestCase):
         self.assertEqual((a, b, unknown), (same, again, None))
         self.assertEqual(len({a, b, opposite, None}), 4)
 
+    def test_the_picture_of_the_symmetries(self):
+        with open(f"{TOP}/docs/symmetries.svg", encoding="utf-8") as file:
+            self.assertEqual(ran("tools/show.py", "examples/symmetries.lls", "--svg", "-")[1], file.read())
+
     def test_status_of_the_search_in_front(self):
         rows = [("no pattern\n", 20), ("undecided\n", 30), ("1\n", 10), ("least 1\n1\n", 10), ("at most 1\n1\n", 30), ("B3/S23\n1\n", 10)]
         for text, status in rows:
