@@ -8,7 +8,7 @@
 
 An entry is a search file catalogue/NAME.lls, whose line `#!` has the options of its question, and a line of catalogue/entries.tsv. Its sentence may be
 quoted with what stands behind it: what the sentence leaves out. The answer is `none` (an absence, whose proof `check` makes anew by `search` with the words of
-the entry, and has `lls check` accept) or `pattern` (catalogue/NAME.rle, which `lls judge` looks at). A search is a function of its file and its words, so
+the entry, or in pieces by spread.py where these begin with `spread`, and has `lls check` accept) or `pattern` (catalogue/NAME.rle, which `lls judge` looks at). A search is a function of its file and its words, so
 the proof has the same bytes each time, and their SHA-256 stands in the entry.
 
 `list` prints a table, with `--page` as docs/catalogue.md has it. `show` prints an entry: its sentence, its question or pattern as a picture, and
@@ -69,7 +69,30 @@ class Entry:
         search = os.path.relpath(self.search, TOP)
         if self.answer == "pattern":
             return [f"./lls judge {search} {os.path.relpath(self.pattern, TOP)} --as rle"]
-        return [f"./lls search {search} {self.name}.proof{' ' * bool(self.words)}{self.words}", f"./lls check {search} {self.name}.proof"]
+        if self.is_spread():
+            start = shlex.join(["tools/spread.py", "start", search, "pieces", *self.options(), *shlex.split(self.words)[1:]])
+            making = [start, "tools/spread.py run pieces", f"tools/spread.py join pieces {self.name}.proof"]
+        else:
+            making = [f"./lls search {search} {self.name}.proof{' ' * bool(self.words)}{self.words}"]
+        return [*making, f"./lls check {search} {self.name}.proof"]
+
+    def is_spread(self):
+        return self.words.split()[:1] == ["spread"]
+
+    def prove(self, program, proof, room):
+        """Makes the proof of an absence."""
+        if not self.is_spread():
+            answer_is(ABSENT, "no pattern", program, "search", self.search, proof, *self.options(), *shlex.split(self.words))
+            return
+        pieces, tool = f"{room}/pieces", f"{TOP}/tools/spread.py"
+        ends_with(0, tool, "start", self.search, pieces, *self.options(), *shlex.split(self.words)[1:], "--lls", program)
+        if shutil.which("parallel"):
+            ends_with(ABSENT, tool, "run", pieces)
+        else:
+            while ended(tool, "next", pieces).returncode == 0:
+                pass
+            ends_with(ABSENT, tool, "next", pieces)
+        ends_with(0, tool, "join", pieces, proof)
 
     def checked(self, program):
         """Returns what there is to say of the entry where it is as it is said, or stops."""
@@ -85,15 +108,26 @@ class Entry:
             raise Stop(f"'{self.answer}' is no answer: none or pattern")
         with tempfile.TemporaryDirectory(prefix="catalogue-") as room:
             proof = f"{room}/proof"
-            answer_is(ABSENT, "no pattern", program, "search", self.search, proof, *self.options(), *shlex.split(self.words))
+            self.prove(program, proof, room)
             answer_is(0, "accepted", program, "check", self.search, proof, *self.options())
             same_sum(self, proof)
         return f"none, accepted, {time.monotonic() - begun:.2f} s"
 
 
+def ended(*words):
+    return subprocess.run(words, stdin=subprocess.DEVNULL, capture_output=True, check=False)
+
+
+def ends_with(status, *words):
+    """Stops where a script ends with another status."""
+    done = ended(*words)
+    if done.returncode != status:
+        raise Stop(f"{os.path.basename(words[0])} {words[1]} ends with {done.returncode}: {done.stderr.decode('utf-8', 'replace').strip()[-200:]}")
+
+
 def answer_is(status, text, *words):
     """Stops where a command ends otherwise."""
-    done = subprocess.run(words, stdin=subprocess.DEVNULL, capture_output=True, check=False)
+    done = ended(*words)
     said = (done.stdout.split(b"\n")[0] or done.stderr.strip()).decode("utf-8", "replace")
     if (done.returncode, said) != (status, text):
         raise Stop(f"{words[1]} ends with {done.returncode} and '{said}', and not with {status} and '{text}'")
@@ -207,6 +241,20 @@ def show(entry):
         print(f"    {line}")
 
 
+def searched(entry, program, proof):
+    """Searches an entry's question, keeps a pattern, and returns the answer."""
+    done = ended(program, "search", entry.search, proof, *entry.options(), *shlex.split(entry.words), "--as", "rle")
+    if done.returncode not in (PATTERN, ABSENT):
+        os.remove(entry.search)
+        raise Stop(f"the search ends with {done.returncode}: {(done.stdout or done.stderr).decode('utf-8', 'replace').strip()[:200]}")
+    if done.returncode == ABSENT:
+        return "none"
+    with open(entry.pattern, "wb") as file:
+        # The first generation: the others follow from it.
+        file.write(done.stdout[: done.stdout.index(b"!") + 1] + b"\n")
+    return "pattern"
+
+
 def add(values, folder):
     """Searches a question, and writes its line and its files."""
     entry = Entry(folder, "\t".join([values.name, values.sentence, values.besides, "", values.words, "-", "-", "-", "-", values.known]))
@@ -216,24 +264,18 @@ def add(values, folder):
         shutil.copyfile(values.search, entry.search)
     with tempfile.TemporaryDirectory(prefix="catalogue-") as room:
         proof, begun = f"{room}/proof", os.times()
-        words = [values.lls, "search", entry.search, proof, *entry.options(), *shlex.split(entry.words), "--as", "rle"]
-        done = subprocess.run(words, stdin=subprocess.DEVNULL, capture_output=True, check=False)
-        if done.returncode not in (PATTERN, ABSENT):
-            os.remove(entry.search)
-            raise Stop(f"the search ends with {done.returncode}: {(done.stdout or done.stderr).decode('utf-8', 'replace').strip()[:200]}")
-        entry.answer = "none" if done.returncode == ABSENT else "pattern"
-        if entry.answer == "pattern":
-            with open(entry.pattern, "wb") as file:
-                # The first generation: the others follow from it.
-                file.write(done.stdout[: done.stdout.index(b"!") + 1] + b"\n")
+        entry.answer = "none" if entry.is_spread() else searched(entry, values.lls, proof)
+        if entry.is_spread():
+            entry.prove(values.lls, proof, room)
+            shutil.rmtree(f"{room}/pieces")
         shown = proof if entry.answer == "none" else entry.pattern
         entry.bytes, entry.sha256 = str(os.path.getsize(shown)), sum_of(shown)
         if entry.answer == "none":
             with open(proof, "rb") as file:
                 entry.additions = str(sum(line.split()[1:2] != [b"d"] for line in file))
         entry.checked(values.lls)
-        ended = os.times()
-    entry.seconds = f"{ended.children_user + ended.children_system - begun.children_user - begun.children_system:.2f}"
+        now = os.times()
+    entry.seconds = f"{now.children_user + now.children_system - begun.children_user - begun.children_system:.2f}"
     with open(f"{folder}/entries.tsv", "a", encoding="utf-8") as file:
         file.write(entry.line() + "\n")
     print(f"{entry.name}: {entry.answer}, {entry.seconds} s")

@@ -21,6 +21,15 @@ search) [ "$status" -ne 20 ] || echo "$proof" >"$3"; printf "%b\\n" "$text"; exi
 esac
 """
 
+# A program that finds nothing in any piece.
+PIECES = """#!/bin/bash
+case $1 in
+cnf) echo 'p cnf 4 5' ;;
+search) echo '7 0 1 2 0' >"$3"; echo 'no pattern'; exit 20 ;;
+check) echo accepted ;;
+esac
+"""
+
 
 def sum_of(text):
     return hashlib.sha256(text.encode()).hexdigest()
@@ -101,6 +110,16 @@ class Entries(unittest.TestCase):
             self.assertEqual(self.check(f"{name}-2")[0], 0)
             self.assertEqual(self.call(*words)[0], 2)
         self.assertIn("A sentence.", self.call("list")[1])
+
+    def test_in_pieces(self):
+        """Two pieces, each refuted by its first clause and the second one behind the clause that fixes its cell."""
+        self.write("lls", PIECES)
+        self.write("none.lls", "#! --period 1\n* *\n\n* *\n")
+        joined = "6 1 0 1 0\n7 -1 0 1 0\n8 0 6 7 0\n8 d 6 7 0\n"
+        self.rows = [f"none\tThere is nothing.\tthe ring\tnone\tspread --cells 1\t3\t{len(joined)}\t0.50\t{sum_of(joined)}\tfound here"]
+        self.table()
+        self.assertEqual(self.check("none"), (0, ["none: none, accepted", "1 of 1 entries are as they are said"], ""))
+        self.assertIn("    tools/spread.py run pieces\n", self.call("show", "none")[1])
 
     def test_an_entry_is_shown(self):
         status, out, err = ran(CATALOGUE, "show", "still-4x4-no-9")
