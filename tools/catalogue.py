@@ -245,7 +245,6 @@ def searched(entry, program, proof):
     """Searches an entry's question, keeps a pattern, and returns the answer."""
     done = ended(program, "search", entry.search, proof, *entry.options(), *shlex.split(entry.words), "--as", "rle")
     if done.returncode not in (PATTERN, ABSENT):
-        os.remove(entry.search)
         raise Stop(f"the search ends with {done.returncode}: {(done.stdout or done.stderr).decode('utf-8', 'replace').strip()[:200]}")
     if done.returncode == ABSENT:
         return "none"
@@ -255,27 +254,39 @@ def searched(entry, program, proof):
     return "pattern"
 
 
-def add(values, folder):
-    """Searches a question, and writes its line and its files."""
-    entry = Entry(folder, "\t".join([values.name, values.sentence, values.besides, "", values.words, "-", "-", "-", "-", values.known]))
-    if any(it.name == entry.name for it in entries_in(folder)):
-        raise Stop(f"there is an entry {entry.name}")
-    if os.path.abspath(values.search) != os.path.abspath(entry.search):
-        shutil.copyfile(values.search, entry.search)
+def measure(entry, program):
+    """Answers an entry's question, checks the answer, and fills in what the entry says of it."""
+    begun = os.times()
     with tempfile.TemporaryDirectory(prefix="catalogue-") as room:
-        proof, begun = f"{room}/proof", os.times()
-        entry.answer = "none" if entry.is_spread() else searched(entry, values.lls, proof)
+        proof = f"{room}/proof"
+        entry.answer = "none" if entry.is_spread() else searched(entry, program, proof)
         if entry.is_spread():
-            entry.prove(values.lls, proof, room)
+            entry.prove(program, proof, room)
             shutil.rmtree(f"{room}/pieces")
         shown = proof if entry.answer == "none" else entry.pattern
         entry.bytes, entry.sha256 = str(os.path.getsize(shown)), sum_of(shown)
         if entry.answer == "none":
             with open(proof, "rb") as file:
                 entry.additions = str(sum(line.split()[1:2] != [b"d"] for line in file))
-        entry.checked(values.lls)
-        now = os.times()
+    entry.checked(program)
+    now = os.times()
     entry.seconds = f"{now.children_user + now.children_system - begun.children_user - begun.children_system:.2f}"
+
+
+def add(values, folder):
+    """Searches a new question, and writes its line and its files."""
+    entry = Entry(folder, "\t".join([values.name, values.sentence, values.besides, "", values.words, "-", "-", "-", "-", values.known]))
+    if any(it.name == entry.name for it in entries_in(folder)):
+        raise Stop(f"there is an entry {entry.name}")
+    made = [entry.pattern]
+    if os.path.abspath(values.search) != os.path.abspath(entry.search):
+        made.append(shutil.copyfile(values.search, entry.search))
+    try:
+        measure(entry, values.lls)
+    except (Stop, OSError):
+        for name in filter(os.path.exists, made):
+            os.remove(name)
+        raise
     with open(f"{folder}/entries.tsv", "a", encoding="utf-8") as file:
         file.write(entry.line() + "\n")
     print(f"{entry.name}: {entry.answer}, {entry.seconds} s")

@@ -111,6 +111,16 @@ class Entries(unittest.TestCase):
             self.assertEqual(self.call(*words)[0], 2)
         self.assertIn("A sentence.", self.call("list")[1])
 
+    def test_what_cannot_be_added_leaves_nothing(self):
+        with open(f"{self.folder}/some.lls", encoding="utf-8") as file:
+            text = file.read()
+        for name, change in (("open", ("status 10", "status 30")), ("broken", ("verdict meets", "verdict refused"))):
+            self.write("some.lls", text.replace(*change))
+            before = sorted(os.listdir(self.folder))
+            words = ("add", name, f"{self.folder}/some.lls", "A sentence.", "the ring", "found here", "--lls", f"{self.folder}/lls")
+            self.assertEqual(self.call(*words)[0], 2)
+            self.assertEqual(sorted(os.listdir(self.folder)), before)
+
     def test_in_pieces(self):
         """Two pieces, each refuted by its first clause and the second one behind the clause that fixes its cell."""
         self.write("lls", PIECES)
