@@ -129,6 +129,13 @@ class Show(unittest.TestCase):
         self.assertEqual((a, b, unknown), (same, again, None))
         self.assertEqual(len({a, b, opposite, None}), 4)
 
+    def test_the_picture_of_a_margin(self):
+        asked = scratch(self, "line.lls", ran("tools/pose.py", "oscillator", "3", "1", "2", "--margin", "1")[1])
+        blinker = ["0 0 0 0 0\n0 1 1 1 0\n0 0 0 0 0\n", "0 0 1 0 0\n" * 3]
+        answer = scratch(self, "line.pattern", "\n".join(blinker + blinker[:1]))
+        with open(f"{TOP}/docs/margin.svg", encoding="utf-8") as file:
+            self.assertEqual(ran("tools/show.py", asked, answer, "--svg", "-")[1], file.read())
+
     def test_the_picture_of_the_symmetries(self):
         with open(f"{TOP}/docs/symmetries.svg", encoding="utf-8") as file:
             self.assertEqual(ran("tools/show.py", "examples/symmetries.lls", "--svg", "-")[1], file.read())
