@@ -192,6 +192,8 @@ def check(values, folder):
         entries = within(entries, values.within)
     elif not values.all:
         entries = named(entries, values.names)
+    if not entries:
+        raise Stop("no entry is to be checked")
     if values.parallel is not None:
         if not shutil.which("parallel"):
             raise Stop("GNU parallel isn't there (apt install parallel)")
@@ -201,7 +203,7 @@ def check(values, folder):
     with concurrent.futures.ThreadPoolExecutor(values.jobs) as pool:
         right = list(pool.map(lambda it: look_at(it, values.lls), entries))
     print(f"{sum(right)} of {len(right)} entries are as they are said")
-    return 0 if all(right) and right else 1
+    return 0 if all(right) else 1
 
 
 def page_of(entries):

@@ -100,6 +100,7 @@ class Entries(unittest.TestCase):
         self.rows[2:] = []
         self.table()
         self.assertEqual(self.check("other")[::2], (2, "catalogue.py: there is no entry other\n"))
+        self.assertEqual(self.check("--within", "0")[::2], (2, "catalogue.py: no entry is to be checked\n"))
 
     def test_what_is_added_is_as_it_is_said(self):
         for name, answer in (("none", "none"), ("some", "pattern")):
