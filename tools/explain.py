@@ -474,7 +474,7 @@ def demand_fault(line, name, fault, numbers):
         return f"--live {line.value('live')}: for generation {numbers[0]} the low end is above the high end, or above the number of cells"
     if fault == "PeriodTooLong":
         return f"--period {line.value('period')} asks for {numbers[0] + 1} generations or more, and {has}"
-    if line.command == "least":
+    if line.command in ("least", "most"):
         return f"to count the live cells of {name} takes {numbers[0]} variables, with those of --live, and 1000000 are the most"
     return f"--live {line.value('live')} needs {numbers[0]} variables for counting, and 1000000 are the most; lower numbers need fewer"
 

@@ -10,7 +10,7 @@ _lls_options() {
     opencheck) echo "--low --high $_lls_demands --formula" ;;
     judge) echo "--rule $_lls_demands --as" ;;
     search) echo "--rule $_lls_demands --budget --keep --manner --as --formula --crew --turns" ;;
-    least) echo "--rule $_lls_demands --budget --keep --manner --as --formula" ;;
+    least | most) echo "--rule $_lls_demands --budget --keep --manner --as --formula" ;;
     open) echo "--low --high $_lls_demands --budget --keep --manner --as --formula" ;;
     sat) echo '--budget --keep --manner' ;;
     esac
@@ -40,7 +40,7 @@ _lls_reply() {
 }
 
 _lls() {
-    local current=${COMP_WORDS[COMP_CWORD]} previous=${COMP_WORDS[COMP_CWORD - 1]} commands='check cnf judge least lrat make open opencheck rule sat search trim'
+    local current=${COMP_WORDS[COMP_CWORD]} previous=${COMP_WORDS[COMP_CWORD - 1]} commands='check cnf judge least lrat make most open opencheck rule sat search trim'
     local first=1 words=()
     [ "${COMP_WORDS[1]-}" != --quiet ] || first=2
     [ "${COMP_WORDS[first]-}" != --as-built ] || first=$((first + 1))

@@ -3,7 +3,7 @@
 
     race.py [--lls PROGRAM] COMMAND SEARCH PROOF [WORD ..]
 
-COMMAND is `search`, `sat`, `least` or `open`, and the words are its own, without `--manner`. Whichever process first finds a pattern or an absence has the answer,
+COMMAND is `search`, `sat`, `least`, `most` or `open`, and the words are its own, without `--manner`. Whichever process first finds a pattern or an absence has the answer,
 and the other one is ended; where neither does the answer is the restless one's. PROOF is what the process that has the answer wrote: it is written beside, under a
 name that begins with a dot, and then renamed, so it is whole or as it was, also where the race is ended. Prints what that process prints, and ends with its status.
 """
@@ -17,7 +17,7 @@ import tempfile
 import ending
 from with_solver import LLS
 
-COMMANDS = ("search", "sat", "least", "open")
+COMMANDS = ("search", "sat", "least", "most", "open")
 MANNERS = ("restless", "steady")
 # A pattern, and an absence.
 DECIDED = (10, 20)

@@ -6,7 +6,7 @@
 A FILE is a history (rows of 0 and 1, an empty line between generations), a search file, patterns in RLE, one behind the other, or a
 picture in plaintext (.cells), Life 1.05 or Life 1.06.
 With no FILE the standard input is read, so `lls search .. | show.py` works; its answers `no pattern` and `undecided` are handed on, and
-so is the line that `lls least` and `lls open` print above a pattern.
+so is the line that `lls least`, `lls most` and `lls open` print above a pattern.
 
 In the terminal two rows share a line. A file with cells that aren't known is drawn one row a line and two columns a cell: `??`
 is an unknown cell, a name stands for itself, and a mark as in search files says that the rule needn't hold into the cell.
@@ -17,7 +17,7 @@ name have one colour, and their opposites a darker one; --animate draws one gene
 generation again, where one is, and where.
 --width is the terminal's width, where it isn't to be found out.
 --status ends with the status of the search whose answer is drawn, which a pipe hides: 10 where there is a pattern, 20 behind `no pattern`, 30 behind `undecided`
-and a line that begins with `at most`.
+and a line that begins with `at most` or `at least`.
 """
 import argparse
 import colorsys
@@ -33,7 +33,7 @@ CELL = re.compile(r"(?:[01*]|-?[A-Za-z][A-Za-z0-9]{0,31})'?")
 # The answers that show no pattern, with the status of the search.
 ANSWERS = {"no pattern": 20, "undecided": 30}
 PATTERN, UNDECIDED = 10, 30
-HEADLINE = re.compile(r"(?:least|at most) [0-9]+|B\S*/S\S*")
+HEADLINE = re.compile(r"(?:least|at most|most|at least) [0-9]+|B\S*/S\S*")
 
 
 class BadInput(Exception):
@@ -41,7 +41,7 @@ class BadInput(Exception):
 
 
 def cut_headline(text):
-    """Returns the line above a pattern that `least` or `open` found, or none, in a list, and what stands below."""
+    """Returns the line above a pattern that `least`, `most` or `open` found, or none, in a list, and what stands below."""
     line, _, below = text.partition("\n")
     return ([line], below) if HEADLINE.fullmatch(line) else ([], text)
 
@@ -285,7 +285,7 @@ def main():
             print(texts[0].strip())
             return ANSWERS[texts[0].strip()] if words.status else 0
         headlines, texts = zip(*map(cut_headline, texts))
-        is_open = any(line.startswith("at most") for headline in headlines for line in headline)
+        is_open = any(line.startswith(("at most", "at least")) for headline in headlines for line in headline)
         status = 0 if not words.status else UNDECIDED if is_open else PATTERN
         files = [read_generations(text) for text in texts]
         if words.about:

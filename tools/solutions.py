@@ -1,9 +1,9 @@
 #!/usr/bin/env python3
 """Says whether a small search file has a solution, by trying all histories.
 
-    solutions.py SEARCH [--rule=B../S..] [--edge=..] [--symmetry=..] [--period=P,DX,DY] [--live=..] [--differ=A,B] [--least]
+    solutions.py SEARCH [--rule=B../S..] [--edge=..] [--symmetry=..] [--period=P,DX,DY] [--live=..] [--differ=A,B] [--least|--most]
 
-Prints `yes` or `no`; with `--least` the fewest live cells that a solution has in generation 0, or `no`. It tries every first generation
+Prints `yes` or `no`; with `--least` the fewest live cells that a solution has in generation 0, with `--most` the most, or `no`. It tries every first generation
 and every value of a marked cell; the other cells follow by the rule.
 """
 import itertools
@@ -108,12 +108,13 @@ class Problem:
 
 def main():
     name, *options = ending.words(__doc__, "SEARCH", "OPTION..")
-    wants_least = "--least" in options
+    ends = [option for option in options if option in ("--least", "--most")]
     with open(name, encoding="utf-8") as file:
-        problem = Problem(file.read(), [option for option in options if option != "--least"])
+        problem = Problem(file.read(), [option for option in options if option not in ends])
     solutions = filter(problem.is_solution, problem.histories([]))
-    if wants_least:
-        print(min((sum(map(sum, history[0])) for history in solutions), default="no"))
+    if ends:
+        end = min if ends == ["--least"] else max
+        print(end((sum(map(sum, history[0])) for history in solutions), default="no"))
     else:
         print("yes" if any(True for _ in solutions) else "no")
 

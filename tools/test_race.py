@@ -69,7 +69,7 @@ class Races(unittest.TestCase):
     def test_words_that_are_no_race(self):
         for words in [("judge", "q.lls", "p"), ("search", "q.lls", "p", "--manner", "steady"), ("sat", "q.lls", "p", "--manner=both")]:
             done, _ = self.race("", *words)
-            self.assertEqual(done, (2, "", "race.py: a race is of search, sat, least, open, whose words say no --manner\n"))
+            self.assertEqual(done, (2, "", "race.py: a race is of search, sat, least, most, open, whose words say no --manner\n"))
 
 
 if __name__ == "__main__":

@@ -206,6 +206,19 @@ cmp -s "$1" cnf && cmp -s "$2" proof && echo "9 0 3 0" > "$3" && echo "kept 1 of
         self.assertEqual(self.tightened('echo "SAT -1 -2 0" > "$3"; exit 10')[:2], (10, "least 0\n"))
         self.assertEqual(self.tightened("exit 0"), (1, "", "tighten.py: the solver ended with 0\n"))
 
+    def test_more_and_more_live_cells(self):
+        script = 'case $(grep -c . calls) in 1) echo "SAT -1 2 0" > "$3"; exit 10 ;; esac\nexit 20'
+        self.write("q.lls", "* *\n")
+        self.write("calls", "")
+        self.write("bin/minisat", f"#!/bin/sh\n{script}\n", True)
+        words = ("--most", "--lls", "./lls", f"{self.folder}/bin/minisat", "q.lls")
+        said = ran("tighten.py", *words, folder=self.folder, path=f"{self.folder}/bin")
+        self.assertEqual((said[0], said[1], self.calls()), (10, "most 1\n", ["cnf", "cnf --live 0:2-"]))
+        # A pattern of live cells alone ends it.
+        self.write("bin/minisat", '#!/bin/sh\necho "SAT 1 2 0" > "$3"; exit 10\n', True)
+        said = ran("tighten.py", *words, folder=self.folder, path=f"{self.folder}/bin")
+        self.assertEqual(said[:2], (10, "most 2\n"))
+
     def test_no_answer(self):
         for script in ("echo 's UNKNOWN'; exit 0", "exit 30"):
             status, out, said = self.solved("cadical", self.CADICAL + script)

@@ -94,7 +94,7 @@ class Show(unittest.TestCase):
             self.assertEqual(self.shown(answer), answer)
 
     def test_lines_above_a_pattern_are_handed_on(self):
-        for line in ("least 1", "at most 12", "B2-a3/S", "B/S"):
+        for line in ("least 1", "at most 12", "most 1", "at least 12", "B2-a3/S", "B/S"):
             self.assertEqual(self.shown(f"{line}\n1\n"), f"{line}\n0\n┌─┐\n│▀│\n└─┘\n")
         self.assertEqual(self.shown("least 1\n1\n", "--about"), "least 1\ngeneration 0: 1 live in a box of 1 by 1 at column 0, row 0\n")
 
@@ -141,7 +141,7 @@ class Show(unittest.TestCase):
             self.assertEqual(ran("tools/show.py", "examples/symmetries.lls", "--svg", "-")[1], file.read())
 
     def test_status_of_the_search_in_front(self):
-        rows = [("no pattern\n", 20), ("undecided\n", 30), ("1\n", 10), ("least 1\n1\n", 10), ("at most 1\n1\n", 30), ("B3/S23\n1\n", 10)]
+        rows = [("no pattern\n", 20), ("undecided\n", 30), ("1\n", 10), ("least 1\n1\n", 10), ("at most 1\n1\n", 30), ("most 1\n1\n", 10), ("at least 0\n0\n", 30), ("B3/S23\n1\n", 10)]
         for text, status in rows:
             self.assertEqual(ran("tools/show.py", "--status", text=text)[0], status, text)
             self.assertEqual(ran("tools/show.py", text=text)[0], 0, text)
@@ -413,7 +413,7 @@ class Building(unittest.TestCase):
     def test_trimmed_refusal(self):
         path = self.write("crates/lls/out/lls", "#!/bin/bash\nexit 3\n")
         os.utime(path, (2**31, 2**31))
-        self.assertEqual(self.lls("exit 9", "--trimmed", "judge", "a", "b"), (2, "", "lls: --trimmed goes before search, sat or least\n"))
+        self.assertEqual(self.lls("exit 9", "--trimmed", "judge", "a", "b"), (2, "", "lls: --trimmed goes before search, sat, least or most\n"))
 
     def test_posed(self):
         path = self.write("crates/lls/out/lls", "#!/bin/bash\nprintf '%s\\n' \"$@\"\nexit 3\n")

@@ -33,18 +33,18 @@ exit "${ENDS-0}"
 WORDS = [
     ("serch q.lls p", "UnknownCommand", "no command 'serch'; is it search?"),
     ("SAT f p", "UnknownCommand", "no command 'SAT'; is it sat?"),
-    ("fly", "UnknownCommand", "no command 'fly'; one of check search judge cnf sat lrat rule make least open opencheck trim"),
-    ("q.lls p", "UnknownCommand", "'q.lls' stands where the command has to, which is one of check search judge cnf sat lrat rule make least open opencheck trim"),
-    ("--edge=open check q.lls p", "UnknownCommand", "'--edge=open' stands where the command has to, which is one of check search judge cnf sat lrat rule make least open opencheck trim"),
+    ("fly", "UnknownCommand", "no command 'fly'; one of check search judge cnf sat lrat rule make least most open opencheck trim"),
+    ("q.lls p", "UnknownCommand", "'q.lls' stands where the command has to, which is one of check search judge cnf sat lrat rule make least most open opencheck trim"),
+    ("--edge=open check q.lls p", "UnknownCommand", "'--edge=open' stands where the command has to, which is one of check search judge cnf sat lrat rule make least most open opencheck trim"),
     ("check q.lls ''", "BadWord 3", "word 3 is empty"),
     ("check q.lls p -rule B3/S23", "BadWord 4", "'-rule' has one dash, and options have two; is it --rule?"),
     ("lrat f -", "BadWord 3", "'-' is no option; a file whose name begins with - is written ./-name"),
     ("lrat f -p", "BadWord 3", "'-p' is no option; a file whose name begins with - is written ./-p"),
     ("search q.lls p --simmetry C2", "UnknownOption 4", "no option '--simmetry'; is it --symmetry?"),
     ("cnf q.lls --fast=1", "UnknownOption 3", "no option '--fast'; cnf takes --rule --edge --symmetry --period --live --differ --formula"),
-    ("check q.lls p --budget 9", "UnknownOption 4", "check doesn't take --budget, which is for search, sat, least, open"),
+    ("check q.lls p --budget 9", "UnknownOption 4", "check doesn't take --budget, which is for search, sat, least, most, open"),
     ("least q.lls p --crew 2", "UnknownOption 4", "least doesn't take --crew, which is for search"),
-    ("sat f p --edge open", "UnknownOption 4", "sat doesn't take --edge, which is for check, search, judge, cnf, least, open, opencheck"),
+    ("sat f p --edge open", "UnknownOption 4", "sat doesn't take --edge, which is for check, search, judge, cnf, least, most, open, opencheck"),
     ("rule B3/S23 --fast", "UnknownOption 3", "rule takes no options"),
     ("search q.lls p --quiet", "UnknownOption 4", "--quiet is the wrapper's, and stands before the command"),
     ("cnf --rule B3/S23 q.lls --rule=B3/S2", "RepeatedOption 5", "--rule stands twice, as word 2 and as word 5"),
@@ -92,7 +92,7 @@ WORDS = [
     ("least q.lls q.lls", "SameName 3", "'q.lls' is the file that least reads: the proof needs another name"),
     ("trim f p p", "SameName 4", "'p' is the file that trim reads: the trimmed proof needs another name"),
     ("trim f p", "Operands 3 2", "trim takes FORMULA PROOF OUT, and the words have 'f', 'p'"),
-    ("open q.lls p --rule B3/S2", "UnknownOption 4", "open doesn't take --rule, which is for check, search, judge, cnf, least"),
+    ("open q.lls p --rule B3/S2", "UnknownOption 4", "open doesn't take --rule, which is for check, search, judge, cnf, least, most"),
     ("least q.lls p --low B3/S2", "UnknownOption 4", "least doesn't take --low, which is for open, opencheck"),
     ("open q.lls p --low= --high B3/S2", "MissingValue 4", "'--low=' has no value: a rule is written as B3/S23, 23/3 or B2-a/S12"),
     ("open q.lls p --high B2-/S", "NoLetters 4 3", "the rule 'B2-/S', column 3: letters have to follow the dash\n    B2-/S\n      ^"),
@@ -357,7 +357,7 @@ class Explanations(Case):
         self.assertEqual(self.lls("--quiet", *given, PATH=search_path), (2, b"", before + said))
 
     def test_no_words(self):
-        why = "the first word is the command, one of check search judge cnf sat lrat rule make least open opencheck trim; ./lls --help says what each does"
+        why = "the first word is the command, one of check search judge cnf sat lrat rule make least most open opencheck trim; ./lls --help says what each does"
         self.assertEqual(explain.explanation(2, "lls: words: NoCommand", []), why)
 
     def test_usage(self):
@@ -382,7 +382,7 @@ class Explanations(Case):
     def test_words_that_are_no_text(self):
         said = "lls: words: UnknownCommand"
         found = self.lls(b"\xff\x1b[2J", SAYS=said, ENDS="2")
-        self.assertEqual(found[2], f"{said}\nlls: no command '??[2J'; one of check search judge cnf sat lrat rule make least open opencheck trim\n")
+        self.assertEqual(found[2], f"{said}\nlls: no command '??[2J'; one of check search judge cnf sat lrat rule make least most open opencheck trim\n")
 
     def test_nothing_is_said_where_there_is_nothing_to_say(self):
         for said, status in [

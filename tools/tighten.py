@@ -1,12 +1,12 @@
 #!/usr/bin/env python3
-"""Finds the fewest live cells of a search file's patterns by another solver, and says how long that took.
+"""Finds the fewest or the most live cells of a search file's patterns by another solver, and says how long that took.
 
-    tighten.py [--lls PROGRAM] SOLVER SEARCH [WORD ..]
+    tighten.py [--most] [--lls PROGRAM] SOLVER SEARCH [WORD ..]
 
-It does what `lls least` does: it asks for a pattern, then for one with fewer live cells in generation 0, and so on until there is none.
+It does what `lls least` does, or `lls most`: it asks for a pattern, then for one with fewer live cells in generation 0, or with more, and so on until there is none.
 Each time `lls cnf` makes the formula of SEARCH, of the WORDs, which are its options (`--period 3`), and of the bound, and SOLVER (cadical,
-minisat or picosat) solves it anew. Prints `least N` with status 10, or `no pattern` with status 20, and on the standard error the processor
-seconds of all solving and of all making of formulas. It shows nothing: its proofs are thrown away. It is there to be measured beside `lls least`.
+minisat or picosat) solves it anew. Prints `least N` or `most N` with status 10, or `no pattern` with status 20, and on the standard error the processor
+seconds of all solving and of all making of formulas. It shows nothing: its proofs are thrown away. It is there to be measured beside the program.
 """
 import itertools
 import os
@@ -19,9 +19,9 @@ from spread import OPTIONS, Stop, options_in
 from with_solver import LLS, SOLVERS, NoAnswer, Solver, run
 
 
-def bounded(words, most):
+def bounded(words, ends):
     """The words with a bound on generation 0 behind those that they have."""
-    bound = f"0:-{most}"
+    bound = f"0:{ends}"
     if "--live" in words:
         at = words.index("--live") + 1
         return [*words[:at], f"{words[at]},{bound}", *words[at + 1 :]]
@@ -47,6 +47,12 @@ class Looks:
         self.solver, self.solve = Solver(solver, None), SOLVERS[os.path.basename(solver)]
         self.making = self.solving = 0
 
+    def cells(self):
+        """How many cells a generation has."""
+        with open(self.search, encoding="utf-8") as file:
+            rows = [line.split() for line in file if not line.startswith("#")]
+        return sum(map(len, itertools.takewhile(bool, rows)))
+
     def look(self, words):
         """Returns how many live cells of generation 0 the solver's pattern has, or None where it finds none."""
         formula, begin = f"{self.folder}/cnf", spent()
@@ -67,12 +73,15 @@ class Looks:
             return live_cells(pattern_of(file.read(), model))
 
 
-def fewest(looks, words):
-    """Returns the fewest live cells, or None where there is no pattern."""
+def utmost(looks, words, wants_most):
+    """Returns the fewest live cells, or the most, or None where there is no pattern."""
     found, count = None, looks.look(words)
     while count is not None:
         found = count
-        count = looks.look(bounded(words, count - 1)) if count else None
+        if wants_most:
+            count = looks.look(bounded(words, f"{count + 1}-")) if count < looks.cells() else None
+        else:
+            count = looks.look(bounded(words, f"-{count - 1}")) if count else None
     return found
 
 
@@ -86,6 +95,9 @@ def said_by(search):
 
 
 def main():
+    wants_most = sys.argv[1:2] == ["--most"]
+    if wants_most:
+        del sys.argv[1]
     program = ending.option("--lls", LLS)
     words = sys.argv[1:]
     if len(words) < 2 or os.path.basename(words[0]) not in SOLVERS:
@@ -96,11 +108,11 @@ def main():
     with tempfile.TemporaryDirectory() as folder:
         looks = Looks(program, solver, search, folder)
         try:
-            found = fewest(looks, options)
+            found = utmost(looks, options, wants_most)
         except (NoAnswer, BadInput) as fault:
             sys.exit(f"tighten.py: {fault}")
     print(f"solving {looks.solving:.2f} s, formulas {looks.making:.2f} s", file=sys.stderr)
-    print("no pattern" if found is None else f"least {found}")
+    print("no pattern" if found is None else f"{'most' if wants_most else 'least'} {found}")
     sys.exit(20 if found is None else 10)
 
 

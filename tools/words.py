@@ -34,12 +34,13 @@ COMMANDS = {
     "rule": (["text"], []),
     "make": (["seed", "size", "search", "proof"], []),
     "least": (["search", "proof"], FORMED + EFFORT + ["as"]),
+    "most": (["search", "proof"], FORMED + EFFORT + ["as"]),
     "open": (["search", "proof"], OPEN + EFFORT + ["as"]),
     "opencheck": (["search", "proof"], OPEN),
     "trim": (["formula", "proof", "output"], []),
 }
 # the operands that are written, none of which may have the name of a file before it
-OUTPUTS = {"search": ["proof"], "sat": ["proof"], "make": ["search", "proof"], "least": ["proof"], "open": ["proof"], "trim": ["output"]}
+OUTPUTS = {"search": ["proof"], "sat": ["proof"], "make": ["search", "proof"], "least": ["proof"], "most": ["proof"], "open": ["proof"], "trim": ["output"]}
 # the options whose values are rule texts
 RULES = ("rule", "low", "high")
 LIFE = "B3/S23"

@@ -10,7 +10,7 @@ use Rattle.lls_outside.specs.Moment.{files_at}
 use Rattle.lls_answers.proofs.Outputs.{IsLawful, WritesAtMost, none_ahead}
 use Rattle.lls_answers.proofs.Checks.{check_lawful, judge_lawful}
 use Rattle.lls_answers.proofs.Searches.{search_lawful}
-use Rattle.lls_answers.proofs.FewestAnswers.{least_lawful}
+use Rattle.lls_answers.proofs.ExtremalAnswers.{extremal_lawful}
 use Rattle.lls_answers.proofs.Makings.{make_lawful}
 use Rattle.lls_answers.proofs.Trims.{trim_lawful}
 
@@ -29,5 +29,5 @@ lawful (questions.Judge problem history) = judge_lawful problem history
 lawful (questions.Encode subject) = print_lawful _ (inl refl) refl
 lawful (questions.Print rule) = print_lawful _ (inl refl) refl
 lawful (questions.Make seed size name effort) = make_lawful seed size name effort
-lawful (questions.Least asked effort rle) = least_lawful asked effort rle
+lawful (questions.Extremal extreme asked effort rle) = extremal_lawful extreme asked effort rle
 lawful (questions.Trim formula proof output) = trim_lawful formula proof output

@@ -2,7 +2,7 @@ pub mod Outputs
 pub mod Standing
 pub mod Checks
 pub mod Searches
-pub mod FewestAnswers
+pub mod ExtremalAnswers
 pub mod Makings
 pub mod Trims
 pub mod Laws

@@ -13,7 +13,7 @@ use Rattle.lls_answers.specs.Subject.{subject_formula}
 use Rattle.lls_answers.specs.Meaning.{Meaning, answered_by, said, says, shown}
 use Rattle.lls_answers.specs.Checks.{check_meaning, judge_meaning}
 use Rattle.lls_answers.specs.Finding.{search_meaning}
-use Rattle.lls_answers.specs.Fewest.{least_meaning}
+use Rattle.lls_answers.specs.Extremal.{extremal_meaning}
 use Rattle.lls_answers.specs.Making.{make_meaning}
 use Rattle.lls_answers.specs.Trimming.{trim_meaning}
 
@@ -28,7 +28,7 @@ meaning_of (questions.Judge problem history) = judge_meaning problem history
 meaning_of (questions.Encode subject) = print_meaning (shown statuses.Done (dimacs_text (subject_formula subject)))
 meaning_of (questions.Print rule) = print_meaning (said statuses.Done (rule_text rule))
 meaning_of (questions.Make seed size name effort) = make_meaning seed size name effort
-meaning_of (questions.Least asked effort rle) = least_meaning asked effort rle
+meaning_of (questions.Extremal extreme asked effort rle) = extremal_meaning extreme asked effort rle
 meaning_of (questions.Trim formula proof output) = trim_meaning formula proof output
 
 -- what is so where the answer is yes, no, that there is something, that there is nothing, and that a budget was spent

@@ -8,7 +8,7 @@ pub mod Evidence
 pub mod ModelText
 pub mod PatternText
 pub mod Making
-pub mod Fewest
+pub mod Extremal
 pub mod Opened
 pub mod Trimming
 pub mod Meaning

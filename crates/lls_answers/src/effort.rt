@@ -30,7 +30,7 @@ impl Effort {
 /// Several searchers for one search, which take turns.
 #[derive(Clone, Copy, Debug, PartialEq, Eq)]
 pub struct CrewPlan {
-    /// How many there are.
+    /// How many there are: from 1 to `lls_crew::MOST_SEARCHERS`.
     pub searchers: u32,
     /// The number from which is drawn whose turn it is.
     pub seed: u64,

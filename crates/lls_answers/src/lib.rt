@@ -10,7 +10,7 @@ mod bytes;
 pub mod check;
 mod effort;
 mod evidence;
-pub mod fewest;
+pub mod extremal;
 pub mod judge;
 pub mod making;
 mod manners;

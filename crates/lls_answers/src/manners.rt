@@ -5,9 +5,10 @@ ghost use Rattle.lls_answers.specs.Manners.{AreSteady, IsLong};
 use lls_problem::{Demands, Edge, Period};
 use lls_solver::{Manner, Manners};
 
-// The least period with which the steady manner needs fewer clauses, whether the pattern moves or not; and where it stands still.
+// The least period with which the steady manner needs fewer clauses, whether the pattern moves or not.
 const LONG: u32 = 4;
 
+// The least one where it stands still.
 const LONG_IN_PLACE: u32 = 3;
 
 // Whether a period is long enough for the steady manner.

@@ -144,10 +144,7 @@ impl Subject {
     {
         match &self.about {
             About::Problem(asked) => manners_of(said, asked.problem.demands()),
-            About::Rules(_) | About::Formula => match said {
-                Some(manners) => manners,
-                None => Manners::Alone(Manner::Restless),
-            },
+            About::Rules(_) | About::Formula => said.unwrap_or(Manners::Alone(Manner::Restless)),
         }
     }
 

@@ -21,7 +21,7 @@ use Rattle.lls_cli.specs.declared.task.Task.TheVariants as tasks
 abbrev pub IsApart : Task → Type 0
 IsApart (tasks.Search source effort further) = source_file source ≢ effort.proof
 IsApart (tasks.Make seed size file effort) = file ≢ effort.proof
-IsApart (tasks.Least source form effort further) = source.file ≢ effort.proof
+IsApart (tasks.Extremal extreme source form effort further) = source.file ≢ effort.proof
 IsApart task = Unit {0}
 
 abbrev pub AreApart : Result Task WordsError → Type 0
@@ -77,6 +77,10 @@ apart_with commands.Least [] givens = tt
 apart_with commands.Least (a ∷ []) givens = tt
 apart_with commands.Least (a ∷ b ∷ []) givens = through (settled defaults givens) _ (λ s. different a b _ (λ differ. differ))
 apart_with commands.Least (a ∷ b ∷ more ∷ rest) givens = tt
+apart_with commands.Most [] givens = tt
+apart_with commands.Most (a ∷ []) givens = tt
+apart_with commands.Most (a ∷ b ∷ []) givens = through (settled defaults givens) _ (λ s. different a b _ (λ differ. differ))
+apart_with commands.Most (a ∷ b ∷ more ∷ rest) givens = tt
 apart_with commands.Open [] givens = tt
 apart_with commands.Open (a ∷ []) givens = tt
 apart_with commands.Open (a ∷ b ∷ []) givens =

@@ -1,20 +1,20 @@
 -- What a search found to be absent is checked again with the same words.
-use Rattle.std.proofs.Common.{◌≡◌, ◌≢◌, ◌≤◌, ℕ, suc, Bool, true, false, List, [], ◌∷◌, Option, None, Some, Result, Ok, Err, refl, sym, ap, subst, ◌∙◌, length, arith}
+use Rattle.std.proofs.Common.{◌≡◌, ◌≢◌, ◌≤◌, ℕ, Bool, true, false, List, [], ◌∷◌, Option, None, Some, Result, Ok, Err, refl, sym, ap, subst, ◌∙◌, length}
 use Rattle.std.specs.Prelude.{if◌then◌else◌}
 use Rattle.std.proofs.lemmas.Bool.{le-ltb}
 use Rattle.std.proofs.lemmas.List.Elements.{All-nil, All-cons}
 use Rattle.std.specs.FinMap as map
 use Rattle.lls_base.specs.Results.{and_then}
 use Rattle.lls_base.specs.Shelf.{Files}
-use Rattle.lls_grid.specs.History.{History}
 use Rattle.lls_search_file.specs.Posed.{PosedFile}
 use Rattle.lls_problem.specs.declared.demands.Demands.{Demands}
 use Rattle.lls_problem.specs.declared.demands.DemandError.{DemandError}
 use Rattle.lls_problem.specs.declared.form.Form.{Form}
 use Rattle.lls_problem.specs.Problem.{PosedProblem, problem_made}
-use Rattle.lls_problem.specs.Solution.{IsAbsent}
-use Rattle.lls_least.specs.Fewer.{fewer, live_cells}
-use Rattle.lls_least.proofs.Solutions.{solution-fewer, live_cells-fewer}
+use Rattle.lls_problem.specs.declared.bounds.Bound.{Bound}
+use Rattle.lls_least.specs.declared.extreme.Extreme.{Extreme}
+use Rattle.lls_least.specs.Bounded.{bounded}
+use Rattle.lls_least.proofs.Solutions.{absent_beyond}
 use Rattle.lls_words.specs.declared.error.WordsError.{WordsError}
 use Rattle.lls_answers.specs.declared.effort.Effort.{Effort}
 use Rattle.lls_answers.specs.declared.effort.Further.{Further}
@@ -27,15 +27,14 @@ use Rattle.lls_answers.specs.Subject.{Subject, asked_with}
 use Rattle.lls_answers.specs.Subject as subjects
 use Rattle.lls_answers.specs.Questions.{Question}
 use Rattle.lls_answers.specs.Questions as questions
-use Rattle.lls_answers.specs.declared.asked.Asked.{Asked}
 use Rattle.lls_answers.specs.declared.status.Status.{Status}
 use Rattle.lls_answers.specs.declared.status.Status.TheVariants as statuses
 use Rattle.lls_cli.specs.declared.fault.Fault.{Fault}
 use Rattle.lls_cli.specs.Question.{demanded, input_from, input_of, problem_in, roomy_problem_in, with_room, proof_limit, search_limit, source_file, source_limit, subject_from}
-use Rattle.lls_answers.specs.Fewest.{asked_fewer, IsOfFewest}
+use Rattle.lls_answers.specs.Extremal.{asked_bounded}
 use Rattle.lls_answers.specs.Meaning.{certificate_at, log_at}
 use Rattle.lls_answers.specs.Answer.{NoneHolds, YesHolds}
-use Rattle.lls_cli.specs.Claims.{OfQuestion, LeavesCertificate, LeavesProof, ChangesOnly, IsPublished, Publishes, PublishesFewest, demands_fewer, source_fewer, outputs_of_words}
+use Rattle.lls_cli.specs.Claims.{OfQuestion, LeavesCertificate, LeavesProof, ChangesOnly, IsPublished, Publishes, PublishesExtreme, demands_bounded, source_bounded, outputs_of_words}
 use Rattle.lls_cli.proofs.Apart.{AreApart}
 use Rattle.lls_cli.proofs.Made.{made_is}
 
@@ -111,16 +110,16 @@ search_publishes source effort further before after apart nowhere leaves only =
     let none = subst NoneHolds (asked_again nowhere.0 leaves.0 _ nowhere.1 leaves.1 ∙ is) nowhere.2 in
     (subject, published source effort.proof subject before after file.0 apart only read.first_is file.1 (file.2.accepted, none))
 
-least_publishes : (source : ProblemSource) (form : Form) (effort : Effort) (further : Further) (before after : Files) → source.file ≢ effort.proof
-    → OfQuestion NoneHolds (Ok (tasks.Least source form effort further)) (Some before)
-    → OfQuestion (LeavesProof (Some after)) (Ok (tasks.Least source form effort further)) (Some before)
+extremal_publishes : (extreme : Extreme) (source : ProblemSource) (form : Form) (effort : Effort) (further : Further) (before after : Files) → source.file ≢ effort.proof
+    → OfQuestion NoneHolds (Ok (tasks.Extremal extreme source form effort further)) (Some before)
+    → OfQuestion (LeavesProof (Some after)) (Ok (tasks.Extremal extreme source form effort further)) (Some before)
     → ChangesOnly (effort.proof ∷ []) (Some before) (Some after)
-    → Publishes (Ok (tasks.Least source form effort further)) (Some before) (Some after)
-least_publishes source form effort further before after apart nowhere leaves only =
+    → Publishes (Ok (tasks.Extremal extreme source form effort further)) (Some before) (Some after)
+extremal_publishes extreme source form effort further before after apart nowhere leaves only =
     let input = input_of before source.file search_limit in
-    let read = both (and_then input (roomy_problem_in source.rule source.demands)) (λ problem. Ok (questions.Least (asked_with form problem) effort further.rle)) leaves.0 leaves.1 in
+    let read = both (and_then input (roomy_problem_in source.rule source.demands)) (λ problem. Ok (questions.Extremal extreme (asked_with form problem) effort further.rle)) leaves.0 leaves.1 in
     let about = asked_with form read.first in
-    let is : leaves.0 ≡ questions.Least about effort further.rle = let value = read.value_is in cc in
+    let is : leaves.0 ≡ questions.Extremal extreme about effort further.rle = let value = read.value_is in cc in
     let file = subst (LeavesProof (Some after)) is leaves.2 in
     let none = subst NoneHolds (asked_again nowhere.0 leaves.0 _ nowhere.1 leaves.1 ∙ is) nowhere.2 in
     let made = problem_subject source form input read.first (roomy-problem input source.rule source.demands read.first read.first_is) in
@@ -132,10 +131,10 @@ publishes (Ok (tasks.Search source effort further)) (Some before) (Some after) s
     search_publishes source effort further before after apart nowhere leaves (subst (λ s. ChangesOnly (log_at s effort.proof) (Some before) (Some after)) is only)
 publishes (Ok (tasks.Search source effort further)) (Some before) None status is apart nowhere leaves only = tt
 publishes (Ok (tasks.Search source effort further)) None after status is apart nowhere leaves only = tt
-publishes (Ok (tasks.Least source form effort further)) (Some before) (Some after) status is apart nowhere leaves only =
-    least_publishes source form effort further before after apart nowhere leaves (subst (λ s. ChangesOnly (certificate_at s effort.proof) (Some before) (Some after)) is only)
-publishes (Ok (tasks.Least source form effort further)) (Some before) None status is apart nowhere leaves only = tt
-publishes (Ok (tasks.Least source form effort further)) None after status is apart nowhere leaves only = tt
+publishes (Ok (tasks.Extremal extreme source form effort further)) (Some before) (Some after) status is apart nowhere leaves only =
+    extremal_publishes extreme source form effort further before after apart nowhere leaves (subst (λ s. ChangesOnly (certificate_at s effort.proof) (Some before) (Some after)) is only)
+publishes (Ok (tasks.Extremal extreme source form effort further)) (Some before) None status is apart nowhere leaves only = tt
+publishes (Ok (tasks.Extremal extreme source form effort further)) None after status is apart nowhere leaves only = tt
 publishes (Ok (tasks.Check source proof)) before after status is apart nowhere leaves only = tt
 publishes (Ok (tasks.Judge source pattern rle)) before after status is apart nowhere leaves only = tt
 publishes (Ok (tasks.Encode source)) before after status is apart nowhere leaves only = tt
@@ -148,62 +147,56 @@ demanded-ok : (made : Result PosedProblem DemandError) (problem : PosedProblem) 
 demanded-ok (Ok p) problem is = cc
 demanded-ok (Err error) problem is = absurd cc
 
--- with a bound more behind the others the file poses the problem with fewer live cells
-bounded_part : (part : Result PosedFile Fault) (rule : List Bool) (demands : Demands) (problem : PosedProblem) (n : ℕ) → and_then part (λ posed. demanded (problem_made posed rule demands)) ≡ Ok problem
-    → problem_made problem.posed problem.rule (fewer problem n).demands ≡ Ok (fewer problem n) → and_then part (λ posed. demanded (problem_made posed rule (demands_fewer demands n))) ≡ Ok (fewer problem n)
-bounded_part (Ok posed) rule demands problem n is above =
+-- with a bound more behind the others the file poses the problem with it
+bounded_part : (part : Result PosedFile Fault) (rule : List Bool) (demands : Demands) (problem : PosedProblem) (bound : Bound) → and_then part (λ posed. demanded (problem_made posed rule demands)) ≡ Ok problem
+    → problem_made problem.posed problem.rule (bounded problem bound).demands ≡ Ok (bounded problem bound)
+    → and_then part (λ posed. demanded (problem_made posed rule (demands_bounded demands bound))) ≡ Ok (bounded problem bound)
+bounded_part (Ok posed) rule demands problem bound is asks =
     let same = made_is posed rule demands problem (demanded-ok (problem_made posed rule demands) problem is) in
-    let P : PosedProblem → Type 0 = λ p. problem_made p.posed p.rule (fewer p n).demands ≡ Ok (fewer p n) in
-    ap demanded (subst P same above) ∙ ap (λ p. Ok (fewer p n)) (sym same)
-bounded_part (Err fault) rule demands problem n is above = absurd cc
+    let P : PosedProblem → Type 0 = λ p. problem_made p.posed p.rule (bounded p bound).demands ≡ Ok (bounded p bound) in
+    ap demanded (subst P same asks) ∙ ap (λ p. Ok (bounded p bound)) (sym same)
+bounded_part (Err fault) rule demands problem bound is asks = absurd cc
 
-bounded_problem : (input : Result (List ℕ) Fault) (rule : List Bool) (demands : Demands) (problem : PosedProblem) (n : ℕ) → and_then input (problem_in rule demands) ≡ Ok problem
-    → problem_made problem.posed problem.rule (fewer problem n).demands ≡ Ok (fewer problem n) → and_then input (problem_in rule (demands_fewer demands n)) ≡ Ok (fewer problem n)
-bounded_problem (Ok bytes) rule demands problem n is above = bounded_part _ rule demands problem n is above
-bounded_problem (Err fault) rule demands problem n is above = absurd cc
+bounded_problem : (input : Result (List ℕ) Fault) (rule : List Bool) (demands : Demands) (problem : PosedProblem) (bound : Bound) → and_then input (problem_in rule demands) ≡ Ok problem
+    → problem_made problem.posed problem.rule (bounded problem bound).demands ≡ Ok (bounded problem bound) → and_then input (problem_in rule (demands_bounded demands bound)) ≡ Ok (bounded problem bound)
+bounded_problem (Ok bytes) rule demands problem bound is asks = bounded_part _ rule demands problem bound is asks
+bounded_problem (Err fault) rule demands problem bound is asks = absurd cc
 
--- where a solution has the fewest live cells, none has fewer
-none_below : (asked : Asked) (history : History) (n : ℕ) → IsOfFewest asked history → live_cells history ≡ suc n → IsAbsent (fewer asked.problem n)
-none_below asked history n is live other solution =
-    let more = is.least other (solution-fewer asked.problem n other solution) in
-    let few = live_cells-fewer asked.problem n other solution in
-    omega (arith, more, few, live)
-
-fewest_publishes : (source : ProblemSource) (form : Form) (effort : Effort) (further : Further) (before after : Files) → source.file ≢ effort.proof
-    → OfQuestion (LeavesCertificate (Some after)) (Ok (tasks.Least source form effort further)) (Some before)
+extreme_publishes : (extreme : Extreme) (source : ProblemSource) (form : Form) (effort : Effort) (further : Further) (before after : Files) → source.file ≢ effort.proof
+    → OfQuestion (LeavesCertificate (Some after)) (Ok (tasks.Extremal extreme source form effort further)) (Some before)
     → ChangesOnly (effort.proof ∷ []) (Some before) (Some after)
-    → PublishesFewest (Ok (tasks.Least source form effort further)) (Some before) (Some after)
-fewest_publishes source form effort further before after apart leaves only =
+    → PublishesExtreme (Ok (tasks.Extremal extreme source form effort further)) (Some before) (Some after)
+extreme_publishes extreme source form effort further before after apart leaves only =
     let input = input_of before source.file search_limit in
-    let read = both (and_then input (roomy_problem_in source.rule source.demands)) (λ problem. Ok (questions.Least (asked_with form problem) effort further.rle)) leaves.0 leaves.1 in
+    let read = both (and_then input (roomy_problem_in source.rule source.demands)) (λ problem. Ok (questions.Extremal extreme (asked_with form problem) effort further.rle)) leaves.0 leaves.1 in
     let about = asked_with form read.first in
-    let is : leaves.0 ≡ questions.Least about effort further.rle = let value = read.value_is in cc in
+    let is : leaves.0 ≡ questions.Extremal extreme about effort further.rle = let value = read.value_is in cc in
     let certified = subst (LeavesCertificate (Some after)) is leaves.2 in
     let made = roomy-problem input source.rule source.demands read.first read.first_is in (
       about,
       (
         certified.0,
-        certified.1.fewest,
-        λ n live.
-            let own = certified.1.proof n live in
-            let again = bounded_problem input source.rule source.demands read.first n made own.0.posed in
-            published (sources.Problem (source_fewer source n) form) effort.proof (subjects.Problem (asked_fewer about n)) before after own.1.0 apart only
-            (problem_subject (source_fewer source n) form input (fewer read.first n) again) own.1.1
-            (own.1.2.accepted, none_below about certified.0 n certified.1.fewest live),
+        certified.1.utmost,
+        λ bound asks.
+            let own = certified.1.proof bound asks in
+            let again = bounded_problem input source.rule source.demands read.first bound made own.0.posed in
+            published (sources.Problem (source_bounded source bound) form) effort.proof (subjects.Problem (asked_bounded about bound)) before after own.1.0 apart only
+            (problem_subject (source_bounded source bound) form input (bounded read.first bound) again) own.1.1
+            (own.1.2.accepted, absent_beyond extreme about.problem certified.0 bound asks certified.1.utmost.utmost),
       ),
     )
 
-pub publishes_fewest : (task : Result Task WordsError) (before after : Option Files) (status : Status) → status ≡ statuses.Pattern → AreApart task → OfQuestion (LeavesCertificate after) task before
-    → ChangesOnly (outputs_of_words task status) before after → PublishesFewest task before after
-publishes_fewest (Ok (tasks.Least source form effort further)) (Some before) (Some after) status is apart leaves only =
-    fewest_publishes source form effort further before after apart leaves (subst (λ s. ChangesOnly (certificate_at s effort.proof) (Some before) (Some after)) is only)
-publishes_fewest (Ok (tasks.Least source form effort further)) (Some before) None status is apart leaves only = tt
-publishes_fewest (Ok (tasks.Least source form effort further)) None after status is apart leaves only = tt
-publishes_fewest (Ok (tasks.Search source effort further)) before after status is apart leaves only = tt
-publishes_fewest (Ok (tasks.Check source proof)) before after status is apart leaves only = tt
-publishes_fewest (Ok (tasks.Judge source pattern rle)) before after status is apart leaves only = tt
-publishes_fewest (Ok (tasks.Encode source)) before after status is apart leaves only = tt
-publishes_fewest (Ok (tasks.Print rule)) before after status is apart leaves only = tt
-publishes_fewest (Ok (tasks.Make seed size file effort)) before after status is apart leaves only = tt
-publishes_fewest (Ok (tasks.Trim formula proof output)) before after status is apart leaves only = tt
-publishes_fewest (Err error) before after status is apart leaves only = tt
+pub publishes_extreme : (task : Result Task WordsError) (before after : Option Files) (status : Status) → status ≡ statuses.Pattern → AreApart task → OfQuestion (LeavesCertificate after) task before
+    → ChangesOnly (outputs_of_words task status) before after → PublishesExtreme task before after
+publishes_extreme (Ok (tasks.Extremal extreme source form effort further)) (Some before) (Some after) status is apart leaves only =
+    extreme_publishes extreme source form effort further before after apart leaves (subst (λ s. ChangesOnly (certificate_at s effort.proof) (Some before) (Some after)) is only)
+publishes_extreme (Ok (tasks.Extremal extreme source form effort further)) (Some before) None status is apart leaves only = tt
+publishes_extreme (Ok (tasks.Extremal extreme source form effort further)) None after status is apart leaves only = tt
+publishes_extreme (Ok (tasks.Search source effort further)) before after status is apart leaves only = tt
+publishes_extreme (Ok (tasks.Check source proof)) before after status is apart leaves only = tt
+publishes_extreme (Ok (tasks.Judge source pattern rle)) before after status is apart leaves only = tt
+publishes_extreme (Ok (tasks.Encode source)) before after status is apart leaves only = tt
+publishes_extreme (Ok (tasks.Print rule)) before after status is apart leaves only = tt
+publishes_extreme (Ok (tasks.Make seed size file effort)) before after status is apart leaves only = tt
+publishes_extreme (Ok (tasks.Trim formula proof output)) before after status is apart leaves only = tt
+publishes_extreme (Err error) before after status is apart leaves only = tt

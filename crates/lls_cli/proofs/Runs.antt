@@ -14,7 +14,7 @@ use Rattle.lls_cli.proofs.Consequences.{caused, counts_stay, holds_at, meant, no
 use Rattle.lls_cli.proofs.Files.{changes_only}
 use Rattle.lls_cli.proofs.Laws.{leaves_at}
 use Rattle.lls_cli.proofs.Limits.{limits}
-use Rattle.lls_cli.proofs.Published.{publishes, publishes_fewest}
+use Rattle.lls_cli.proofs.Published.{publishes, publishes_extreme}
 use Rattle.lls_cli.proofs.Stands.{stands}
 use Rattle.lls_cli.proofs.Untouched.{untouched}
 use Rattle.lls_cli.proofs.Why.{says_why}
@@ -34,7 +34,7 @@ run_by task before after status apart ended = record {
   made = stands task before after status apart ended;
   published = λ is. publishes task _ _ status is apart (holds_at statuses.NoPattern tt task before after status ended is) (leaves_at statuses.NoPattern tt task before after status ended is)
       (changes_only task before after status ended);
-  published_fewest = λ is. publishes_fewest task _ _ status is apart (leaves_at statuses.Pattern tt task before after status ended is) (changes_only task before after status ended);
+  published_extreme = λ is. publishes_extreme task _ _ status is apart (leaves_at statuses.Pattern tt task before after status ended is) (changes_only task before after status ended);
   complete = completes task _ before after status refl ended;
   words = words_alone task before after status ended;
   all_words = words_all task before after status ended;

@@ -26,7 +26,7 @@ IsOf (tasks.Judge source pattern rle) question = (problem : PosedProblem) × (hi
 IsOf (tasks.Encode source) question = (subject : Subject) × (question ≡ questions.Encode subject)
 IsOf (tasks.Print rule) question = question ≡ questions.Print rule
 IsOf (tasks.Make seed size file effort) question = question ≡ questions.Make seed size file effort
-IsOf (tasks.Least source form effort further) question = (asked : Asked) × (question ≡ questions.Least asked effort further.rle)
+IsOf (tasks.Extremal extreme source form effort further) question = (asked : Asked) × (question ≡ questions.Extremal extreme asked effort further.rle)
 IsOf (tasks.Trim formula proof output) question = (cnf : Cnf) × (bytes : List ℕ) × (question ≡ questions.Trim cnf bytes output)
 
 pub is_of : (task : Task) (files : Option Files) (question : Question) → Asks task files (Ok question) → IsOf task question
@@ -50,9 +50,9 @@ is_of (tasks.Encode source) files question asked =
     (first.0, is)
 is_of (tasks.Print rule) files question asked = cc
 is_of (tasks.Make seed size file effort) files question asked = cc
-is_of (tasks.Least source form effort further) files question asked =
-    let first = and_then-both (and_then asked.input (roomy_problem_in source.rule source.demands)) (λ problem. Ok (questions.Least (asked_with form problem) effort further.rle)) question asked.made in
-    let is : question ≡ questions.Least (asked_with form first.0) effort further.rle = cc in
+is_of (tasks.Extremal extreme source form effort further) files question asked =
+    let first = and_then-both (and_then asked.input (roomy_problem_in source.rule source.demands)) (λ problem. Ok (questions.Extremal extreme (asked_with form problem) effort further.rle)) question asked.made in
+    let is : question ≡ questions.Extremal extreme (asked_with form first.0) effort further.rle = cc in
     (asked_with form first.0, is)
 is_of (tasks.Trim formula proof output) files question asked =
     let first = and_then-both (and_then asked.first formula_in) (λ cnf. and_then asked.second (λ bytes. Ok (questions.Trim cnf bytes output))) question asked.made in

@@ -1,14 +1,15 @@
 -- What a run's end says in plain sentences. Each follows from how the run ends.
-use Rattle.std.specs.Prelude.{◌≡◌, ◌≢◌, ◌≤◌, ◌⊎◌, ℕ, suc, List, [], ◌∷◌, ◌++◌, length, take, All, Option, None, Some, Result, Ok, Err}
+use Rattle.std.specs.Prelude.{◌≡◌, ◌≢◌, ◌≤◌, ◌⊎◌, ℕ, List, [], ◌∷◌, ◌++◌, length, take, All, Option, None, Some, Result, Ok, Err}
 use Rattle.std.specs.Io.KnownBytes.{append_known}
 use Rattle.std.specs.FinMap as map
 use Rattle.std.specs.Option.{option_map}
 use Rattle.lls_base.specs.Faults.{Rose}
 use Rattle.lls_base.specs.Shelf.{Files}
 use Rattle.lls_words.specs.declared.error.WordsError.{WordsError}
+use Rattle.lls_problem.specs.declared.bounds.Bound.{Bound}
 use Rattle.lls_problem.specs.declared.demands.Demands.{Demands}
 use Rattle.lls_grid.specs.History.{History}
-use Rattle.lls_least.specs.Fewer.{at_most, live_cells}
+use Rattle.lls_least.specs.Extremal.{beyond_it}
 use Rattle.lls_cli.specs.declared.task.ProblemSource.{ProblemSource}
 use Rattle.lls_cli.specs.declared.task.Source.TheVariants as sources
 use Rattle.lls_cli.specs.declared.task.Task.{Task}
@@ -29,7 +30,7 @@ use Rattle.lls_cli.specs.Question.{proof_limit, question_of, Asks}
 use Rattle.lls_cli.specs.Fault.{fault_line, status_of}
 use Rattle.lls_outside.specs.Grown.{GrewBy}
 use Rattle.lls_answers.specs.Standing.{IsCurrent, with_file}
-use Rattle.lls_answers.specs.Fewest.{asked_fewer, IsOfFewest}
+use Rattle.lls_answers.specs.Extremal.{asked_bounded, IsOfExtreme}
 use Rattle.lls_answers.specs.Meaning.{certificate_at, log_at, search_file_at}
 use Rattle.lls_answers.specs.Trimming.{trimmed_at}
 use Rattle.lls_answers.specs.Answer.{Holds, IsAnswer, Leaves, YesHolds, ahead_of}
@@ -84,7 +85,7 @@ SaysWhy status before after = (fault : Fault) × (status ≡ status_of fault) ×
 abbrev pub outputs_of : Task → Status → List (List ℕ)
 outputs_of (tasks.Search source effort further) status = log_at status effort.proof
 outputs_of (tasks.Make seed size file effort) status = search_file_at status file ++ log_at status effort.proof
-outputs_of (tasks.Least source form effort further) status = certificate_at status effort.proof
+outputs_of (tasks.Extremal extreme source form effort further) status = certificate_at status effort.proof
 outputs_of (tasks.Trim formula proof output) status = trimmed_at status output
 outputs_of task status = []
 
@@ -150,23 +151,24 @@ pub record IsPublished (task : Task) (question : List ℕ → Question) (proof :
 abbrev pub Publishes : Result Task WordsError → Option Files → Option Files → Type 0
 Publishes (Ok (tasks.Search source effort further)) (Some before) (Some after) =
     (subject : Subject) × IsPublished (tasks.Check source effort.proof) (questions.Check subject) effort.proof after
-Publishes (Ok (tasks.Least source form effort further)) (Some before) (Some after) =
+Publishes (Ok (tasks.Extremal extreme source form effort further)) (Some before) (Some after) =
     (asked : Asked) × IsPublished (tasks.Check (sources.Problem source form) effort.proof) (questions.Check (subjects.Problem asked)) effort.proof after
 Publishes task before after = Unit {0}
 
--- the demands with a bound more behind the others: in generation 0 at most so many cells are live
-abbrev pub demands_fewer : Demands → ℕ → Demands
-demands_fewer demands n = record demands { bounds = demands.bounds ++ at_most n ∷ [] }
+-- the demands with a bound more behind the others
+abbrev pub demands_bounded : Demands → Bound → Demands
+demands_bounded demands bound = record demands { bounds = demands.bounds ++ bound ∷ [] }
 
-abbrev pub source_fewer : ProblemSource → ℕ → ProblemSource
-source_fewer source n = record source { demands = demands_fewer source.demands n }
+abbrev pub source_bounded : ProblemSource → Bound → ProblemSource
+source_bounded source bound = record source { demands = demands_bounded source.demands bound }
 
--- after a search that found the fewest live cells, of which there are some, the check with that bound more says yes
-abbrev pub PublishesFewest : Result Task WordsError → Option Files → Option Files → Type 0
-PublishesFewest (Ok (tasks.Least source form effort further)) (Some before) (Some after) =
-    (asked : Asked) × ((history : History) × IsOfFewest asked history × ((n : ℕ) → live_cells history ≡ suc n
-    → IsPublished (tasks.Check (sources.Problem (source_fewer source n) form) effort.proof) (questions.Check (subjects.Problem (asked_fewer asked n))) effort.proof after))
-PublishesFewest task before after = Unit {0}
+-- after a search that found the fewest live cells, of which there are some, or the most, which aren't all, the check with the bound more that asks for
+-- a solution beyond says yes
+abbrev pub PublishesExtreme : Result Task WordsError → Option Files → Option Files → Type 0
+PublishesExtreme (Ok (tasks.Extremal extreme source form effort further)) (Some before) (Some after) =
+    (asked : Asked) × ((history : History) × IsOfExtreme extreme asked history × ((bound : Bound) → beyond_it extreme asked.problem history ≡ Some bound
+    → IsPublished (tasks.Check (sources.Problem (source_bounded source bound) form) effort.proof) (questions.Check (subjects.Problem (asked_bounded asked bound))) effort.proof after))
+PublishesExtreme task before after = Unit {0}
 
 -- where the inputs ask a question, and no call of the shelf or of the standard output failed, it is answered, but for want of
 -- memory, and what the answer's status says holds

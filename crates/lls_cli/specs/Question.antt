@@ -23,7 +23,7 @@ use Rattle.lls_problem.specs.declared.demands.DemandError.{DemandError}
 use Rattle.lls_problem.specs.declared.demands.DemandError.TheVariants.{Counters}
 use Rattle.lls_problem.specs.Bounds.{most_counters}
 use Rattle.lls_problem.specs.Problem.{PosedProblem, problem_made}
-use Rattle.lls_least.specs.Fewer.{counters_with_one_more}
+use Rattle.lls_least.specs.Bounded.{counters_with_one_more}
 use Rattle.lls_answers.specs.Subject.{Subject, asked_with, opened_with, most_open_cells}
 use Rattle.lls_answers.specs.Subject as subjects
 use Rattle.lls_cli.specs.declared.task.Source.{Source}
@@ -152,8 +152,8 @@ asking_of (tasks.Encode source) = of_one (source_file source) (source_limit sour
     (λ input. and_then (subject_from source input) (λ subject. Ok (questions.Encode subject)))
 asking_of (tasks.Print rule) = of_none (questions.Print rule)
 asking_of (tasks.Make seed size file effort) = of_none (questions.Make seed size file effort)
-asking_of (tasks.Least source form effort further) = of_one source.file search_limit
-    (λ input. and_then (and_then input (roomy_problem_in source.rule source.demands)) (λ problem. Ok (questions.Least (asked_with form problem) effort further.rle)))
+asking_of (tasks.Extremal extreme source form effort further) = of_one source.file search_limit
+    (λ input. and_then (and_then input (roomy_problem_in source.rule source.demands)) (λ problem. Ok (questions.Extremal extreme (asked_with form problem) effort further.rle)))
 asking_of (tasks.Trim formula proof output) = of_two formula formula_limit proof proof_limit
     (λ first second. and_then (and_then first formula_in) (λ cnf. and_then second (λ bytes. Ok (questions.Trim cnf bytes output))))
 

@@ -6,7 +6,7 @@ use Rattle.lls_answers.specs.declared.status.Status.{Status}
 use Rattle.lls_answers.specs.declared.status.Status.TheVariants as statuses
 use Rattle.lls_cli.specs.declared.task.Task.{Task}
 use Rattle.lls_answers.specs.Answer.{HasShortBudget, NoHolds, NoneHolds, SomeHolds, YesHolds, ahead_of}
-use Rattle.lls_cli.specs.Claims.{ChangesOnly, CountsNeverFall, HasCause, HasWhole, IsAnswered, IsComplete, IsFaultStatus, IsSilent, LeavesBegun, LeavesCertificate, LeavesLog, LeavesProof, LeavesTrimmed, NoCallFailed, NothingFailed, OfQuestion, Publishes, PublishesFewest, ReadsAndWritesNothing, SaysAnswer, SaysWhy, outputs_of_words}
+use Rattle.lls_cli.specs.Claims.{ChangesOnly, CountsNeverFall, HasCause, HasWhole, IsAnswered, IsComplete, IsFaultStatus, IsSilent, LeavesBegun, LeavesCertificate, LeavesLog, LeavesProof, LeavesTrimmed, NoCallFailed, NothingFailed, OfQuestion, Publishes, PublishesExtreme, ReadsAndWritesNothing, SaysAnswer, SaysWhy, outputs_of_words}
 use Rattle.lls_cli.specs.Ends.{End, IsEnd}
 use Rattle.lls_cli.specs.Limits.{AreLimits}
 use Rattle.lls_outside.specs.Moment.{Moment, files_at}
@@ -24,7 +24,7 @@ pub record IsRun (task : Result Task WordsError) (before after : Moment) (status
   -- judging that the pattern is a solution, or is none; and those of a trim that the proof is accepted and rests on unit propagation alone, or doesn't
   pub yes : status ≡ statuses.Done → Asked YesHolds task before
   pub no : status ≡ statuses.Refused → Asked NoHolds task before
-  -- a search says that it found something only where there is something, with the fewest live cells where that was asked, and that there
+  -- a search says that it found something only where there is something, with the fewest live cells or the most where that was asked, and that there
   -- is nothing only where there is nothing; it is undecided only where its budget is below 9 to the number of the formula's variables, and below
   -- 3 to it where no learnt clause is deleted
   pub found : status ≡ statuses.Pattern → Asked SomeHolds task before
@@ -38,9 +38,9 @@ pub record IsRun (task : Result Task WordsError) (before after : Moment) (status
   pub trimmed : status ≡ statuses.Done → Asked (LeavesTrimmed (files_at after.shelf)) task before
   -- a made problem's search file stands whole at its answers
   pub made : IsAnswered status → Asked (λ question. HasWhole (files_at after.shelf) (ahead_of question)) task before
-  -- what a search found to be absent, or the fewest, a check with the same words says again
+  -- what a search found to be absent, or the extreme, a check with the same words says again
   pub published : status ≡ statuses.NoPattern → Publishes task (files_at before.shelf) (files_at after.shelf)
-  pub published_fewest : status ≡ statuses.Pattern → PublishesFewest task (files_at before.shelf) (files_at after.shelf)
+  pub published_extreme : status ≡ statuses.Pattern → PublishesExtreme task (files_at before.shelf) (files_at after.shelf)
   -- where the inputs ask a question and nothing fails, it is answered, but for want of memory; with a budget that isn't below these
   -- powers the answer is that there is something, or nothing
   pub complete : IsComplete task (files_at before.shelf) before after status

@@ -11,6 +11,7 @@ use Rattle.lls_words.specs.declared.further.Manner.TheVariants as said
 use Rattle.lls_solver.specs.declared.manner.Manner.TheVariants as searchers
 use Rattle.lls_solver.specs.declared.manner.Manners.{Manners}
 use Rattle.lls_solver.specs.declared.manner.Manners.TheVariants.{Alone, Both}
+use Rattle.lls_least.specs.declared.extreme.Extreme.TheVariants as extremes
 use Rattle.lls_answers.specs.Crew.{IsCrew}
 use Rattle.lls_answers.specs.declared.effort.CrewPlan.{CrewPlan}
 use Rattle.lls_answers.specs.declared.effort.Further.{Further}
@@ -57,7 +58,9 @@ task_of (jobs.Cnf file rule demands form) = tasks.Encode (sources.Problem (probl
 task_of (jobs.Rule rule) = tasks.Print rule
 task_of (jobs.Make seed size file proof) = tasks.Make seed size file (effort_of default_budget false proof)
 task_of (jobs.Least file proof rule demands form budget keep_all rle further) =
-    tasks.Least (problem_by file rule demands) form (effort_of budget keep_all proof) (further_of rle None further.manner)
+    tasks.Extremal extremes.Fewest (problem_by file rule demands) form (effort_of budget keep_all proof) (further_of rle None further.manner)
+task_of (jobs.Most file proof rule demands form budget keep_all rle further) =
+    tasks.Extremal extremes.Most (problem_by file rule demands) form (effort_of budget keep_all proof) (further_of rle None further.manner)
 task_of (jobs.Trim formula proof output) = tasks.Trim formula proof output
 
 abbrev pub tasked : Result Job WordsError → Result Task WordsError
@@ -94,5 +97,5 @@ KeepsTask (tasks.Judge source pattern rle) = AreWithinLimits source.demands
 KeepsTask (tasks.Encode source) = KeepsSource source
 KeepsTask (tasks.Print rule) = IsIsotropic rule
 KeepsTask (tasks.Make seed size file effort) = (1 ≤ size) × (size ≤ most_size) × IsBudget effort
-KeepsTask (tasks.Least source form effort further) = AreAllowed source.rule source.demands effort.budget
+KeepsTask (tasks.Extremal extreme source form effort further) = AreAllowed source.rule source.demands effort.budget
 KeepsTask (tasks.Trim formula proof output) = Unit {0}

@@ -2,7 +2,7 @@
 ghost use Rattle.std.specs.Prelude.{◌≡◌, ◌≤◌, length, IfOk};
 ghost use Rattle.lls_base.specs.Results.{and_then, Gives};
 ghost use Rattle.lls_search_file.specs.Reading.{posed_of};
-ghost use Rattle.lls_least.specs.Fewer.{LeavesRoom};
+ghost use Rattle.lls_least.specs.Bounded.{LeavesRoom};
 ghost use Rattle.lls_words.specs.Job.{AreWithinLimits};
 ghost use Rattle.lls_outside.specs.Moment.{files_of, shelf_at};
 ghost use Rattle.lls_cli.specs.Question.{IsInput, MadeOfOne, posed_in, problem_in, roomy_problem_in, small_problem_in, formula_in, history_in, pattern_in, pictured_in, source_file, source_limit, subject_from};

@@ -6,9 +6,9 @@
 mod answering;
 mod check;
 mod deliver;
+mod extremal;
 mod fault;
 mod feeding;
-mod fewest;
 mod input;
 pub mod making;
 pub mod run;

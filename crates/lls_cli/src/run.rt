@@ -16,8 +16,8 @@ ghost use Rattle.lls_cli.specs.Task.{KeepsSearch, KeepsTask};
 
 use crate::answering::{answer_check, answer_encode, answer_judge, answer_trim};
 use crate::deliver::{give, refuse};
+use crate::extremal::give_extremal;
 use crate::fault::Fault;
-use crate::fewest::give_fewest;
 use crate::input::{read_roomy_problem, read_subject};
 use crate::making::give_making;
 use crate::task::{ProblemSource, Source, Task, task_of};
@@ -25,6 +25,7 @@ use lls_answers::print::print_rule;
 use lls_answers::search::search;
 use lls_answers::{Answer, Asked, Effort, Further, Status, manners_of};
 use lls_base::{Name, Shelf, Sink};
+use lls_least::Extreme;
 use lls_outside::Outside;
 use lls_problem::Form;
 use lls_rule::Rule;
@@ -66,9 +67,10 @@ fn run_search<S: Shelf, O: Sink, E: Sink>(
     }
 }
 
-// Runs a search for the fewest live cells: the problem is read, and then searched.
-fn run_least<S: Shelf, O: Sink, E: Sink>(
+// Runs a search for the fewest live cells, or for the most: the problem is read, and then searched.
+fn run_extremal<S: Shelf, O: Sink, E: Sink>(
     alloc: Global,
+    extreme: Extreme,
     source: ProblemSource,
     form: Form,
     effort: Effort,
@@ -76,14 +78,14 @@ fn run_least<S: Shelf, O: Sink, E: Sink>(
     outside: &mut Outside<S, O, E>,
 ) -> Status
     requires { AreAllowed source.rule source.demands effort.budget }
-    ensures end { (end : End) × IsEnd (Ok (all_tasks.Least source form effort further)) (moment_of S.Shelf O.Sink E.Sink outside.old) (moment_of S.Shelf O.Sink E.Sink outside.new) result end }
+    ensures end { (end : End) × IsEnd (Ok (all_tasks.Extremal extreme source form effort further)) (moment_of S.Shelf O.Sink E.Sink outside.old) (moment_of S.Shelf O.Sink E.Sink outside.new) result end }
     ensures same { BorrowsSame outside.old outside.new }
 {
     match read_roomy_problem(alloc, outside.shelf, source) {
         Ok(problem) => {
             let asked = Asked { problem, form };
             let manners = manners_of(further.manners, asked.problem.demands());
-            give_fewest(alloc, asked, effort, further.rle, manners, outside)
+            give_extremal(alloc, extreme, asked, effort, further.rle, manners, outside)
         }
         Err(fault) => refuse(alloc, fault, outside.err),
     }
@@ -149,8 +151,8 @@ fn run_task<S: Shelf, O: Sink, E: Sink>(
         Task::Make(seed, size, file, effort) => {
             run_make(alloc, seed, size, file, effort, outside)
         }
-        Task::Least(source, form, effort, further) => {
-            run_least(alloc, source, form, effort, further, outside)
+        Task::Extremal(extreme, source, form, effort, further) => {
+            run_extremal(alloc, extreme, source, form, effort, further, outside)
         }
         Task::Trim(formula, proof, output) => {
             let answer = answer_trim(alloc, outside.shelf, &formula, &proof, output);

@@ -5,6 +5,7 @@ ghost use Rattle.lls_cli.specs.Task.{KeepsTask, crew_said, further_of, manners_s
 
 use lls_answers::{CrewPlan, Effort, Further};
 use lls_base::Name;
+use lls_least::Extreme;
 use lls_problem::{Demands, Form};
 use lls_rule::Rule;
 use lls_solver::{Manner, Manners};
@@ -57,8 +58,8 @@ pub enum Task {
     Print(Rule),
     /// Make a problem of a seed and a size, write it to a search file, and look for its solution.
     Make(u64, u32, Name, Effort),
-    /// Look for a solution with the fewest live cells in generation 0.
-    Least(ProblemSource, Form, Effort, Further),
+    /// Look for a solution with the fewest live cells in generation 0, or with the most.
+    Extremal(Extreme, ProblemSource, Form, Effort, Further),
     /// Write what the empty clause of a proof rests on: the files of the formula, of the proof, and that are written.
     Trim(Name, Name, Name),
 }
@@ -213,7 +214,23 @@ pub fn task_of(job: Job) -> Task
             let problem = ProblemSource::new(search, rule, demands);
             let effort = Effort::new(budget, keep_all, proof);
             let further = further_of(rle, None, further.manner);
-            Task::Least(problem, form, effort, further)
+            Task::Extremal(Extreme::Fewest, problem, form, effort, further)
+        }
+        Job::Most {
+            search,
+            proof,
+            rule,
+            demands,
+            form,
+            budget,
+            keep_all,
+            rle,
+            further,
+        } => {
+            let problem = ProblemSource::new(search, rule, demands);
+            let effort = Effort::new(budget, keep_all, proof);
+            let further = further_of(rle, None, further.manner);
+            Task::Extremal(Extreme::Most, problem, form, effort, further)
         }
         Job::Trim {
             formula,

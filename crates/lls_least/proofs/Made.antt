@@ -1,9 +1,9 @@
--- A problem with a bound more on generation 0 fits its file.
-use Rattle.std.proofs.Common.{◌≡◌, ◌<◌, ◌≤◌, ℕ, ◌+◌, ◌*◌, Bool, List, [], ◌∷◌, map, length, get_or, cond, Option, None, Some, Ok, refl, ap, ◌∙◌, arith}
+-- A problem with one more bound on generation 0 fits its file.
+use Rattle.std.proofs.Common.{◌≡◌, ◌<◌, ◌≤◌, ℕ, zero, suc, ◌+◌, ◌*◌, Bool, List, [], ◌∷◌, map, length, get_or, cond, min, Option, None, Some, Ok, refl, sym, ap, subst, inl, inr, ◌∙◌, arith}
 use Rattle.std.specs.Prelude.{nat_le, nat_lt, All, if◌then◌else◌, find}
 use Rattle.std.specs.Option.{ForSome, option_map, option_map_or, option_or}
-use Rattle.std.proofs.Math.Nat.{min-eq_left, mul-le-mul, mul-le-mul_left}
-use Rattle.std.proofs.lemmas.Bool.{le-ltb, lt-leb, lt-ltb}
+use Rattle.std.proofs.Math.Nat.{min-le_right, mul-le-mul, mul-le-mul_left}
+use Rattle.std.proofs.lemmas.Bool.{cases_lt, le-ltb, lt-leb, lt-ltb}
 use Rattle.std.proofs.lemmas.List.{get_or-map, length-map}
 use Rattle.std.proofs.lemmas.List.Elements.{All-push}
 use Rattle.std.proofs.lemmas.List.Sums.{sum_by-append}
@@ -13,11 +13,13 @@ use Rattle.lls_problem.specs.declared.demands.Demands.{Demands}
 use Rattle.lls_problem.specs.declared.demands.DemandError.{DemandError}
 use Rattle.lls_problem.specs.declared.demands.DemandError.TheVariants.{NotSquare, NoGeneration, BoundsCross, PeriodTooLong, Counters}
 use Rattle.lls_problem.specs.declared.demands.Period.{Period}
-use Rattle.lls_problem.specs.Bounds.{HasEnds, most_counters, grid_size, top_end, crosses, counter_vars, all_counter_vars}
+use Rattle.lls_problem.specs.Bounds.{HasEnds, most_counters, grid_size, top_end, crosses, counter_top, counter_vars, all_counter_vars}
 use Rattle.lls_problem.specs.Problem.{PosedProblem, AreFitting, square_fault, generation_fault, bound_fault, period_fault, counter_fault, unless, problem_made}
 use Rattle.lls_problem.proofs.Fitting.{missing_generation-is}
 use Rattle.lls_problem.proofs.Found.{nothing_found}
-use Rattle.lls_least.specs.Fewer.{at_most, fewer, LeavesRoom}
+use Rattle.lls_least.specs.Bounded.{at_most, at_least, beyond, bounded, IsWithin, LeavesRoom}
+use Rattle.lls_least.specs.declared.extreme.Extreme.{Extreme}
+use Rattle.lls_least.specs.declared.extreme.Extreme.TheVariants as extremes
 
 -- where nothing is at fault, the last stands
 none_at_fault : {X : Type 0} (a b c d e : Option DemandError) (x : X) → a ≡ None → b ≡ None → c ≡ None → d ≡ None → e ≡ None → unless a (unless b (unless c (unless d (unless e (Ok x))))) ≡ Ok x
@@ -56,15 +58,35 @@ made_where_fitting posed rule demands fitting =
     (ap (option_map PeriodTooLong) (in_time posed.generations demands.period fitting.shorter))
     (ap (λ b. option_map Counters (if b then Some (all_counter_vars (grid_size posed) demands.bounds) else None)) (le-ltb most_counters (all_counter_vars (grid_size posed) demands.bounds) fitting.counters))
 
+-- the greatest number that a bound allows is no more than all cells, and a counter counts no further
+top_end-le : (size : ℕ) (bound : Bound) → top_end size bound ≤ size
+top_end-le size bound = top-le size bound.high where
+  top-le : (size : ℕ) (high : Option ℕ) → option_map_or (λ h. min h size) high size ≤ size
+  top-le size None = omega arith
+  top-le size (Some high) = min-le_right high size
+
+counter_top-le : (size : ℕ) (bound : Bound) → bound.low ≤ top_end size bound → counter_top size bound ≤ size
+counter_top-le size bound ordered = elim (cases_lt (top_end size bound) size) [
+  | inl below ↦ subst (λ n. n ≤ size) (sym (ap (λ b. if b then top_end size bound + 1 else bound.low) (lt-ltb (top_end size bound) size below))) (omega (arith, below))
+  | inr all ↦ subst (λ n. n ≤ size) (sym (ap (λ b. if b then top_end size bound + 1 else bound.low) (le-ltb (top_end size bound) size all))) (omega (arith, ordered, top_end-le size bound))
+]
+
+pub some-same : {a b : Bound} → Some a ≡ Some b → a ≡ b
+some-same is = cc
+
+pub no-bound : {b : Bound} → None ≡ Some b → ⊥
+no-bound is = cc
+
 -- with the bound the demands fit the file as before
-pub fitting-fewer : (p : PosedProblem) (k : ℕ) → IsPosed p.posed → AreFitting p.posed p.demands → LeavesRoom p → k < grid_size p.posed → AreFitting p.posed (fewer p k).demands
-fitting-fewer p k kept fitting room below = record {
+pub fitting-bounded : (p : PosedProblem) (bound : Bound) → IsPosed p.posed → AreFitting p.posed p.demands → LeavesRoom p → IsWithin (grid_size p.posed) bound
+    → AreFitting p.posed (bounded p bound).demands
+fitting-bounded p bound kept fitting room within = record {
   square = fitting.square;
   period = fitting.period;
-  bounds = All-push HasEnds p.demands.bounds (at_most k) fitting.bounds (record { low = omega arith; high = λ high is. omega (arith, same is, below, most) });
-  bounded = All-push (λ (bound : Bound). bound.generation < p.posed.generations) p.demands.bounds (at_most k) fitting.bounded (omega (arith, kept.generations.0));
-  ordered = All-push (λ (bound : Bound). bound.low ≤ top_end size bound) p.demands.bounds (at_most k) fitting.ordered (omega arith);
-  counters = omega (arith, sum_by-append (counter_vars size) p.demands.bounds (at_most k ∷ []), own, mul-le-mul_left size below, room);
+  bounds = All-push HasEnds p.demands.bounds bound fitting.bounds (record { low = omega (arith, within.ordered, top, most); high = λ high is. omega (arith, within.high high is, most) });
+  bounded = All-push (λ (bound : Bound). bound.generation < p.posed.generations) p.demands.bounds bound fitting.bounded (omega (arith, within.first, kept.generations.0));
+  ordered = All-push (λ (bound : Bound). bound.low ≤ top_end size bound) p.demands.bounds bound fitting.ordered within.ordered;
+  counters = omega (arith, sum_by-append (counter_vars size) p.demands.bounds (bound ∷ []), mul-le-mul_left size counted, room);
   shorter = fitting.shorter;
   named = fitting.named;
 } where
@@ -74,15 +96,33 @@ fitting-fewer p k kept fitting room below = record {
   most : size ≤ 64 * 64
   most = mul-le-mul kept.width.1 kept.height.1
 
+  top : top_end size bound ≤ size
+  top = top_end-le size bound
+
+  counted : counter_top size bound ≤ size
+  counted = counter_top-le size bound within.ordered
+
+-- so it is a problem
+pub made-bounded : (p : PosedProblem) (bound : Bound) → IsPosed p.posed → AreFitting p.posed p.demands → LeavesRoom p → IsWithin (grid_size p.posed) bound
+    → problem_made p.posed p.rule (bounded p bound).demands ≡ Ok (bounded p bound)
+made-bounded p bound kept fitting room within = made_where_fitting p.posed p.rule (bounded p bound).demands (fitting-bounded p bound kept fitting room within)
+
+-- the bounds that ask for fewer, or for more
+pub within-at_most : (size k : ℕ) → k ≤ size → IsWithin size (at_most k)
+within-at_most size k below = record { first = refl; ordered = omega arith; high = λ high is. omega (arith, same is, below) } where
   same : {high : ℕ} → Some k ≡ Some high → k ≡ high
   same is = cc
 
-  end : top_end size (at_most k) ≡ k
-  end = min-eq_left (omega (arith, below))
+pub within-at_least : (size k : ℕ) → k ≤ size → IsWithin size (at_least k)
+within-at_least size k within = record { first = refl; ordered = within; high = λ high is. absurd (none is) } where
+  none : {high : ℕ} → None ≡ Some high → ⊥
+  none is = cc
 
-  own : counter_vars size (at_most k) ≡ size * (k + 1)
-  own = ap (λ n. size * (if nat_lt n size then n + 1 else 0)) end ∙ ap (λ b. size * (if b then k + 1 else 0)) (lt-ltb k size below)
-
--- so it is a problem
-pub made-fewer : (p : PosedProblem) (k : ℕ) → IsPosed p.posed → AreFitting p.posed p.demands → LeavesRoom p → k < grid_size p.posed → problem_made p.posed p.rule (fewer p k).demands ≡ Ok (fewer p k)
-made-fewer p k kept fitting room below = made_where_fitting p.posed p.rule (fewer p k).demands (fitting-fewer p k kept fitting room below)
+-- and so the one that asks for a solution beyond n live cells
+pub within-beyond : (extreme : Extreme) (size n : ℕ) (bound : Bound) → n ≤ size → beyond extreme size n ≡ Some bound → IsWithin size bound
+within-beyond extremes.Fewest size zero bound within is = absurd cc
+within-beyond extremes.Fewest size (suc n) bound within is = subst (IsWithin size) (some-same is) (within-at_most size n (omega (arith, within)))
+within-beyond extremes.Most size n bound within is = elim (cases_lt n size) [
+  | inl below ↦ subst (IsWithin size) (some-same (sym (ap (λ b. if b then Some (at_least (suc n)) else None) (lt-ltb n size below)) ∙ is)) (within-at_least size (suc n) (omega (arith, below)))
+  | inr all ↦ absurd (no-bound (sym (ap (λ b. if b then Some (at_least (suc n)) else None) (le-ltb n size all)) ∙ is))
+]

@@ -1,3 +1,3 @@
-pub mod Fewer
-pub mod Least
+pub mod Bounded
+pub mod Extremal
 pub mod Finding

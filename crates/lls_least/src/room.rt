@@ -1,13 +1,13 @@
 // How much room the counters of bounds take.
 ghost use Rattle.std.specs.Prelude.{◌≡◌, ◌≤◌};
 ghost use Rattle.lls_problem.specs.Bounds.{most_counters, all_counter_vars};
-ghost use Rattle.lls_least.specs.Fewer.{counters_with_one_more};
+ghost use Rattle.lls_least.specs.Bounded.{counters_with_one_more};
 
 use lls_grid::History;
 use lls_problem::{Bound, Problem};
 
 /// How many variables the counters of a problem's bounds have, together with a counter of all cells of a generation: at most
-/// `Bounds::MOST_COUNTERS` exactly where `fewer` and `least` can be asked of the problem.
+/// `Bounds::MOST_COUNTERS` exactly where `beyond` and `extremal` can be asked of the problem.
 pub fn counters_with_one_more(problem: &Problem) -> u64
     ensures { result ≡ counters_with_one_more problem.now }
 {

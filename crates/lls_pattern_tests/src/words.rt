@@ -79,6 +79,10 @@ fn each_command_takes_its_options_alone(rt: HostRuntime) -> Result<(), Fail> {
             "formula rule edge symmetry period live differ as budget keep manner ",
         ),
         (
+            "most f p",
+            "formula rule edge symmetry period live differ as budget keep manner ",
+        ),
+        (
             "open f p",
             "formula low high edge symmetry period live differ as budget keep manner ",
         ),
@@ -192,6 +196,12 @@ fn choices_of(job: Job) -> (Option<u32>, bool, bool) {
             rle,
             ..
         } => (Some(budget), keep_all, rle),
+        Job::Most {
+            budget,
+            keep_all,
+            rle,
+            ..
+        } => (Some(budget), keep_all, rle),
         Job::Loose {
             budget,
             keep_all,
@@ -224,6 +234,7 @@ fn choices_of_a_search(rt: HostRuntime) -> Result<(), Fail> {
         ("check f f", (None, false, false)),
         ("lrat f f", (None, false, false)),
         ("least f p --as rle --keep=all", (Some(100_000), true, true)),
+        ("most --budget=9 f p --as rle", (Some(9), false, true)),
         ("open f --budget 7 p", (Some(7), false, false)),
         ("opencheck f f", (None, false, false)),
         ("trim f f o", (None, false, false)),
@@ -272,6 +283,7 @@ fn form_of(job: Job) -> Option<Form> {
         Job::Search { form, .. } => Some(form),
         Job::Cnf { form, .. } => Some(form),
         Job::Least { form, .. } => Some(form),
+        Job::Most { form, .. } => Some(form),
         Job::Loose { form, .. } => Some(form),
         Job::LooseCheck { form, .. } => Some(form),
         _ => None,
@@ -296,6 +308,7 @@ fn forms_of_formulas(rt: HostRuntime) -> Result<(), Fail> {
         ("make 1 8 f p", None),
         ("trim f p o", None),
         ("least f p", Some(Form::Cover)),
+        ("most f p --formula=1", Some(Form::Rows)),
         ("open f p --formula 1", Some(Form::Rows)),
         ("opencheck --formula=1 f f", Some(Form::Rows)),
     ];
@@ -313,6 +326,7 @@ fn problem_of(job: Job) -> Result<(Rule, Demands), Fail> {
         Job::Judge { rule, demands, .. } => Ok((rule, demands)),
         Job::Cnf { rule, demands, .. } => Ok((rule, demands)),
         Job::Least { rule, demands, .. } => Ok((rule, demands)),
+        Job::Most { rule, demands, .. } => Ok((rule, demands)),
         Job::Loose { low, demands, .. } => Ok((low, demands)),
         Job::LooseCheck { low, demands, .. } => Ok((low, demands)),
         _ => Err(Fail::from("a job with demands")),
@@ -327,6 +341,7 @@ fn demands_of_a_problem(rt: HostRuntime) -> Result<(), Fail> {
         "check --live=000:0001-,63:0-8192 --differ 63,0 f --period=7,-64,64 --symmetry D2/ p",
         "cnf --symmetry D2/ --differ 063,00 --live 0:1-,63:-8192 --period 7,-64,64 f",
         "least f p --symmetry D2/ --differ 063,00 --live 0:1-,63:-8192 --period 7,-64,64",
+        "most --symmetry D2/ f --differ 063,00 --live 0:1-,63:-8192 p --period 7,-64,64",
         "open --symmetry D2/ --high=B3/S23 f --differ 063,00 p --live 0:1-,63:-8192 --period 7,-64,64",
         "opencheck f f --symmetry D2/ --differ 063,00 --live 0:1-,63:-8192 --period 7,-64,64",
     ];

@@ -39,6 +39,7 @@ has_arguments commands.Lrat = record { taken = refl; distinct = refl; count = re
 has_arguments commands.Rule = record { taken = refl; distinct = refl; count = refl; apart = refl; found = record { by_place = refl; by_name = refl }; no_defaults = refl; default_passes = refl; required = λ rows. refl }
 has_arguments commands.Make = record { taken = refl; distinct = refl; count = refl; apart = refl; found = record { by_place = refl; by_name = refl }; no_defaults = refl; default_passes = refl; required = λ rows. refl }
 has_arguments commands.Least = record { taken = refl; distinct = refl; count = refl; apart = refl; found = record { by_place = refl; by_name = refl }; no_defaults = refl; default_passes = refl; required = λ rows. refl }
+has_arguments commands.Most = record { taken = refl; distinct = refl; count = refl; apart = refl; found = record { by_place = refl; by_name = refl }; no_defaults = refl; default_passes = refl; required = λ rows. refl }
 has_arguments commands.Open = record { taken = refl; distinct = refl; count = refl; apart = refl; found = record { by_place = refl; by_name = refl }; no_defaults = refl; default_passes = refl; required = λ rows. refl }
 has_arguments commands.OpenCheck = record { taken = refl; distinct = refl; count = refl; apart = refl; found = record { by_place = refl; by_name = refl }; no_defaults = refl; default_passes = refl; required = λ rows. refl }
 has_arguments commands.Trim = record { taken = refl; distinct = refl; count = refl; apart = refl; found = record { by_place = refl; by_name = refl }; no_defaults = refl; default_passes = refl; required = λ rows. refl }

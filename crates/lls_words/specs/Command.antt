@@ -10,7 +10,7 @@ use Rattle.lls_words.specs.declared.command.Setting.TheVariants as settings
 abbrev pub all_commands : List Command
 all_commands =
     commands.Check ∷ commands.Search ∷ commands.Judge ∷ commands.Cnf ∷ commands.Sat ∷ commands.Lrat ∷ commands.Rule ∷ commands.Make
-    ∷ commands.Least ∷ commands.Open ∷ commands.OpenCheck ∷ commands.Trim ∷ []
+    ∷ commands.Least ∷ commands.Most ∷ commands.Open ∷ commands.OpenCheck ∷ commands.Trim ∷ []
 
 abbrev pub command_name : Command → List ℕ
 command_name commands.Check = codes "check"
@@ -22,6 +22,7 @@ command_name commands.Lrat = codes "lrat"
 command_name commands.Rule = codes "rule"
 command_name commands.Make = codes "make"
 command_name commands.Least = codes "least"
+command_name commands.Most = codes "most"
 command_name commands.Open = codes "open"
 command_name commands.OpenCheck = codes "opencheck"
 command_name commands.Trim = codes "trim"
@@ -40,6 +41,7 @@ operand_count commands.Lrat = 2
 operand_count commands.Rule = 1
 operand_count commands.Make = 4
 operand_count commands.Least = 2
+operand_count commands.Most = 2
 operand_count commands.Open = 2
 operand_count commands.OpenCheck = 2
 operand_count commands.Trim = 3
@@ -99,6 +101,7 @@ rule_options commands.Lrat = []
 rule_options commands.Rule = []
 rule_options commands.Make = []
 rule_options commands.Least = one_rule
+rule_options commands.Most = one_rule
 rule_options commands.Open = two_rules
 rule_options commands.OpenCheck = two_rules
 rule_options commands.Trim = []
@@ -114,6 +117,7 @@ other_options commands.Lrat = []
 other_options commands.Rule = []
 other_options commands.Make = []
 other_options commands.Least = search_options
+other_options commands.Most = search_options
 other_options commands.Open = search_options
 other_options commands.OpenCheck = check_options
 other_options commands.Trim = []

@@ -131,6 +131,9 @@ job_with commands.Make (seed ∷ size ∷ search_file ∷ proof ∷ []) givens =
 job_with commands.Least (search_file ∷ proof ∷ []) givens =
     and_then (settled defaults givens) (λ s.
     and_then (names_apart search_file proof) (λ names. Ok (jobs.Least names.0 names.1 s.rule s.demands s.form s.budget s.keep_all s.rle s.further)))
+job_with commands.Most (search_file ∷ proof ∷ []) givens =
+    and_then (settled defaults givens) (λ s.
+    and_then (names_apart search_file proof) (λ names. Ok (jobs.Most names.0 names.1 s.rule s.demands s.form s.budget s.keep_all s.rle s.further)))
 job_with commands.Open (search_file ∷ proof ∷ []) givens =
     and_then (settled defaults givens) (λ s.
     and_then (names_apart search_file proof) (λ names.
@@ -195,6 +198,7 @@ KeepsLimits (jobs.Lrat formula proof) = Unit {0}
 KeepsLimits (jobs.Rule rule) = IsIsotropic rule
 KeepsLimits (jobs.Make seed size search_file proof) = (1 ≤ size) × (size ≤ most_size)
 KeepsLimits (jobs.Least search_file proof rule demands form budget keep_all rle further) = AreAllowed rule demands budget
+KeepsLimits (jobs.Most search_file proof rule demands form budget keep_all rle further) = AreAllowed rule demands budget
 KeepsLimits (jobs.Loose search_file proof low high demands form budget keep_all rle further) = AreOpen low high demands × (budget ≤ most_budget)
 KeepsLimits (jobs.LooseCheck search_file proof low high demands form) = AreOpen low high demands
 KeepsLimits (jobs.Trim formula proof output) = Unit {0}

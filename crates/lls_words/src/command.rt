@@ -17,6 +17,7 @@ pub enum Command {
     Rule,
     Make,
     Least,
+    Most,
     Open,
     OpenCheck,
     Trim,
@@ -47,7 +48,7 @@ static OPERANDS: [&str; 4] = ["first", "second", "third", "fourth"];
 
 impl Command {
     // The table of commands.
-    const ALL: [Command; 12] = [
+    const ALL: [Command; 13] = [
         Command::Check,
         Command::Search,
         Command::Judge,
@@ -57,6 +58,7 @@ impl Command {
         Command::Rule,
         Command::Make,
         Command::Least,
+        Command::Most,
         Command::Open,
         Command::OpenCheck,
         Command::Trim,
@@ -76,6 +78,7 @@ impl Command {
             Command::Rule => b"rule",
             Command::Make => b"make",
             Command::Least => b"least",
+            Command::Most => b"most",
             Command::Open => b"open",
             Command::OpenCheck => b"opencheck",
             Command::Trim => b"trim",
@@ -107,6 +110,7 @@ impl Command {
             | Command::Sat
             | Command::Lrat
             | Command::Least
+            | Command::Most
             | Command::Open
             | Command::OpenCheck => &OPERANDS[..2],
             Command::Trim => &OPERANDS[..3],
@@ -126,9 +130,12 @@ impl Command {
         ensures { result.now ≡ rule_options self }
     {
         match self {
-            Command::Check | Command::Search | Command::Judge | Command::Cnf | Command::Least => {
-                &Setting::ALL[..=Setting::Rule as usize]
-            }
+            Command::Check
+            | Command::Search
+            | Command::Judge
+            | Command::Cnf
+            | Command::Least
+            | Command::Most => &Setting::ALL[..=Setting::Rule as usize],
             Command::Open | Command::OpenCheck => {
                 &Setting::ALL[Setting::Low as usize..=Setting::High as usize]
             }
@@ -142,7 +149,7 @@ impl Command {
     {
         match self {
             Command::Search => &Setting::ALL[Setting::Formula as usize..],
-            Command::Least | Command::Open => {
+            Command::Least | Command::Most | Command::Open => {
                 &Setting::ALL[Setting::Formula as usize..=Setting::Manner as usize]
             }
             Command::Check | Command::Cnf | Command::OpenCheck => {

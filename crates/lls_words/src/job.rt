@@ -96,6 +96,22 @@ pub enum Job {
         rle: bool,
         further: Further,
     },
+    /// Look for a solution with the most live cells in generation 0 and write a proof that none has more, or that there is none.
+    Most {
+        search: Name,
+        proof: Name,
+        rule: Rule,
+        demands: Demands,
+        /// The form of the formulas.
+        form: Form,
+        /// How many clauses each look may learn.
+        budget: u32,
+        /// Whether no learnt clause may be deleted.
+        keep_all: bool,
+        /// Whether the solution is printed as RLE, and not as rows.
+        rle: bool,
+        further: Further,
+    },
     /// Look for a solution by some rule between two, or write a proof that there is none.
     Loose {
         search: Name,

@@ -292,6 +292,41 @@ pub fn least_job(
     })
 }
 
+/// The job of `most`.
+pub fn most_job(
+    alloc: Global,
+    search: &Operand,
+    proof: &Operand,
+    givens: &[Given],
+) -> Result<Job, WordsError>
+    ensures job { Gives WordsError.Memory (λ job. job) result
+        (job_with Command.Most (seen_operand search.now ∷ seen_operand proof.now ∷ []) (map seen_given givens.now)) }
+    ensures limits { IfOk result KeepsLimits }
+{
+    let (search, proof, settings) = searching(alloc, search, proof, givens)?;
+    let Settings {
+        rule,
+        demands,
+        budget,
+        keep_all,
+        rle,
+        form,
+        further,
+        ..
+    } = settings;
+    Ok(Job::Most {
+        search,
+        proof,
+        rule,
+        demands,
+        form,
+        budget,
+        keep_all,
+        rle,
+        further,
+    })
+}
+
 /// The job of `open`.
 pub fn open_job(
     alloc: Global,

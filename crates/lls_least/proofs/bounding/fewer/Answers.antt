@@ -1,41 +1,7 @@
-use Rattle.std.proofs.Common.{◌≡◌, List, Bool, [], ◌∷◌, ◌++◌, sym, ap, subst, ◌∙◌}
-use Rattle.std.specs.Prelude.{All}
-use Rattle.std.specs.Option.{ForSome}
-use Rattle.lls_search_file.specs.Posed.{PosedFile}
-use Rattle.lls_problem.specs.declared.demands.Demands.{Demands}
-use Rattle.lls_problem.specs.Bounds.{HasEnds}
-use Rattle.lls_problem.specs.Problem.{IsPeriod, problem_made}
-use Rattle.lls_least.specs.Fewer.{at_most, fewer}
-use Rattle.lls_least.proofs.Made.{fitting-fewer, made-fewer}
+use Rattle.std.proofs.Common.{arith}
+use Rattle.lls_problem.specs.Bounds.{grid_size}
+use Rattle.lls_least.proofs.Made.{within-at_most}
 use Rattle.lls_least.proofs.bounding.fewer.Goals as goal
 
-pub returns-in_err-posed-clause-made : goal.returns-in_err-posed-clause-made
-returns-in_err-posed-clause-made c = made-fewer c.args.problem.now c.args.k c.posed.ensures.kept c.demands-demands.ensures.kept c.requires.room c.requires.below
-
-pub returns-in_err-demands-clause-made : goal.returns-in_err-demands-clause-made
-returns-in_err-demands-clause-made c = made-fewer c.args.problem.now c.args.k c.posed.ensures.kept c.demands-demands.ensures.kept c.requires.room c.requires.below
-
-pub make_problem-requires : goal.make_problem-requires
-make_problem-requires c =
-    let p = c.args.problem.now in
-    let fitting = fitting-fewer p c.args.k c.posed.ensures.kept c.demands-demands.ensures.kept c.requires.room c.requires.below in
-    let demands : c.in_ok-demands.demands ≡ (fewer p c.args.k).demands =
-    c.in_ok-demands.ensures ∙ ap (λ (d : Demands). record d { bounds = d.bounds ++ at_most c.args.k ∷ [] }) c.demands-demands.ensures.value in
-    record {
-      period = subst (λ (d : Demands). ForSome d.period IsPeriod) (sym demands) fitting.period;
-      bounds = subst (λ (d : Demands). All HasEnds d.bounds) (sym demands) fitting.bounds;
-    }
-
-pub unreachable-requires : goal.unreachable-requires
-unreachable-requires c =
-    let p = c.args.problem.now in
-    let made = made-fewer p c.args.k c.posed.ensures.kept c.demands-demands.ensures.kept c.requires.room c.requires.below in
-    let posed = c.in_ok-posed.ensures ∙ c.posed.ensures.value in
-    let demands : c.in_ok-demands.demands ≡ (fewer p c.args.k).demands =
-    c.in_ok-demands.ensures ∙ ap (λ (d : Demands). record d { bounds = d.bounds ++ at_most c.args.k ∷ [] }) c.demands-demands.ensures.value in
-    let parts : problem_made c.in_ok-posed.posed c.rule.result.now c.in_ok-demands.demands ≡ problem_made p.posed p.rule (fewer p c.args.k).demands =
-    ap (λ (f : PosedFile). problem_made f c.rule.result.now c.in_ok-demands.demands) posed
-    ∙ ap (λ (r : List Bool). problem_made p.posed r c.in_ok-demands.demands) c.rule.ensures
-    ∙ ap (λ (d : Demands). problem_made p.posed p.rule d) demands in
-    let result = sym c.in_default.is ∙ c.make_problem.ensures ∙ parts ∙ made in
-    cc result
+pub bounded-requires-clause-within : goal.bounded-requires-clause-within
+bounded-requires-clause-within c = within-at_most (grid_size c.args.problem.now.posed) c.args.k (omega (arith, c.requires.below))
