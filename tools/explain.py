@@ -17,7 +17,7 @@ import sys
 import ending
 import words as spoken
 
-WRAPPER = ("as-built", "bare", "help", "posed", "quiet", "race", "trimmed", "unproved", "version")
+WRAPPER = ("as-built", "bare", "help", "page", "posed", "quiet", "race", "trimmed", "unproved", "version")
 LABELS = {"text": "RULE", "output": "OUT"}
 # what the values may be that aren't one of a few
 A_RULE = "a rule is written as B3/S23, 23/3 or B2-a/S12"

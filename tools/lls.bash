@@ -55,7 +55,7 @@ _lls() {
     fi
     if [ "$COMP_CWORD" -eq "$first" ]; then
         case $first,${COMP_WORDS[1]} in
-        1,*) commands="$commands help --help --version --as-built --bare --posed --quiet --race --trimmed --unproved" ;;
+        1,*) commands="$commands help --help --version --as-built --bare --page --posed --quiet --race --trimmed --unproved" ;;
         2,--quiet) commands="$commands --as-built --bare --posed --race --trimmed --unproved" ;;
         esac
         read -ra words <<<"$commands"
