@@ -37,6 +37,10 @@ The margin is N rows and columns more on each side: 1 where it isn't given for w
 of a predecessor it is the other way round, and of an orphan the pattern is dead there. Round the grid everything stays dead. Where a
 question leaves out what a reader may think of, a note says so.
 
+Of a still life, an oscillator or a spaceship `--band N` leaves unknown only the box's cells of which row and column differ by N at most, and `--region PICTURE` those that are live in the
+picture, whose top left cell is the box's; the others are dead in generation 0. `--fewest phase`, of an oscillator or a spaceship, leaves generation 0 unknown in all of the grid, as the others are: then the fewest
+live cells that `least` finds there are the fewest of all phases.
+
 The picture of an eater stands with its top left cell X columns to the right of the box's and Y rows below, also to the left and above (-3,-2); the margin is on each side of both, and
 dead when the pattern comes.
 
@@ -118,6 +122,35 @@ def eater(width, height, later, name, at, margin):
     generations = [first] + [unknown_like(first)] * (later - 1) + [last, last]
     notes = [*picture.notes, f"all happens in the grid of {columns} by {rows}; --margin {margin + 1} leaves more room"]
     return Question(generations, ([f"--rule {rule}"] if rule else []) + [f"--live {later}:1-"], notes)
+
+
+def narrowed(question, is_unknown):
+    """Makes the unknown cells of generation 0 dead that aren't wanted, by their columns and rows counted from those of the first unknown ones."""
+    first = question.generations[0]
+    unknown = [(x, y) for y, row in enumerate(first) for x, word in enumerate(row) if word == "*"]
+    left, top = min(x for x, _ in unknown), min(y for _, y in unknown)
+    keeps = lambda x, y, word: word if word != "*" or is_unknown(x - left, y - top) else "0"
+    question.generations[0] = [[keeps(x, y, word) for x, word in enumerate(row)] for y, row in enumerate(first)]
+    if not any("*" in row for row in question.generations[0]):
+        raise BadQuestion("no cell of the box is left unknown")
+
+
+def region_of(name):
+    """Returns the columns and rows of a picture's live cells."""
+    try:
+        with open(name, encoding="utf-8", errors="replace") as file:
+            rows = pictures_of(file.read())[0].rows
+    except OSError as fault:
+        raise BadQuestion(f"{name}: {fault.strerror}") from None
+    except BadPicture as fault:
+        raise BadQuestion(f"{name}: {fault}") from None
+    return {(x, y) for y, row in enumerate(rows) for x, cell in enumerate(row) if cell}
+
+
+def of_any_phase(question):
+    """Leaves generation 0 as unknown as the later ones are."""
+    question.generations[0] = question.generations[1]
+    question.notes.append("generation 0 is any phase, so the fewest live cells of it are the fewest of all phases")
 
 
 def phases_note(rows, margin):
@@ -296,12 +329,25 @@ def question_of_words():
             words.add_argument("--back", metavar="N", type=size, default=1)
         if kind is not torus:
             words.add_argument("--margin", metavar="N", type=margin_size, default=int(kind in (oscillator, rotor, spaceship, glide)) or 2 * (kind is eater))
+        if kind in (still, oscillator, spaceship):
+            words.add_argument("--band", metavar="N", type=margin_size)
+            words.add_argument("--region", metavar="PICTURE")
+        if kind in (oscillator, spaceship):
+            words.add_argument("--fewest", choices=("phase",))
         words.add_argument("-o", metavar="FILE", dest="out")
         words.set_defaults(ask=kind)
     values = vars(parser.parse_args())
     values.pop("kind")
-    out = values.pop("out")
-    return values.pop("ask")(**values), out
+    out, band, region, fewest = (values.pop(name, None) for name in ("out", "band", "region", "fewest"))
+    question = values.pop("ask")(**values)
+    if band is not None:
+        narrowed(question, lambda x, y: abs(x - y) <= band)
+    if region is not None:
+        cells = region_of(region)
+        narrowed(question, lambda x, y: (x, y) in cells)
+    if fewest:
+        of_any_phase(question)
+    return question, out
 
 
 def text_of(question):

@@ -244,6 +244,21 @@ def animation(files):
     return document(left, bottom, elements)
 
 
+def phase_note(headline, generations):
+    """Says of a line that tells the fewest or the most live cells of generation 0 which later generation has fewer or more, or returns None."""
+    said = re.fullmatch(r"(least|at most|most|at least) ([0-9]+)", headline[0] if headline else "")
+    if not said or not is_known(generations):
+        return None
+    word, number = said[1], int(said[2])
+    counts = [len(live_cells(rows)) for rows in generations]
+    best = (min if word in ("least", "at most") else max)(counts)
+    if best == counts[0]:
+        return None
+    bound = f"0:-{best}" if best < number else f"0:{best}-"
+    more = f"`--live {bound}` goes on" if word.startswith("at ") else "`tools/pose.py --fewest phase` asks for any phase"
+    return f"generation {counts.index(best)} has {best}: where the file is the same in each generation, {more}"
+
+
 def read_inputs(names):
     """Returns the texts of the named files, or that of the standard input."""
     if not names:
@@ -303,6 +318,9 @@ def main():
     columns = words.width or shutil.get_terminal_size().columns
     for headline, generations in zip(headlines, files):
         print("\n".join(headline + drawn(generations, columns)))
+        note = phase_note(headline, generations)
+        if note:
+            print(f"show.py: note: {note}", file=sys.stderr)
     return status
 
 

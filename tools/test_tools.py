@@ -140,6 +140,17 @@ class Show(unittest.TestCase):
         with open(f"{TOP}/docs/symmetries.svg", encoding="utf-8") as file:
             self.assertEqual(ran("tools/show.py", "examples/symmetries.lls", "--svg", "-")[1], file.read())
 
+    def test_a_later_phase_with_fewer_or_more(self):
+        rows = [
+            ("least 2\n1 1\n\n1 0\n", "generation 1 has 1: where the file is the same in each generation, `tools/pose.py --fewest phase` asks for any phase"),
+            ("at most 2\n1 1\n\n1 0\n", "generation 1 has 1: where the file is the same in each generation, `--live 0:-1` goes on"),
+            ("at least 1\n1 0\n\n0 0\n\n1 1\n", "generation 2 has 2: where the file is the same in each generation, `--live 0:2-` goes on"),
+        ]
+        for text, note in rows:
+            self.assertEqual(ran("tools/show.py", text=text)[2], f"show.py: note: {note}\n")
+        for text in ("least 1\n1 0\n\n1 1\n", "most 2\n1 1\n", "1 1\n\n1 0\n"):
+            self.assertEqual(ran("tools/show.py", text=text)[2], "")
+
     def test_status_of_the_search_in_front(self):
         rows = [("no pattern\n", 20), ("undecided\n", 30), ("1\n", 10), ("least 1\n1\n", 10), ("at most 1\n1\n", 30), ("most 1\n1\n", 10), ("at least 0\n0\n", 30), ("B3/S23\n1\n", 10)]
         for text, status in rows:
@@ -192,6 +203,19 @@ class Pose(unittest.TestCase):
             note = f"note: oscillators of period {left} fit too\n" if left else ""
             room = "note: all phases have to lie in the grid of 1 by 1; --margin 1 leaves them more room\n"
             self.assertEqual(err, f"options: --period {period} --differ {differ}\n{note}{room}")
+
+    def test_bands_regions_and_phases(self):
+        self.assertEqual(self.posed("still", 3, 3, "--band", 1)[0].split("\n\n")[0], "#! --period 1 --live 0:1-\n* * 0\n* * *\n0 * *")
+        with tempfile.NamedTemporaryFile("w", suffix=".rle") as picture:
+            picture.write("x = 3, y = 2, rule = B3/S23\nobo$bo!\n")
+            picture.flush()
+            self.assertEqual(self.posed("oscillator", 3, 3, 2, "--margin", 0, "--region", picture.name)[0].split("\n\n")[0], "#! --period 2 --differ 0,1\n* 0 *\n0 * 0\n0 0 0")
+        out, err = self.posed("oscillator", 1, 1, 2, "--fewest", "phase")
+        free = "* * *\n* * *\n* * *\n"
+        self.assertEqual(out, "#! --period 2 --differ 0,1\n" + "\n".join([free] * 3))
+        self.assertIn("note: generation 0 is any phase, so the fewest live cells of it are the fewest of all phases\n", err)
+        status, _, err = ran("tools/pose.py", "still", "1", "1", "--region", "/no/such")
+        self.assertEqual((status, err), (2, "pose.py: /no/such: No such file or directory\n"))
 
     def test_spaceship_has_room_to_move(self):
         out, err = self.posed("spaceship", 2, 1, 1, -1, 2, "--margin", 0)
