@@ -40,6 +40,18 @@ fn literal(number: i32) -> Result<Lit, Fail>
     Ok(lit)
 }
 
+// The literals that DIMACS writes so.
+fn literals(numbers: &[i32; 4]) -> Result<[Lit; 4], Fail>
+    ensures { IfOk result (λ lits. is_within VARS lits ≡ true) }
+{
+    Ok([
+        literal(numbers[0])?,
+        literal(numbers[1])?,
+        literal(numbers[2])?,
+        literal(numbers[3])?,
+    ])
+}
+
 // Adds a clause under the next id.
 fn add<S: Store>(store: &mut S, trail: &Trail, numbers: &[i32; 4]) -> Result<(), Fail>
     requires vars { trail.now.vars ≡ VARS }
@@ -50,12 +62,7 @@ fn add<S: Store>(store: &mut S, trail: &Trail, numbers: &[i32; 4]) -> Result<(),
     ensures sound { IsSound (S.state store.new).live trail.now }
     ensures at_rest { IsAtRest (S.state store.new) }
 {
-    let lits = [
-        literal(numbers[0])?,
-        literal(numbers[1])?,
-        literal(numbers[2])?,
-        literal(numbers[3])?,
-    ];
+    let lits = literals(numbers)?;
     let count = store.count();
     if trail.current() > 0 || count >= MOST_CLAUSES {
         return Err(Fail::from("level 0, and a number that is left"));
@@ -179,17 +186,35 @@ fn assert_told(rt: &impl Abort, analyser: &Analyser) -> Result<(), Fail> {
     Ok(())
 }
 
+fn conflict_as_worked<S: Store>(
+    rt: &impl Abort,
+    alloc: Global,
+    store: &mut S,
+    trail: &mut Trail,
+    analyser: &mut Analyser,
+    log: &mut Log,
+) -> Result<(), Fail>
+    requires vars { trail.old.vars ≡ VARS }
+    requires tracked { S.tracks store.old trail.old }
+    requires sound { IsSound (S.state store.old).live trail.old }
+    requires at_rest { IsAtRest (S.state store.old) }
+    requires analyser { analyser.old.vars ≡ VARS }
+{
+    fill_and_decide(store, trail)?;
+    let learnt = learn(store, trail, analyser, log)?;
+    assert_learnt(rt, alloc, learnt, log)?;
+    assert_told(rt, analyser)
+}
+
 // Back from the last clause -6 gives way, which brings -2; then -5 alone is of the current level. The others imply -7 by the
 // first clause, and -3 by the third, so -5 -2 is left. Its hints are those of 7, 3 and 6, and then the last clause. Resolution came
 // by the four literals of the last clause and then by -2, and took the last clause and that of 6, which are 5 and 4 from 0.
 #[test]
 fn a_conflict_is_learnt_as_worked(rt: HostRuntime) -> Result<(), Fail> {
-    let mut store = ScanStore::new(rt.alloc(), VARS);
-    let mut trail = Trail::new(rt.alloc(), VARS)?;
-    let mut analyser = Analyser::new(rt.alloc(), VARS)?;
-    let mut log = Log::new(rt.alloc());
-    fill_and_decide(&mut store, &mut trail)?;
-    let learnt = learn(&mut store, &mut trail, &mut analyser, &mut log)?;
-    assert_learnt(&rt, rt.alloc(), learnt, &log)?;
-    assert_told(&rt, &analyser)
+    let alloc = rt.alloc();
+    let mut trail = Trail::new(alloc, VARS)?;
+    let mut analyser = Analyser::new(alloc, VARS)?;
+    let mut store = ScanStore::new(alloc, VARS);
+    let mut log = Log::new(alloc);
+    conflict_as_worked(&rt, alloc, &mut store, &mut trail, &mut analyser, &mut log)
 }

@@ -67,6 +67,24 @@ fn assert_finished(
     Ok(())
 }
 
+// Searcher 1 has a turn, and then searcher 0, which ends it.
+fn take_turns_by_hand(rt: &impl Abort, alloc: Global, crew: &mut Crew) -> Result<(), Fail>
+    requires { length crew.old.held ≡ 2 }
+{
+    assert_turn(rt, alloc, crew, 1, Turned::Going)?;
+    assert_held(
+        rt,
+        crew,
+        1,
+        &[(0, false), (1, true), (4, true), (5, true), (6, false)],
+    );
+    assert_held(rt, crew, 0, &[(0, false), (1, true), (4, true), (5, false)]);
+    assert_turn(rt, alloc, crew, 0, Turned::Ended)?;
+    assert_held(rt, crew, 0, &[(4, true), (5, true), (6, false)]);
+    assert_turn(rt, alloc, crew, 0, Turned::Ended)?;
+    assert_turn(rt, alloc, crew, 1, Turned::Ended)
+}
+
 // Two turns by different searchers refute the square: the second one begins with what the first one learnt. Searcher 1 takes 1 as true
 // first. Of the two clauses that watch -1 the later one comes first, and forces -2; then the third is false, and -1 is learnt. Searcher 0 has
 // -1 from level 0 on, and by the second clause -2, so that the first is false. After that nothing changes.
@@ -74,23 +92,7 @@ fn assert_finished(
 fn turns_by_hand(rt: HostRuntime) -> Result<(), Fail> {
     let formula = square(&rt, rt.alloc())?;
     let mut crew = Crew::new(rt.alloc(), &formula, 2, 10, true)?;
-    assert_turn(&rt, rt.alloc(), &mut crew, 1, Turned::Going)?;
-    assert_held(
-        &rt,
-        &crew,
-        1,
-        &[(0, false), (1, true), (4, true), (5, true), (6, false)],
-    );
-    assert_held(
-        &rt,
-        &crew,
-        0,
-        &[(0, false), (1, true), (4, true), (5, false)],
-    );
-    assert_turn(&rt, rt.alloc(), &mut crew, 0, Turned::Ended)?;
-    assert_held(&rt, &crew, 0, &[(4, true), (5, true), (6, false)]);
-    assert_turn(&rt, rt.alloc(), &mut crew, 0, Turned::Ended)?;
-    assert_turn(&rt, rt.alloc(), &mut crew, 1, Turned::Ended)?;
+    take_turns_by_hand(&rt, rt.alloc(), &mut crew)?;
     assert_finished(
         &rt,
         rt.alloc(),

@@ -117,17 +117,35 @@ fn assert_outcome(
     Ok(())
 }
 
+// Searches a row's formula into a log, and compares what it comes to.
+fn search(
+    rt: &impl Abort,
+    alloc: Global,
+    formula: &Formula,
+    row: &Row,
+    log: &mut Log,
+) -> Result<(), Fail>
+    requires { log.old.steps ≡ [] }
+{
+    let (_, phases, budget, keep_all, values, _) = *row;
+    assert!(rt; budget <= MOST_BUDGET);
+    let outcome = solve_from(alloc, formula, phases, RESTLESS, budget, keep_all, log)?;
+    assert_outcome(rt, formula, &outcome, values)
+}
+
+fn assert_steps(rt: &impl Abort, alloc: Global, log: &Log, steps: &str) -> Result<(), Fail> {
+    let text = print_log(alloc, log)?;
+    assert!(rt; text.as_slice() == steps.as_bytes());
+    Ok(())
+}
+
 fn compare(rt: &impl Abort, alloc: Global, row: &Row) -> Result<(), Fail> {
-    let (text, phases, budget, keep_all, values, steps) = *row;
-    assert!(rt; text.len() <= MOST_DIMACS_BYTES && budget <= MOST_BUDGET);
+    let (text, _, _, _, _, steps) = *row;
+    assert!(rt; text.len() <= MOST_DIMACS_BYTES);
     let formula = read_dimacs(alloc, text)?;
     let mut log = Log::new(alloc);
-    let outcome = solve_from(
-        alloc, &formula, phases, RESTLESS, budget, keep_all, &mut log,
-    )?;
-    assert_outcome(rt, &formula, &outcome, values)?;
-    assert!(rt; print_log(alloc, &log)?.as_slice() == steps.as_bytes());
-    Ok(())
+    search(rt, alloc, &formula, row, &mut log)?;
+    assert_steps(rt, alloc, &log, steps)
 }
 
 #[test]

@@ -78,12 +78,16 @@ fn delete_more(rt: &impl Abort, alloc: Global, checker: &mut Checker) -> Result<
     Ok(())
 }
 
+fn follow(rt: &impl Abort, alloc: Global, checker: &mut Checker) -> Result<(), Fail> {
+    compare(rt, checker, 0);
+    add_and_delete(rt, alloc, checker)?;
+    add_more(rt, alloc, checker)?;
+    delete_more(rt, alloc, checker)
+}
+
 #[test]
 fn the_buffer_follows_the_live_clauses(rt: HostRuntime) -> Result<(), Fail> {
     let formula = formula(&rt, rt.alloc())?;
     let mut checker = Checker::new(rt.alloc(), &formula)?;
-    compare(&rt, &checker, 0);
-    add_and_delete(&rt, rt.alloc(), &mut checker)?;
-    add_more(&rt, rt.alloc(), &mut checker)?;
-    delete_more(&rt, rt.alloc(), &mut checker)
+    follow(&rt, rt.alloc(), &mut checker)
 }

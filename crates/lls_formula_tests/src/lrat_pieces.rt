@@ -74,6 +74,48 @@ fn long_text(alloc: Global, hints: u32, last: &str) -> Result<Vec<u8>, Fail> {
     Ok(text)
 }
 
+// What a text comes to in pieces of one size.
+fn compare_pieces(
+    rt: &impl Abort,
+    alloc: Global,
+    text: &[u8],
+    size: usize,
+    want: &str,
+) -> Result<(), Fail> {
+    assert!(rt; size > 0);
+    let formula = formula(rt, alloc)?;
+    let mut feed = Feed::new(alloc, &formula)?;
+    for piece in text.chunks(size) {
+        let _ = feed.feed(piece);
+    }
+    let found = outcome(alloc, feed.end())?;
+    assert!(rt; found.as_str() == want, "in pieces of {size}");
+    Ok(())
+}
+
+// What it comes to whole.
+fn compare_whole(rt: &impl Abort, alloc: Global, text: &[u8], want: &str) -> Result<(), Fail> {
+    let formula = formula(rt, alloc)?;
+    let found = outcome(alloc, check_bytes(alloc, &formula, text))?;
+    assert!(rt; found.as_str() == want);
+    Ok(())
+}
+
+fn compare_long(
+    rt: &impl Abort,
+    alloc: Global,
+    hints: u32,
+    last: &str,
+    want: &str,
+) -> Result<(), Fail> {
+    let text = long_text(alloc, hints, last)?;
+    compare_whole(rt, alloc, &text, want)?;
+    for size in [1, 7, 64, 100_000] {
+        compare_pieces(rt, alloc, &text, size, want)?;
+    }
+    Ok(())
+}
+
 #[test]
 fn pieces_come_to_what_the_whole_does(rt: HostRuntime) -> Result<(), Fail> {
     let rows = [
@@ -84,21 +126,8 @@ fn pieces_come_to_what_the_whole_does(rt: HostRuntime) -> Result<(), Fail> {
         (400, " x 0\n7 0 6 2 4 0\n", "BadWord 2 807"),
         (400, " 0 \r\n6 0 5 2 4 0", "IdLive 3 6"),
     ];
-    let alloc = rt.alloc();
-    let formula = formula(&rt, alloc)?;
     for (hints, last, want) in rows {
-        let text = long_text(alloc, hints, last)?;
-        let whole = outcome(alloc, check_bytes(alloc, &formula, &text))?;
-        assert!(rt; whole.as_str() == want);
-        for size in [1, 7, 64, 100_000] {
-            assert!(rt; size > 0);
-            let mut feed = Feed::new(alloc, &formula)?;
-            for piece in text.chunks(size) {
-                let _ = feed.feed(piece);
-            }
-            let found = outcome(alloc, feed.end())?;
-            assert!(rt; found.as_str() == want, "in pieces of {size}");
-        }
+        compare_long(&rt, rt.alloc(), hints, last, want)?;
     }
     Ok(())
 }
