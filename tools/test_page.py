@@ -182,7 +182,9 @@ class OfRuns(Served):
         self.assertTrue(any("the box" in text for text in found["leaves_out"]) and any("ring" in text for text in found["leaves_out"]))
         checked = self.ended(self.begun("check", options={"period": "1", "live": "0:1-3"}, of=found["name"]))
         self.assertEqual((checked["status"], checked["answer"]), (0, "accepted\n"))
-        self.assertEqual(self.ended(self.begun("judge", pattern="1 1\n1 1\n"))["answer"], "meets\n")
+        judged = self.ended(self.begun("judge", pattern="1 1\n1 1\n"))
+        self.assertEqual(judged["answer"], "meets\n")
+        self.assertEqual(self.ask("publish", run=judged["name"], name="judged")["files"], ["README.txt", "answer", "pattern", "question.lls"])
 
     def test_a_run_that_is_stopped_leaves_nothing_half(self):
         run = self.begun(options={"budget": "7"})

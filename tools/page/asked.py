@@ -153,7 +153,7 @@ def rle_of(pattern, rule):
 
 def checking(command, given, status, answer):
     """Returns the command line by which anyone checks an answer of a published folder, or None where it has none."""
-    if command in ("search", "spread") and status == 10:
+    if command in ("search", "spread") and status == 10 or command == "judge" and status in (0, 1):
         return "./lls judge question.lls pattern"
     if command in ("search", "spread", "check", "least", "most") and status in (0, 20):
         return "./lls check question.lls proof.lrat"

@@ -100,7 +100,7 @@ class Runs:
                 if "ended" not in run.said:
                     self.end(run, None, STOPPED)
 
-    def command_line(self, command, options, run):
+    def command_line(self, command, options):
         """Returns the words of a run's process, which runs in its folder."""
         if command == "spread":
             return [sys.executable, os.path.join(TOOLS, "page", "spreading.py"), self.program, QUESTION, PROOF, ANSWER, *options]
@@ -127,7 +127,7 @@ class Runs:
                     write(run.path(file), text)
             run.keep()
             with open(run.path(ANSWER), "wb") as answer, open(run.path(SAID), "wb") as said:
-                run.process = subprocess.Popen(self.command_line(command, options, run), cwd=run.folder, stdin=subprocess.DEVNULL, stdout=answer, stderr=said, start_new_session=True)
+                run.process = subprocess.Popen(self.command_line(command, options), cwd=run.folder, stdin=subprocess.DEVNULL, stdout=answer, stderr=said, start_new_session=True)
         threading.Thread(target=self.wait, args=(run,), daemon=True).start()
         return run
 

@@ -258,7 +258,11 @@ class Page:
             rows = below if is_headed else answer
             files[PATTERN] = rows.encode()
             files["pattern.rle"] = asked.rle_of(rows, head if said["command"] == "open" else given.get("rule") or spoken.LIFE).encode()
+        if said["command"] == "judge":
+            files[PATTERN] = text_of(run.path(PATTERN)).encode()
         line = asked.checking(said["command"], given, said["status"], answer)
+        if said["command"] == "judge" and not re.fullmatch(rb"[01 \n]*", files[PATTERN]):
+            line += " --as rle"
         told = [whole["says"], *(f"- {text}" for text in whole["leaves_out"]), "", f"The question is {QUESTION}: its line `#!` has the options, and docs/formats.md of `lls` says what the rest means."]
         if line and (PROOF in files or "judge" in line):
             told += ["To check it, in a copy of `lls`, with these files beside it:", "", f"    {line}", ""]
