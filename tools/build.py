@@ -5,8 +5,7 @@
 
 The kit keeps to itself a copy of crates/ in which it proves. So each worker has a copy of its own, at first with no more than the sources. It
 takes the next library whose own ones are done, first the one that most work waits for, and builds it there, over those that stand in this
-repository's crates/, where each that is built is put. The longest chain of libraries takes longer than all others side by side, so its next one gets half of the processors at
-least, also where other workers have them. What was built there before is taken by the kit where its files are the same, so a build
+repository's crates/, where each that is built is put. What was built there before is taken by the kit where its files are the same, so a build
 that is ended goes on from there. What the kit says goes into LOG. There are as many workers as processors, and as memory holds. At last
 the kit builds CRATE in its place and runs it on the words. Says on the standard error what is proved, and ends with the kit's status, or
 with 1 where a library isn't proved.
@@ -23,6 +22,7 @@ TOP = os.path.dirname(os.path.dirname(os.path.abspath(__file__)))
 CRATES = f"{TOP}/crates"
 # What a proof may take of memory, in bytes, with one job.
 ROOM = 4_500_000_000
+PARTS = ("src", "specs", "proofs")
 
 
 def uses_of(text):
@@ -41,8 +41,8 @@ def below(uses, crate):
 
 
 def lines_of(crate):
-    """Returns how many lines of code a crate has, by which its cost is guessed: those of its proofs say less of that."""
-    files = [f"{at}/{name}" for at, _, names in os.walk(f"{CRATES}/{crate}/src") for name in names]
+    """Returns how many lines a crate has, by which its cost is guessed."""
+    files = [f"{at}/{name}" for part in PARTS for at, _, names in os.walk(f"{CRATES}/{crate}/{part}") for name in names]
     return sum(open(it, "rb").read().count(b"\n") for it in files)
 
 
@@ -90,16 +90,14 @@ class Build:
         self.at, self.failed, self.turn = 0, None, threading.Condition()
 
     def next(self):
-        """Returns a library whose own ones are done, and how many processors it gets; None where none is left."""
+        """Returns a library whose own ones are done, and how many processors are free for it; None where none is left."""
         with self.turn:
             while self.left and not self.failed:
                 ready = [it for it in self.left if all(below in self.done for below in self.uses[it])]
                 if ready:
-                    processors, is_longest = len(os.sched_getaffinity(0)), ready[0] == self.left[0]
                     self.left.remove(ready[0])
                     self.at += 1
-                    free = (processors - self.at + 1) // len(ready)
-                    return ready[0], max(1, free, processors // 2 if is_longest else 1)
+                    return ready[0], max(1, (len(os.sched_getaffinity(0)) - self.at + 1) // len(ready))
                 self.turn.wait()
             return None
 
