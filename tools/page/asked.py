@@ -11,7 +11,7 @@ CELL = re.compile(r"(?:[01*]|-?[A-Za-z][A-Za-z0-9]{0,31})'?")
 COMMANDS = {"search": True, "least": True, "most": True, "open": True, "judge": False, "check": False, "spread": True}
 # What is said of the question, and what only of how it is searched.
 ASKING = ("rule", "low", "high", "edge", "symmetry", "period", "live", "differ", "formula")
-LOGS = "undecided: the budget is spent, and nothing is known. A greater budget, another manner or pieces (spread) go on."
+UNDECIDED = "undecided: the budget is spent, and nothing is known. A greater budget, another manner or pieces (spread) go on."
 
 
 class BadQuestion(Exception):
@@ -120,7 +120,7 @@ def says(command, cells, given, status, answer):
     """Returns what an answer says in a sentence, and sentences on what it doesn't say."""
     head = answer.split("\n", 1)[0]
     if status == 30:
-        return (f"{head}: the pattern below fits, and the budget didn't tell whether there is one beyond it." if head.startswith(("at most", "at least")) else LOGS), []
+        return (f"{head}: the pattern below fits, and the budget didn't tell whether there is one beyond it." if head.startswith(("at most", "at least")) else UNDECIDED), []
     if command == "judge":
         return ("The pattern fits the question." if status == 0 else f"The pattern doesn't fit: {head.removeprefix('broken: ')}."), []
     if command == "check":

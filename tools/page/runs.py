@@ -1,4 +1,5 @@
 """Runs of the program that the page began: each in a folder of its own, with its question, its answer and its proof."""
+import contextlib
 import json
 import os
 import shutil
@@ -156,11 +157,13 @@ class Runs:
             if process is None:
                 return
             run.said["stopping"] = True
+        # It may have ended by itself just now.
+        with contextlib.suppress(ProcessLookupError):
             os.killpg(process.pid, signal.SIGTERM)
-        try:
-            process.wait(5)
-        except subprocess.TimeoutExpired:
-            os.killpg(process.pid, signal.SIGKILL)
+            try:
+                process.wait(5)
+            except subprocess.TimeoutExpired:
+                os.killpg(process.pid, signal.SIGKILL)
         while run.is_running():
             time.sleep(0.01)
 

@@ -131,8 +131,8 @@ class Page:
             write(os.path.join(room, PROOF), "")
             line = [tried, QUESTION, *([PROOF] if tried == "opencheck" else []), *asked.options_of(tried, options)]
             try:
-                with open(os.path.join(room, "out"), "wb") as out:
-                    ran = subprocess.run([self.program, *line], cwd=room, stdin=subprocess.DEVNULL, stdout=out, stderr=subprocess.PIPE, timeout=SECONDS, check=False)
+                # The formula itself isn't wanted, and may be large.
+                ran = subprocess.run([self.program, *line], cwd=room, stdin=subprocess.DEVNULL, stdout=subprocess.DEVNULL, stderr=subprocess.PIPE, timeout=SECONDS, check=False)
             except subprocess.TimeoutExpired:
                 return {"status": 0, "said": ""}
             said = ran.stderr.decode(errors="replace").strip()
