@@ -19,14 +19,16 @@ use Rattle.lls_encode.specs.Place.{inputs_at}
 use Rattle.lls_encode.specs.History.{HasAssignment}
 use Rattle.lls_encode.specs.Parts.{MeetsBefore, MeetsAfter, HasExtension, after_part}
 use Rattle.std.proofs.Math.Seq.{take-append_seam}
-use Rattle.lls_encode.specs.Formula.{fixed_clauses, same, name_literal, has_name, tied_to, name_clauses, first_framed, framed_count, framed, cubes_of, clauses_at, place_clauses, line_clauses, generation_clauses, transitions_by, fixed_part, name_part, symmetry_part, period_part, front_part, transition_part, bounds_part, bounds_vars, difference_base, difference_part, formula_of}
+use Rattle.lls_problem.specs.Exact.{excluded}
+use Rattle.lls_encode.specs.Formula.{fixed_clauses, same, name_literal, has_name, tied_to, name_clauses, first_framed, framed_count, framed, cubes_of, clauses_at, place_clauses, line_clauses, generation_clauses, transitions_by, fixed_part, name_part, symmetry_part, period_part, front_part, transition_part, bounds_part, bounds_vars, difference_base, difference_part, asked_part, asked_vars, exact_part, formula_of}
 use Rattle.lls_encode.proofs.Steps.{flat_map-map}
 use Rattle.lls_encode.proofs.Framed.{IsFramedLine, framed_place, framed_both}
 use Rattle.lls_encode.proofs.Parts.{satisfies-append}
 use Rattle.lls_encode.proofs.Values.{HasCells, is_true-cell}
 use Rattle.lls_encode.proofs.Mirrored.{satisfies-symmetry_part}
 use Rattle.lls_encode.proofs.Returned.{satisfies-period_part}
-use Rattle.lls_encode.proofs.Differing.{marks_where, length-marks_where, count_of, HasCells-append, satisfies-difference_part}
+use Rattle.lls_encode.proofs.Differing.{marks_where, length-marks_where, count_of, HasCells-append, satisfies-asked_part}
+use Rattle.lls_encode.proofs.Unseen.{AreMarks, all_marks, length-all_marks, marks_behind, satisfies-exact_part}
 use Rattle.lls_encode.proofs.AllBounds.{AreBounds, HasCounters, satisfies-bounds_clauses, AllCount-append, has_counters}
 use Rattle.lls_encode.proofs.Satisfied.{satisfies-range, is_true-negation, is_literal, or_left}
 use Rattle.lls_encode.proofs.Obeyed.{cubes_contain, satisfies-by_successor}
@@ -175,7 +177,9 @@ has_extension p h values kept fitting has enough meets =
     let fit = AreBounds-fitting p fitting in
     let counters : HasCounters p values p.demands.bounds = has_counters p kept p.demands.bounds fit values enough in
     let before : List Bool = values ++ counters.more in
-    let marks : List Bool = marks_where p before p.demands.differ in
+    let asked : List Bool = marks_where p before p.demands.differ in
+    let unseen : List Bool = all_marks p h (excluded p.demands) in
+    let marks : List Bool = asked ++ unseen in
     let len : length before ≡ length values + bounds_vars p = omega (arith, length-append values counters.more, counters.count) in
     let has_before : HasCells p before h = HasCells-append p h values counters.more has enough in
     let has_all : HasCells p (before ++ marks) h = HasCells-append p h before marks has_before (omega (arith, len, enough)) in
@@ -183,10 +187,15 @@ has_extension p h values kept fitting has enough meets =
     satisfies-bounds_clauses p h (before ++ marks) has_all (length values) enough p.demands.bounds fit
     (AllCount-append p kept before marks (omega (arith, len, enough)) (length values) p.demands.bounds fit (omega (arith, len)) counters.counts) meets.populated in
     let difference : satisfies (before ++ marks) (difference_part p (length values + bounds_vars p)) ≡ true =
-    ap (λ base. satisfies (before ++ marks) (difference_part p base)) (sym len) ∙ satisfies-difference_part p h before has_before (omega (arith, len, enough)) fitting meets.differ in
+    ap (λ base. satisfies (before ++ marks) (difference_part p base)) (sym len)
+    ∙ satisfies-append (before ++ marks) (asked_part p (length before)) (exact_part p (length before + asked_vars p))
+    ∙ and_from _ _ (satisfies-asked_part p h before unseen has_before (omega (arith, len, enough)) fitting meets.differ)
+    (satisfies-exact_part p h (before ++ marks) has_all (length before + asked_vars p) fitting meets.exact
+    (subst (λ n. AreMarks (before ++ marks) (length before + n) unseen) (length-marks_where p before) (marks_behind before asked unseen))) in
     record {
       more = counters.more ++ marks;
-      count = length-append counters.more marks ∙ ap (λ n. n + length marks) counters.count ∙ ap (λ n. bounds_vars p + n) (length-marks_where p before);
+      count = length-append counters.more marks ∙ ap (λ n. n + length marks) counters.count
+          ∙ ap (λ n. bounds_vars p + n) (length-append asked unseen ∙ ap (λ n. n + length unseen) (length-marks_where p before) ∙ ap (λ n. asked_vars p + n) (length-all_marks p h (excluded p.demands)));
       satisfied = ap (λ vs. satisfies vs (after_part p (length values))) (sym (append_assoc values counters.more marks))
           ∙ satisfies-append (before ++ marks) (bounds_part p (length values)) (difference_part p (length values + bounds_vars p)) ∙ and_from _ _ bounds difference;
     }
@@ -223,7 +232,7 @@ HasAssignment-values_of p form kept fitting history solution =
     let cells : List Bool = cells_of history in
     let count : length cells ≡ length p.posed.cells = count_of p history kept solution.sizes in
     let after : HasExtension p cells = has_extension p history cells kept fitting (HasCells-cells_of p history kept solution.sizes) (omega (arith, count))
-    (record { populated = solution.populated; differ = solution.differ }) in
+    (record { populated = solution.populated; differ = solution.differ; exact = solution.exact }) in
     record {
       values = cells ++ after.more;
       count = length-values p form history kept solution.sizes after;

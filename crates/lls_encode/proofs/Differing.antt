@@ -1,4 +1,4 @@
--- The clauses of two generations that differ say that they do, and a solution's assignment satisfies them.
+-- The clauses of two generations that are asked to differ say that they do, and a solution's assignment satisfies them.
 use Rattle.std.proofs.Common.{◌≡◌, ◌<◌, ◌≤◌, ℕ, zero, suc, ◌+◌, ◌*◌, ◌/◌, ◌%◌, ℤ, pos, Bool, true, false, not, ◌&&◌, ◌||◌, List, [], ◌∷◌, ◌++◌, map, length, get_or, refl, sym, ap, ◌∙◌, arith, Option, None, Some, inl, inr, add-one}
 use Rattle.std.specs.List.{list_any, flat_map, range_with_len}
 use Rattle.std.specs.Option.{option_map_or}
@@ -16,7 +16,7 @@ use Rattle.lls_problem.specs.Problem.{PosedProblem, AreFitting}
 use Rattle.lls_problem.specs.Solution.{IsDifference, Differs}
 use Rattle.lls_problem.specs.Unlike.{differ}
 use Rattle.lls_problem.proofs.Places.{index_of-lt, at-in_grid}
-use Rattle.lls_encode.specs.Formula.{generation_size, cell_of_generation, difference_clauses, difference_variable, cell_difference, differing_clauses, difference_part, difference_vars}
+use Rattle.lls_encode.specs.Formula.{generation_size, cell_of_generation, difference_clauses, difference_variable, cell_difference, differing_clauses, asked_part, asked_vars}
 use Rattle.lls_encode.proofs.Differences.{cell_in_order}
 use Rattle.lls_encode.proofs.Satisfied.{is_literal, is_true-negation, satisfies-range, or_left, or_right}
 use Rattle.lls_encode.proofs.Parts.{satisfies-append, satisfied_in_range}
@@ -38,7 +38,7 @@ is_true-cell_of_generation p h values has t y x t_in row column =
     ∙ sym (at-in_grid p.posed p.rule h place has.sizes inside)
 
 -- what the two clauses of a cell say
-literal : (n : ℕ) → is_literal (pos (n + 1)) ≡ true
+pub literal : (n : ℕ) → is_literal (pos (n + 1)) ≡ true
 literal n = rw add-one refl
 
 satisfies-difference_clauses : (values : List Bool) (d a b : ℤ) → is_literal d ≡ true → is_literal a ≡ true → is_literal b ≡ true
@@ -73,20 +73,20 @@ told false true false is = cc
 told false false true is = cc
 told false false false is = refl
 
-differ-unequal : (a b : Bool) → (a ≡ b → ⊥) → differ a b ≡ true
+pub differ-unequal : (a b : Bool) → (a ≡ b → ⊥) → differ a b ≡ true
 differ-unequal true true other = absurd (other refl)
 differ-unequal true false other = refl
 differ-unequal false true other = refl
 differ-unequal false false other = absurd (other refl)
 
 -- some of the variables of a range is true
-record HasTrue (values : List Bool) (base a n : ℕ) : Type 0 where
-  k : ℕ
-  low : a ≤ k
-  high : k < a + n
-  holds : is_true values (difference_variable base k) ≡ true
+pub record HasTrue (values : List Bool) (base a n : ℕ) : Type 0 where
+  pub k : ℕ
+  pub low : a ≤ k
+  pub high : k < a + n
+  pub holds : is_true values (difference_variable base k) ≡ true
 
-some_true : (values : List Bool) (base a n : ℕ) → list_any (is_true values) (map (difference_variable base) (range_with_len a n)) ≡ true → HasTrue values base a n
+pub some_true : (values : List Bool) (base a n : ℕ) → list_any (is_true values) (map (difference_variable base) (range_with_len a n)) ≡ true → HasTrue values base a n
 some_true values base a zero any = cc
 some_true values base a (suc n) any =
     elim (is_true values (difference_variable base a))
@@ -97,7 +97,7 @@ some_true values base a (suc n) any =
           record { k = later.k; low = omega (arith, later.low); high = omega (arith, later.high); holds = later.holds }
     ] refl any
 
-any_true : (values : List Bool) (base a n k : ℕ) → a ≤ k → k < a + n → is_true values (difference_variable base k) ≡ true
+pub any_true : (values : List Bool) (base a n k : ℕ) → a ≤ k → k < a + n → is_true values (difference_variable base k) ≡ true
     → list_any (is_true values) (map (difference_variable base) (range_with_len a n)) ≡ true
 any_true values base a zero k low high holds = absurd (omega arith)
 any_true values base a (suc n) k low high holds =
@@ -141,7 +141,7 @@ differ_by_clauses p h values has base pair first second satisfied =
     )
 
 pub Differs-by_clauses : (p : PosedProblem) (h : History) (values : List Bool) → HasCells p values h → AreFitting p.posed p.demands → (base : ℕ)
-    → satisfies values (difference_part p base) ≡ true → Differs p h
+    → satisfies values (asked_part p base) ≡ true → Differs p h
 Differs-by_clauses p h values has fitting base satisfied = λ pair asked.
     differ_by_clauses p h values has base pair (fitting.named pair asked).0 (fitting.named pair asked).1
     (ap (λ o. satisfies values (option_map_or (differing_clauses p base) o [])) (sym asked) ∙ satisfied)
@@ -158,7 +158,7 @@ length-marks : (p : PosedProblem) (cells : List Bool) (asked : Option (ℕ × �
 length-marks p cells None = refl
 length-marks p cells (Some pair) = length-map-range_with_len _ 0 (generation_size p)
 
-pub length-marks_where : (p : PosedProblem) (cells : List Bool) → length (marks_where p cells p.demands.differ) ≡ difference_vars p
+pub length-marks_where : (p : PosedProblem) (cells : List Bool) → length (marks_where p cells p.demands.differ) ≡ asked_vars p
 length-marks_where p cells = length-marks p cells p.demands.differ
 
 -- as many cells as the file has
@@ -174,20 +174,21 @@ HasCells-append p h before more has enough = record {
 }
 
 -- the value of a variable of the difference, which stand behind others
-mark_value : (p : PosedProblem) (h : History) (before : List Bool) (pair : ℕ × ℕ) → HasCells p before h → length p.posed.cells ≤ length before → pair.0 < p.posed.generations → pair.1 < p.posed.generations
+mark_value : (p : PosedProblem) (h : History) (before more : List Bool) (pair : ℕ × ℕ) → HasCells p before h → length p.posed.cells ≤ length before → pair.0 < p.posed.generations → pair.1 < p.posed.generations
     → (k : ℕ) → k < generation_size p
-    → is_true (before ++ marks_of p before pair) (difference_variable (length before) k)
-    ≡ differ (is_true (before ++ marks_of p before pair) (cell_of_generation p pair.0 k)) (is_true (before ++ marks_of p before pair) (cell_of_generation p pair.1 k))
-mark_value p h before pair has enough first second k k_in =
+    → is_true (before ++ (marks_of p before pair ++ more)) (difference_variable (length before) k)
+    ≡ differ (is_true (before ++ (marks_of p before pair ++ more)) (cell_of_generation p pair.0 k)) (is_true (before ++ (marks_of p before pair ++ more)) (cell_of_generation p pair.1 k))
+mark_value p h before more pair has enough first second k k_in =
     let marks : List Bool = marks_of p before pair in
-    let value : (t : ℕ) → t < p.posed.generations → get_or before (k + generation_size p * t) false ≡ is_true (before ++ marks) (cell_of_generation p t k) = λ t t_in.
-    sym (is_true-cell (before ++ marks) (k + generation_size p * t)
-    ∙ get_or_append_left before marks false (k + generation_size p * t) (omega (arith, enough, cell_in_order p has.kept t k t_in k_in))) in
-    is_true-cell (before ++ marks) (length before + k)
-    ∙ get_or-append-add before marks k false
+    let value : (t : ℕ) → t < p.posed.generations → get_or before (k + generation_size p * t) false ≡ is_true (before ++ (marks ++ more)) (cell_of_generation p t k) = λ t t_in.
+    sym (is_true-cell (before ++ (marks ++ more)) (k + generation_size p * t)
+    ∙ get_or_append_left before (marks ++ more) false (k + generation_size p * t) (omega (arith, enough, cell_in_order p has.kept t k t_in k_in))) in
+    is_true-cell (before ++ (marks ++ more)) (length before + k)
+    ∙ get_or-append-add before (marks ++ more) k false
+    ∙ get_or_append_left marks more false k (omega (arith, k_in, length-map-range_with_len (λ k. differ (get_or before (k + generation_size p * pair.0) false) (get_or before (k + generation_size p * pair.1) false)) 0 (generation_size p)))
     ∙ get_or-map-range_with_len _ 0 (generation_size p) k k false k_in (omega arith)
     ∙ ap (λ a. differ a (get_or before (k + generation_size p * pair.1) false)) (value pair.0 first)
-    ∙ ap (differ (is_true (before ++ marks) (cell_of_generation p pair.0 k))) (value pair.1 second)
+    ∙ ap (differ (is_true (before ++ (marks ++ more)) (cell_of_generation p pair.0 k))) (value pair.1 second)
 
 -- a cell of the grid has a number
 number_in : (p : PosedProblem) (y x : ℕ) → y < p.posed.height → x < p.posed.width → x + p.posed.width * y < generation_size p
@@ -195,34 +196,34 @@ number_in p y x row column =
     let last : p.posed.width * (y + 1) ≤ p.posed.width * p.posed.height = mul-le-mul_left p.posed.width (omega arith) in
     omega (arith, last)
 
-satisfies-differing_clauses : (p : PosedProblem) (h : History) (before : List Bool) (pair : ℕ × ℕ) → HasCells p before h → length p.posed.cells ≤ length before
+satisfies-differing_clauses : (p : PosedProblem) (h : History) (before more : List Bool) (pair : ℕ × ℕ) → HasCells p before h → length p.posed.cells ≤ length before
     → pair.0 < p.posed.generations → pair.1 < p.posed.generations → (y : ℕ) × ((x : ℕ) × IsDifference p h pair.0 pair.1 y x)
-    → satisfies (before ++ marks_of p before pair) (differing_clauses p (length before) pair) ≡ true
-satisfies-differing_clauses p h before pair before_has enough first second (y, (x, difference)) =
+    → satisfies (before ++ (marks_of p before pair ++ more)) (differing_clauses p (length before) pair) ≡ true
+satisfies-differing_clauses p h before more pair before_has enough first second (y, (x, difference)) =
     let size : ℕ = generation_size p in
     let base : ℕ = length before in
-    let values : List Bool = before ++ marks_of p before pair in
-    let has : HasCells p values h = HasCells-append p h before (marks_of p before pair) before_has enough in
+    let values : List Bool = before ++ (marks_of p before pair ++ more) in
+    let has : HasCells p values h = HasCells-append p h before (marks_of p before pair ++ more) before_has enough in
     let k : ℕ = x + p.posed.width * y in
     let k_in : k < size = number_in p y x difference.row difference.column in
     let each : satisfies values (flat_map (cell_difference p base pair) (range_with_len 0 size)) ≡ true =
     satisfies-range values (cell_difference p base pair) 0 size (λ i low high.
     satisfies-cell_difference p values base pair i
-    ∙ told (is_true values (difference_variable base i)) (is_true values (cell_of_generation p pair.0 i)) (is_true values (cell_of_generation p pair.1 i)) (mark_value p h before pair before_has enough first second i (omega arith))) in
+    ∙ told (is_true values (difference_variable base i)) (is_true values (cell_of_generation p pair.0 i)) (is_true values (cell_of_generation p pair.1 i)) (mark_value p h before more pair before_has enough first second i (omega arith))) in
     let unequal : is_true values (cell_of_generation p pair.0 k) ≡ is_true values (cell_of_generation p pair.1 k) → ⊥ = λ same.
     difference.differs (sym (is_true-cell_of_generation p h values has pair.0 y x first difference.row difference.column) ∙ same
     ∙ is_true-cell_of_generation p h values has pair.1 y x second difference.row difference.column) in
-    let mark : is_true values (difference_variable base k) ≡ true = mark_value p h before pair before_has enough first second k k_in ∙ differ-unequal (is_true values (cell_of_generation p pair.0 k)) (is_true values (cell_of_generation p pair.1 k)) unequal in
+    let mark : is_true values (difference_variable base k) ≡ true = mark_value p h before more pair before_has enough first second k k_in ∙ differ-unequal (is_true values (cell_of_generation p pair.0 k)) (is_true values (cell_of_generation p pair.1 k)) unequal in
     satisfies-append values (flat_map (cell_difference p base pair) (range_with_len 0 size)) (map (difference_variable base) (range_with_len 0 size) ∷ [])
     ∙ and_from _ _ each (and_from _ _ (any_true values base 0 size k (omega arith) (omega (arith, k_in)) mark) refl)
 
-where_asked : (p : PosedProblem) (h : History) (before : List Bool) → HasCells p before h → length p.posed.cells ≤ length before → AreFitting p.posed p.demands → Differs p h
+where_asked : (p : PosedProblem) (h : History) (before more : List Bool) → HasCells p before h → length p.posed.cells ≤ length before → AreFitting p.posed p.demands → Differs p h
     → (asked : Option (ℕ × ℕ)) → p.demands.differ ≡ asked
-    → satisfies (before ++ marks_where p before asked) (option_map_or (differing_clauses p (length before)) asked []) ≡ true
-where_asked p h before has enough fitting differs None is = refl
-where_asked p h before has enough fitting differs (Some pair) is =
-    satisfies-differing_clauses p h before pair has enough (fitting.named pair is).0 (fitting.named pair is).1 (differs pair is)
+    → satisfies (before ++ (marks_where p before asked ++ more)) (option_map_or (differing_clauses p (length before)) asked []) ≡ true
+where_asked p h before more has enough fitting differs None is = refl
+where_asked p h before more has enough fitting differs (Some pair) is =
+    satisfies-differing_clauses p h before more pair has enough (fitting.named pair is).0 (fitting.named pair is).1 (differs pair is)
 
-pub satisfies-difference_part : (p : PosedProblem) (h : History) (before : List Bool) → HasCells p before h → length p.posed.cells ≤ length before → AreFitting p.posed p.demands → Differs p h
-    → satisfies (before ++ marks_where p before p.demands.differ) (difference_part p (length before)) ≡ true
-satisfies-difference_part p h before has enough fitting differs = where_asked p h before has enough fitting differs p.demands.differ refl
+pub satisfies-asked_part : (p : PosedProblem) (h : History) (before more : List Bool) → HasCells p before h → length p.posed.cells ≤ length before → AreFitting p.posed p.demands → Differs p h
+    → satisfies (before ++ (marks_where p before p.demands.differ ++ more)) (asked_part p (length before)) ≡ true
+satisfies-asked_part p h before more has enough fitting differs = where_asked p h before more has enough fitting differs p.demands.differ refl

@@ -15,6 +15,9 @@ pub mod Mirrored
 pub mod Returned
 pub mod Differences
 pub mod Differing
+pub mod Pairs
+pub mod Unseen
+pub mod Parted
 pub mod LiveCells
 pub mod Ends
 pub mod OneBound

@@ -9,7 +9,7 @@ use Rattle.lls_problem.specs.declared.form.Form.{Form}
 use Rattle.lls_problem.specs.Problem.{PosedProblem, AreFitting}
 use Rattle.lls_problem.specs.Solution.{cell_number}
 use Rattle.lls_transition.specs.Clause.{with_clauses}
-use Rattle.lls_encode.specs.Formula.{fixed_clauses, name_clauses, cubes_of, generation_clauses, generation_size, period_clauses, difference_variable, cell_difference, differing_clauses, fixed_part, name_part, symmetry_part, period_part, front_part, transition_part, bounds_part, bounds_vars, difference_base, difference_part, difference_vars, formula_of}
+use Rattle.lls_encode.specs.Formula.{fixed_clauses, name_clauses, cubes_of, generation_clauses, generation_size, period_clauses, difference_variable, cell_difference, differing_clauses, asked_part, asked_vars, exact_part, fixed_part, name_part, symmetry_part, period_part, front_part, transition_part, bounds_part, bounds_vars, difference_base, difference_part, difference_vars, formula_of}
 use Rattle.lls_encode.specs.Parts.{after_part, after_vars}
 use Rattle.lls_encode.specs.Room.{HasRoom, with_more}
 use Rattle.lls_encode.proofs.Steps.{length-flat_map_most, HasRoom-behind, with_clauses-append}
@@ -17,6 +17,7 @@ use Rattle.lls_encode.proofs.Bounds.{length-fixed_clauses, length-cubes_of, leng
 use Rattle.lls_encode.proofs.Firsts.{length-name_clauses}
 use Rattle.lls_encode.proofs.Differences.{generation_few}
 use Rattle.lls_encode.proofs.Counters.{length-bounds_clauses}
+use Rattle.lls_encode.proofs.Parted.{length-exact_part, few_exact_vars}
 
 -- how many clauses each part has
 length-fixed_part : (p : PosedProblem) → IsPosed p.posed → length (fixed_part p) ≤ 8192
@@ -55,26 +56,35 @@ length-transition_part p form kept =
           (λ t. length-generation_clauses p form (cubes_of form p.rule) (length-cubes_of form p.rule) t kept.width.1 kept.height.1) 0 (p.posed.generations - 1),
     )
 
-length-difference : (p : PosedProblem) → IsPosed p.posed → (base : ℕ) (asked : Option (ℕ × ℕ)) → length (option_map_or (differing_clauses p base) asked []) ≤ 8193
-length-difference p kept base None = omega arith
-length-difference p kept base (Some pair) =
+length-asked : (p : PosedProblem) → IsPosed p.posed → (base : ℕ) (asked : Option (ℕ × ℕ)) → length (option_map_or (differing_clauses p base) asked []) ≤ 8193
+length-asked p kept base None = omega arith
+length-asked p kept base (Some pair) =
     let cells = flat_map (cell_difference p base pair) (range_with_len 0 (generation_size p)) in
     let some : List Clause = map (difference_variable base) (range_with_len 0 (generation_size p)) ∷ [] in
     omega (arith, generation_few p kept, length-append cells some, length-flat_map_most (cell_difference p base pair) 2 (λ k. omega arith) 0 (generation_size p))
 
-length-difference_part : (p : PosedProblem) → IsPosed p.posed → (base : ℕ) → length (difference_part p base) ≤ 8193
-length-difference_part p kept base = length-difference p kept base p.demands.differ
+pub length-asked_part : (p : PosedProblem) → IsPosed p.posed → (base : ℕ) → length (asked_part p base) ≤ 8193
+length-asked_part p kept base = length-asked p kept base p.demands.differ
+
+length-difference_part : (p : PosedProblem) → IsPosed p.posed → AreFitting p.posed p.demands → (base : ℕ) → length (difference_part p base) ≤ 1056833
+length-difference_part p kept fitting base =
+    omega (
+      arith,
+      length-append (asked_part p base) (exact_part p (base + asked_vars p)),
+      length-asked_part p kept base,
+      length-exact_part p kept fitting (base + asked_vars p),
+    )
 
 length-bounds_part : (p : PosedProblem) → IsPosed p.posed → AreFitting p.posed p.demands → (base : ℕ) → length (bounds_part p base) ≤ 6000000
 length-bounds_part p kept fitting base = omega (arith, length-bounds_clauses p kept base p.demands.bounds, fitting.counters)
 
-pub length-after_part : (p : PosedProblem) → IsPosed p.posed → AreFitting p.posed p.demands → (base : ℕ) → length (after_part p base) ≤ 6008193
+pub length-after_part : (p : PosedProblem) → IsPosed p.posed → AreFitting p.posed p.demands → (base : ℕ) → length (after_part p base) ≤ 7056833
 length-after_part p kept fitting base =
     omega (
       arith,
       length-append (bounds_part p base) (difference_part p (base + bounds_vars p)),
       length-bounds_part p kept fitting base,
-      length-difference_part p kept (base + bounds_vars p),
+      length-difference_part p kept fitting (base + bounds_vars p),
     )
 
 -- and the variables behind those of the cells
@@ -82,8 +92,8 @@ few_where : (p : PosedProblem) → IsPosed p.posed → (asked : Option (ℕ × �
 few_where p kept None = omega arith
 few_where p kept (Some pair) = generation_few p kept
 
-pub few_after_vars : (p : PosedProblem) → IsPosed p.posed → AreFitting p.posed p.demands → after_vars p ≤ 1004096
-few_after_vars p kept fitting = omega (arith, fitting.counters, few_where p kept p.demands.differ)
+pub few_after_vars : (p : PosedProblem) → IsPosed p.posed → AreFitting p.posed p.demands → after_vars p ≤ 1528384
+few_after_vars p kept fitting = omega (arith, fitting.counters, few_where p kept p.demands.differ, few_exact_vars p kept fitting)
 
 -- all clauses together are few
 pub few_clauses : (p : PosedProblem) (form : Form) → IsPosed p.posed → AreFitting p.posed p.demands → length (formula_of p form).clauses < 200000000
@@ -97,7 +107,7 @@ few_clauses p form kept fitting =
       length-front_part p kept fitting,
       length-transition_part p form kept,
       length-bounds_part p kept fitting (length p.posed.cells),
-      length-difference_part p kept (difference_base p),
+      length-difference_part p kept fitting (difference_base p),
     )
 
 -- the front from its four parts
@@ -142,7 +152,7 @@ pub room_for_bounds : (p : PosedProblem) (form : Form) (front transitions : Cnf)
 room_for_bounds p form front transitions kept has is = HasRoom-behind front transitions (transition_part p form) 900000000 700000000 is (omega (arith, length-transition_part p form kept)) has
 
 pub room_for_difference : (p : PosedProblem) (transitions bounded : Cnf) → IsPosed p.posed → AreFitting p.posed p.demands → HasRoom transitions 700000000
-    → bounded ≡ with_more transitions (bounds_vars p) (bounds_part p transitions.vars) → HasRoom bounded 16385
+    → bounded ≡ with_more transitions (bounds_vars p) (bounds_part p transitions.vars) → HasRoom bounded 1081410
 room_for_difference p transitions bounded kept fitting has is =
     let count : length bounded.clauses ≡ length transitions.clauses + length (bounds_part p transitions.vars) =
     ap (λ (f : Cnf). length f.clauses) is ∙ length-append transitions.clauses (bounds_part p transitions.vars) in

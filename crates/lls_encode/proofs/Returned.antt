@@ -26,7 +26,7 @@ use Rattle.lls_encode.proofs.Alike.{equal_at, satisfies-same_at}
 use Rattle.lls_encode.proofs.Each.{Each-satisfied, satisfies-each}
 
 -- what an assignment says at a place, of any generation
-abbrev said : PosedProblem → List Bool → ℕ → ℤ → ℤ → Bool
+abbrev pub said : PosedProblem → List Bool → ℕ → ℤ → ℤ → Bool
 said p values t y x = value_of values (place_at p t y x)
 
 pair_equal : (p : PosedProblem) (values : List Bool) (pair : Moved) → satisfies values (moved_clauses p pair) ≡ true → IsMovedPair (said p values) pair

@@ -1,6 +1,6 @@
 -- The formula of a problem, by its parts: fixed cells, names, symmetry, period, transitions, bounds on live cells, differing
--- generations. The transitions are by its form.
-use Rattle.std.specs.Prelude.{ℕ, ◌+◌, ◌-◌, ◌*◌, ℤ, pos, negsuc, ◌-ℤ◌, Bool, true, false, ◌==◌, nat_le, List, [], ◌∷◌, ◌++◌, map, length, Option, None, Some, if◌then◌else◌}
+-- generations, exact period. The transitions are by its form.
+use Rattle.std.specs.Prelude.{ℕ, ◌+◌, ◌-◌, ◌*◌, ℤ, pos, negsuc, ◌-ℤ◌, Bool, true, false, ◌==◌, nat_le, List, [], ◌∷◌, ◌++◌, map, length, slice_index_or, Option, None, Some, if◌then◌else◌}
 use Rattle.std.specs.Option.{option_map_or, option_to_list}
 use Rattle.std.specs.List.{flat_map, range_with_len, position_from}
 use Rattle.lls_lit.specs.Literal.{negation}
@@ -15,7 +15,7 @@ use Rattle.lls_symmetry.specs.declared.pair.Pair.{Pair}
 use Rattle.lls_symmetry.specs.declared.moved.Moved.{Moved}
 use Rattle.lls_symmetry.specs.Symmetry.{generators_of}
 use Rattle.lls_symmetry.specs.Pairs.{motion_pairs}
-use Rattle.lls_symmetry.specs.Moved.{generation_moved}
+use Rattle.lls_symmetry.specs.Moved.{spot, generation_moved}
 use Rattle.lls_problem.specs.declared.demands.Edge.{Edge}
 use Rattle.lls_problem.specs.declared.demands.Edge.TheVariants.{Framed, Bare}
 use Rattle.lls_problem.specs.declared.demands.Period.{Period}
@@ -27,11 +27,13 @@ use Rattle.lls_problem.specs.Problem.{PosedProblem}
 use Rattle.lls_problem.specs.Solution.{cell_number, is_marked}
 use Rattle.lls_problem.specs.Unlike.{differ}
 use Rattle.lls_problem.specs.Losses.{course_of}
+use Rattle.lls_problem.specs.Exact.{excluded}
 use Rattle.lls_cube.specs.declared.cube.Cube.{Cube}
 use Rattle.lls_cube.specs.Table.{forbidden_rows}
 use Rattle.lls_cube.specs.Cube.{row_cube}
 use Rattle.lls_cube.specs.Cover.{cover_of}
 use Rattle.lls_transition.specs.declared.place.Place.{Place}
+use Rattle.lls_transition.specs.declared.place.Place.TheVariants.{Of}
 use Rattle.lls_transition.specs.declared.table.TheConstants.{INPUTS}
 use Rattle.lls_transition.specs.Clause.{differing, clause_of, cube_clauses, distinct}
 use Rattle.lls_transition.specs.Transition.{table_of}
@@ -196,6 +198,49 @@ differing_clauses p base pair =
     flat_map (cell_difference p base pair) (range_with_len 0 (generation_size p))
     ++ map (difference_variable base) (range_with_len 0 (generation_size p)) ∷ []
 
+-- where d is true, the values of two places differ: of each clause a known place that is false drops out, and it is left out where one is true
+abbrev pub any_of : ℤ → Place → Place → List Clause
+any_of d a b = option_to_list (clause_of (Of d ∷ a ∷ b ∷ []))
+
+abbrev pub unequal_clauses : ℤ → Place → Place → List Clause
+unequal_clauses d a b = any_of (negation d) a b ++ any_of (negation d) (differing a true) (differing b true)
+
+-- Of pairs of places, each with a variable behind the first `base`: where the kth variable is true, the places of the kth pair differ.
+abbrev pub pair_at : List Moved → ℕ → Moved
+pair_at pairs k = slice_index_or pairs k (record { early = spot 0 (pos 0) (pos 0); late = spot 0 (pos 0) (pos 0) })
+
+abbrev pub pair_difference : PosedProblem → ℕ → List Moved → ℕ → List Clause
+pair_difference p base pairs k =
+    let pair = pair_at pairs k in
+    unequal_clauses (difference_variable base k) (place_at p pair.early.t pair.early.y pair.early.x) (place_at p pair.late.t pair.late.y pair.late.x)
+
+-- and some of them is true
+abbrev pub unequal_pairs : PosedProblem → ℕ → List Moved → List Clause
+unequal_pairs p base pairs =
+    flat_map (pair_difference p base pairs) (range_with_len 0 (length pairs)) ++ map (difference_variable base) (range_with_len 0 (length pairs)) ∷ []
+
+-- Generation 0 isn't there again after a shorter period. Where the background isn't the same then, that needs no clause.
+abbrev pub has_other_background : PosedProblem → Period → Bool
+has_other_background p part = differ (background p.rule 0) (background p.rule part.length)
+
+abbrev pub pairs_of : PosedProblem → Period → List Moved
+pairs_of p part = generation_moved p.posed.height p.posed.width (course_of part 0)
+
+abbrev pub unseen_clauses : PosedProblem → ℕ → Period → List Clause
+unseen_clauses p base part = if has_other_background p part then [] else unequal_pairs p base (pairs_of p part)
+
+abbrev pub unseen_vars : PosedProblem → Period → ℕ
+unseen_vars p part = if has_other_background p part then 0 else length (pairs_of p part)
+
+-- of shorter periods one after another, each with variables of its own
+abbrev pub all_unseen : PosedProblem → ℕ → List Period → List Clause
+all_unseen p base [] = []
+all_unseen p base (part ∷ parts) = unseen_clauses p base part ++ all_unseen p (base + unseen_vars p part) parts
+
+abbrev pub all_unseen_vars : PosedProblem → List Period → ℕ
+all_unseen_vars p [] = 0
+all_unseen_vars p (part ∷ parts) = unseen_vars p part + all_unseen_vars p parts
+
 -- the parts in their order
 abbrev pub fixed_part : PosedProblem → List Clause
 fixed_part p = flat_map (λ k. fixed_clauses k (cell_number p.posed.cells k).kind) (range_with_len 0 (length p.posed.cells))
@@ -222,12 +267,25 @@ bounds_part p base = bounds_clauses p base p.demands.bounds
 abbrev pub bounds_vars : PosedProblem → ℕ
 bounds_vars p = all_counter_vars (generation_size p) p.demands.bounds
 
+-- two generations that are asked to differ, and behind them the shorter periods that an exact one excludes
+abbrev pub asked_part : PosedProblem → ℕ → List Clause
+asked_part p base = option_map_or (differing_clauses p base) p.demands.differ []
+
+abbrev pub asked_vars : PosedProblem → ℕ
+asked_vars p = option_map_or (λ pair. generation_size p) p.demands.differ 0
+
+abbrev pub exact_part : PosedProblem → ℕ → List Clause
+exact_part p base = all_unseen p base (excluded p.demands)
+
+abbrev pub exact_vars : PosedProblem → ℕ
+exact_vars p = all_unseen_vars p (excluded p.demands)
+
 abbrev pub difference_part : PosedProblem → ℕ → List Clause
-difference_part p base = option_map_or (differing_clauses p base) p.demands.differ []
+difference_part p base = asked_part p base ++ exact_part p (base + asked_vars p)
 
 -- and how many that has
 abbrev pub difference_vars : PosedProblem → ℕ
-difference_vars p = option_map_or (λ pair. generation_size p) p.demands.differ 0
+difference_vars p = asked_vars p + exact_vars p
 
 -- what stands before the transitions
 abbrev pub front_part : PosedProblem → List Clause

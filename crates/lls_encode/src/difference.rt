@@ -1,8 +1,8 @@
-// The clauses of two generations that differ.
+// The clauses of two generations that are asked to differ.
 ghost use Rattle.std.specs.Prelude.{◌≡◌, ◌<◌, ◌≤◌, ◌+◌, ◌*◌, ℤ, pos, [], ◌∷◌, length, true, OnOk};
 ghost use Rattle.lls_lit.specs.Formula.{is_within};
 ghost use Rattle.lls_transition.specs.Clause.{with_clauses};
-ghost use Rattle.lls_encode.specs.Formula.{generation_size, difference_clauses, difference_variable, differing_clauses, difference_part, difference_vars};
+ghost use Rattle.lls_encode.specs.Formula.{generation_size, difference_clauses, difference_variable, differing_clauses, asked_part, asked_vars};
 ghost use Rattle.lls_encode.specs.Room.{HasRoom, with_more};
 
 use crate::generation::{cell_of_generation, generation_size};
@@ -14,10 +14,10 @@ use lls_problem::Problem;
 use std::alloc::Global;
 
 /// Two clauses a cell, and one that some cell differs.
-pub const MOST_CLAUSES_DIFFERENCE: usize = 2 * History::MOST_CELLS as usize + 1;
+pub const MOST_CLAUSES_ASKED: usize = 2 * History::MOST_CELLS as usize + 1;
 
-// The literal of the kth variable behind the first `base`.
-fn difference_variable(base: u32, k: u32) -> Lit
+/// The literal of the kth variable behind the first `base`.
+pub fn difference_variable(base: u32, k: u32) -> Lit
     requires { base + k < Var.MOST }
     ensures { result ≡ difference_variable base k }
 {
@@ -46,7 +46,7 @@ fn push_differing(
     requires second { second < problem.now.posed.generations }
     requires vars { length problem.now.posed.cells ≤ formula.old.vars }
     requires most { formula.old.vars + generation_size problem.now ≤ Var.MOST }
-    requires room { HasRoom formula.old MOST_CLAUSES_DIFFERENCE }
+    requires room { HasRoom formula.old MOST_CLAUSES_ASKED }
     ensures { OnOk result (formula.new ≡ with_more formula.old (generation_size problem.now)
         (differing_clauses problem.now formula.old.vars (first, second))) }
 {
@@ -65,17 +65,17 @@ fn push_differing(
     formula.push(&some)
 }
 
-/// Pushes the clauses of two generations that have to differ, where there are such, and their variables.
-pub fn push_difference(
+/// Pushes the clauses of two generations that are asked to differ, where there are such, and their variables.
+pub fn push_asked(
     alloc: Global,
     formula: &mut Formula,
     problem: &Problem,
 ) -> Result<(), Memory>
     requires vars { length problem.now.posed.cells ≤ formula.old.vars }
-    requires most { formula.old.vars + difference_vars problem.now ≤ Var.MOST }
-    requires room { HasRoom formula.old MOST_CLAUSES_DIFFERENCE }
-    ensures { OnOk result (formula.new ≡ with_more formula.old (difference_vars problem.now)
-        (difference_part problem.now formula.old.vars)) }
+    requires most { formula.old.vars + asked_vars problem.now ≤ Var.MOST }
+    requires room { HasRoom formula.old MOST_CLAUSES_ASKED }
+    ensures { OnOk result (formula.new ≡ with_more formula.old (asked_vars problem.now)
+        (asked_part problem.now formula.old.vars)) }
 {
     match problem.demands().differ {
         Some((first, second)) => push_differing(alloc, formula, problem, first, second),

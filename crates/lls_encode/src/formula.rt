@@ -8,8 +8,8 @@ ghost use Rattle.lls_encode.specs.Formula.{front_part, formula_of};
 ghost use Rattle.lls_encode.specs.History.{history_of, HasAssignment};
 ghost use Rattle.lls_encode.specs.Room.{HasRoom};
 
+use crate::apart::push_difference;
 use crate::cells::{push_fixed, push_names};
-use crate::difference::push_difference;
 use crate::period::{MOST_CLAUSES_PERIOD, push_period};
 use crate::population::push_bounds;
 use crate::symmetry::{MOST_CLAUSES_SYMMETRY, push_symmetry};
@@ -48,8 +48,10 @@ pub(crate) fn push_front(
 
 /// The formula of a problem, with one variable a cell in the order generation, row, column. Behind them stand the variables
 /// of the counters that bounds on live cells need. Where two generations have to differ, it has one variable more for each
-/// cell of the grid, behind all others.
-/// The clauses come in this order: fixed cells, names, symmetry, period, transitions, bounds, differing generations. Those of
+/// cell of the grid, behind these; and under an exact period, behind all others, one for each place that a shorter period
+/// along the same line compares.
+/// The clauses come in this order: fixed cells, names, symmetry, period, transitions, bounds, differing generations, exact
+/// period. Those of
 /// the transitions are by the form: for each place, the clauses of the cubes that the form takes of the rule's forbidden rows.
 pub fn encode(alloc: Global, problem: &Problem, form: Form) -> Result<Formula, Memory>
     ensures formula { IfOk result (λ formula. formula ≡ formula_of problem.now form) }

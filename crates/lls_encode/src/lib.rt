@@ -1,12 +1,14 @@
 //! The formula of a problem: an assignment that satisfies it begins with a solution's cells in their order.
 #![tactic(auto)]
 
+mod apart;
 mod append;
 mod cells;
 mod cubes;
 mod decoding;
 mod difference;
 mod equal;
+mod exact;
 mod formula;
 mod generation;
 mod outer;

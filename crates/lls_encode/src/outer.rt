@@ -6,8 +6,8 @@ ghost use Rattle.lls_encode.specs.Formula.{front_part};
 ghost use Rattle.lls_encode.specs.History.{history_of};
 ghost use Rattle.lls_encode.specs.Parts.{MeetsBefore, MeetsAfter, HasExtension, after_part, after_vars};
 
+use crate::apart::push_difference;
 use crate::append::append;
-use crate::difference::push_difference;
 use crate::formula::push_front;
 use crate::population::push_bounds;
 use lls_base::Memory;
@@ -38,7 +38,8 @@ pub fn push_before(alloc: Global, formula: &mut Formula, problem: &Problem) -> R
     append(formula, &front)
 }
 
-/// Appends the clauses of bounds on live cells and of generations that differ, and their variables, behind those so far.
+/// Appends the clauses of bounds on live cells, of generations that differ and of an exact period, and their variables,
+/// behind those so far.
 /// They are made apart first, so that the formula is as before after `Memory`.
 pub fn push_after(alloc: Global, formula: &mut Formula, problem: &Problem) -> Result<(), Memory>
     requires cells { length problem.now.posed.cells ≤ formula.old.vars }
@@ -50,7 +51,7 @@ pub fn push_after(alloc: Global, formula: &mut Formula, problem: &Problem) -> Re
     }) }
     ensures err { OnErr result (formula.new ≡ formula.old) }
 
-    // The cells of an assignment that satisfies them keep the bounds and differ, as asked.
+    // The cells of an assignment that satisfies them keep the bounds, differ, and have an exact period, as asked.
     ensures sound { (values : List Bool) → length problem.now.posed.cells ≤ length values
         → satisfies values (after_part problem.now formula.old.vars) ≡ true → MeetsAfter problem.now (history_of problem.now values) }
 

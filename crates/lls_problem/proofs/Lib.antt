@@ -11,5 +11,6 @@ pub mod Lost
 pub mod Outside
 pub mod Symmetric
 pub mod Returned
+pub mod Shorter
 pub mod Plane
 pub mod Limits

@@ -18,18 +18,18 @@ use Rattle.lls_problem.proofs.Outside.{at_outside}
 use Rattle.lls_problem.proofs.Symmetric.{same_by_differ, differ-same}
 
 -- of a list of pairs
-pairs_by_lost : (rule : List Bool) (h : History) (pairs : List Moved) → flat_map (lost_of rule h) pairs ≡ [] → Each (IsMovedPair (at rule h)) pairs
+pub pairs_by_lost : (rule : List Bool) (h : History) (pairs : List Moved) → flat_map (lost_of rule h) pairs ≡ [] → Each (IsMovedPair (at rule h)) pairs
 pairs_by_lost rule h [] none = tt
 pairs_by_lost rule h (pair ∷ pairs) none =
     let both = both_empty (lost_of rule h pair) (flat_map (lost_of rule h) pairs) none in
     (same_by_differ _ _ (false_where_empty (is_lost rule h pair) pair.early both.0), pairs_by_lost rule h pairs both.1)
 
-lost_by_pairs : (rule : List Bool) (h : History) (pairs : List Moved) → Each (IsMovedPair (at rule h)) pairs → flat_map (lost_of rule h) pairs ≡ []
+pub lost_by_pairs : (rule : List Bool) (h : History) (pairs : List Moved) → Each (IsMovedPair (at rule h)) pairs → flat_map (lost_of rule h) pairs ≡ []
 lost_by_pairs rule h [] each = refl
 lost_by_pairs rule h (pair ∷ pairs) each =
     ap (λ spots. spots ++ flat_map (lost_of rule h) pairs) (empty_where (is_lost rule h pair) pair.early (differ-same _ _ each.0)) ∙ lost_by_pairs rule h pairs each.1
 
-empty_mapped : {X Y : Type 0} (f : X → Y) (xs : List X) → map f xs ≡ [] → xs ≡ []
+pub empty_mapped : {X Y : Type 0} (f : X → Y) (xs : List X) → map f xs ≡ [] → xs ≡ []
 empty_mapped f [] none = refl
 empty_mapped f (x ∷ xs) none = cc
 

@@ -9,7 +9,7 @@ use Rattle.lls_search_file.specs.Posed.{PosedFile, sizes_of, name_of}
 use Rattle.lls_problem.specs.declared.judgement.Judgement.{Judgement}
 use Rattle.lls_problem.specs.declared.judgement.Judgement.TheVariants as judgement
 use Rattle.lls_problem.specs.Problem.{PosedProblem}
-use Rattle.lls_problem.specs.Solution.{cell_number, HasItsBit, AreTied, IsFramed, is_marked, AreSymmetric, Returns, Obeys, IsPopulated, Differs, IsSolution}
+use Rattle.lls_problem.specs.Solution.{cell_number, HasItsBit, AreTied, IsFramed, is_marked, AreSymmetric, Returns, Obeys, IsPopulated, Differs, IsExact, IsSolution}
 use Rattle.lls_symmetry.specs.Moved.{spot}
 use Rattle.lls_problem.specs.declared.losses.Loss.{Loss}
 use Rattle.lls_problem.specs.declared.losses.Loss.TheVariants.{OfBackground, OfPlace}
@@ -17,6 +17,7 @@ use Rattle.lls_problem.specs.Firsts.{Place, of_cell, IsBefore, IsFirstBroken, fi
 use Rattle.lls_problem.specs.Unlike.{unlike_cells}
 use Rattle.lls_problem.specs.Losses.{losses}
 use Rattle.lls_problem.specs.Outside.{first_outside}
+use Rattle.lls_problem.specs.Exact.{shorter_lengths}
 
 -- the sizes are the file's
 abbrev pub HasItsSizes : PosedProblem → History → Type 0
@@ -77,6 +78,7 @@ pub data Demand : Type 0 where
   rule : Demand
   population : Demand
   same : Demand
+  exact : Demand
 
 abbrev pub rank : Demand → ℕ
 rank size = 0
@@ -87,6 +89,7 @@ rank period = 4
 rank rule = 5
 rank population = 6
 rank same = 7
+rank exact = 8
 
 abbrev pub Keeps : PosedProblem → History → Demand → Type 0
 Keeps problem history size = HasItsSizes problem history
@@ -97,6 +100,7 @@ Keeps problem history period = Returns problem history
 Keeps problem history rule = Obeys problem history
 Keeps problem history population = IsPopulated problem history
 Keeps problem history same = Differs problem history
+Keeps problem history exact = IsExact problem history
 
 -- every demand before that one is kept
 abbrev pub KeepsBefore : PosedProblem → History → Demand → Type 0
@@ -124,3 +128,4 @@ IsJudgement p h (judgement.Moved t y x) = IsFault p h period (first (losses p h)
 IsJudgement p h (judgement.Rule t y x) = IsFault p h rule (IsFirstTransition p h (record { t = t; y = y; x = x }))
 IsJudgement p h (judgement.Population t n) = IsFault p h population (first_outside p h ≡ Some (record { t = t; live = n }))
 IsJudgement p h judgement.Same = IsFault p h same (Differs p h → ⊥)
+IsJudgement p h (judgement.Shorter d) = IsFault p h exact (first (shorter_lengths p h) ≡ Some d)

@@ -3,6 +3,7 @@ pub mod Bounds
 pub mod Solution
 pub mod Plane
 pub mod Firsts
+pub mod Exact
 pub mod Named
 pub mod Unlike
 pub mod Losses

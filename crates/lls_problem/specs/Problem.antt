@@ -1,5 +1,5 @@
 -- A problem: a posed file, a rule and demands that fit the file.
-use Rattle.std.specs.Prelude.{◌≡◌, ◌<◌, ◌≤◌, ℕ, true, nat_lt, nat_le, Bool, List, [], ◌∷◌, ◌++◌, map, find, All, Option, None, Some, option_map, Result, Ok, Err, if◌then◌else◌}
+use Rattle.std.specs.Prelude.{◌≡◌, ◌<◌, ◌≤◌, ℕ, ◌/◌, pos, int_div, true, false, nat_lt, nat_le, Bool, List, [], ◌∷◌, ◌++◌, map, find, All, Option, None, Some, option_map, Result, Ok, Err, if◌then◌else◌}
 use Rattle.std.specs.Option.{ForSome, option_map_or}
 use Rattle.lls_grid.specs.Place.{IsWithin}
 use Rattle.lls_search_file.specs.Posed.{PosedFile}
@@ -21,13 +21,17 @@ pub record PosedProblem : Type 0 where
 
 -- an edge, and nothing else
 abbrev pub edge_alone : Edge → Demands
-edge_alone edge = record { edge = edge; symmetry = C1; period = None; bounds = []; differ = None }
+edge_alone edge = record { edge = edge; symmetry = C1; period = None; exact = false; bounds = []; differ = None }
 
 -- a period within the limits
 pub record IsPeriod (period : Period) : Type 0 where
   pub length : (1 ≤ period.length) × (period.length ≤ MOST_PERIOD)
   pub columns : IsWithin MOST_SHIFT period.dx
   pub rows : IsWithin MOST_SHIFT period.dy
+
+-- the period of which q make that one
+abbrev pub part_of : Period → ℕ → Period
+part_of period q = record { length = period.length / q; dx = int_div period.dx (pos q); dy = int_div period.dy (pos q) }
 
 -- the generations that the demands name, in their order
 abbrev pub named_generations : Demands → List ℕ

@@ -1,5 +1,5 @@
 -- What a solution of a problem is. It is said of whole histories, by reading cells and comparing them.
-use Rattle.std.specs.Prelude.{◌≡◌, ◌≢◌, ◌<◌, ℕ, ◌+◌, ℤ, pos, negsuc, ◌≤ℤ◌, ◌<ℤ◌, Bool, true, false, not, List, Option, None, Some, length, slice_index_or, All}
+use Rattle.std.specs.Prelude.{◌≡◌, ◌≢◌, ◌<◌, ◌≤◌, ℕ, ◌+◌, ◌%◌, ℤ, pos, ◌+ℤ◌, unsigned_abs, negsuc, ◌≤ℤ◌, ◌<ℤ◌, Bool, true, false, not, List, Option, None, Some, length, slice_index_or, All}
 use Rattle.std.specs.Option.{ForSome}
 use Rattle.lls_rule.specs.Rule.{successor}
 use Rattle.lls_grid.specs.Sizes.{index_of}
@@ -15,7 +15,8 @@ use Rattle.lls_symmetry.specs.Moved.{IsMoved}
 use Rattle.lls_problem.specs.declared.demands.Edge.{Edge}
 use Rattle.lls_problem.specs.declared.demands.Edge.TheVariants.{Framed, Bare}
 use Rattle.lls_problem.specs.Bounds.{Allows}
-use Rattle.lls_problem.specs.Problem.{PosedProblem}
+use Rattle.lls_problem.specs.declared.demands.Period.{Period}
+use Rattle.lls_problem.specs.Problem.{PosedProblem, part_of}
 
 -- the cell at a place of the order generation, row, column; past the end a dead one
 abbrev pub cell_number : List Cell → ℕ → Cell
@@ -88,6 +89,26 @@ pub record IsDifference (problem : PosedProblem) (history : History) (s t y x : 
 abbrev pub Differs : PosedProblem → History → Type 0
 Differs problem history = ForSome problem.demands.differ (λ pair. (y : ℕ) × ((x : ℕ) × IsDifference problem history pair.0 pair.1 y x))
 
+-- 2 or more, and no number between divides it
+pub record IsPrime (q : ℕ) : Type 0 where
+  pub more : 2 ≤ q
+  pub undivided : (k : ℕ) → 2 ≤ k → k < q → q % k ≢ 0
+
+-- a number divides a period and both parts of its shift
+pub record Divides (q : ℕ) (period : Period) : Type 0 where
+  pub length : period.length % q ≡ 0
+  pub columns : unsigned_abs period.dx % q ≡ 0
+  pub rows : unsigned_abs period.dy % q ≡ 0
+
+-- a period later, generation 0 is there again, moved by the shift
+abbrev pub IsThere : PosedProblem → History → Period → Type 0
+IsThere problem history period = (y x : ℤ) → at problem.rule history period.length (y +ℤ period.dy) (x +ℤ period.dx) ≡ at problem.rule history 0 y x
+
+-- where the period is to be exact: by no prime that divides it is there a shorter one along the same line
+abbrev pub IsExact : PosedProblem → History → Type 0
+IsExact problem history = problem.demands.exact ≡ true → ForSome problem.demands.period (λ period.
+    (q : ℕ) → IsPrime q → Divides q period → IsThere problem history (part_of period q) → ⊥)
+
 -- the live cells of the generation of each bound are within its ends
 abbrev pub IsPopulated : PosedProblem → History → Type 0
 IsPopulated problem history = All (λ bound. Allows bound (population history bound.generation)) problem.demands.bounds
@@ -101,6 +122,7 @@ pub record IsSolution (problem : PosedProblem) (history : History) : Type 0 wher
   pub rule : Obeys problem history
   pub populated : IsPopulated problem history
   pub differ : Differs problem history
+  pub exact : IsExact problem history
 
 -- no history is a solution
 abbrev pub IsAbsent : PosedProblem → Type 0

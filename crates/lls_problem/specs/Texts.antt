@@ -2,7 +2,7 @@
 use Rattle.std.specs.Prelude.{ℕ, ◌++◌, List, codes, decimal}
 use Rattle.std.specs.Fmt.{signed_decimal}
 use Rattle.lls_problem.specs.declared.judgement.Judgement.{Judgement}
-use Rattle.lls_problem.specs.declared.judgement.Judgement.TheVariants.{Meets, Size, Cell, Name, Symmetry, Background, Moved, Rule, Population, Same}
+use Rattle.lls_problem.specs.declared.judgement.Judgement.TheVariants.{Meets, Size, Cell, Name, Symmetry, Background, Moved, Rule, Population, Same, Shorter}
 use Rattle.lls_problem.specs.declared.demands.DemandError.{DemandError}
 use Rattle.lls_problem.specs.declared.demands.DemandError.TheVariants.{NotSquare, NoGeneration, BoundsCross, PeriodTooLong, Counters}
 
@@ -17,6 +17,7 @@ judgement_text (Moved t y x) = codes "Moved " ++ decimal t ++ codes " " ++ signe
 judgement_text (Rule t y x) = codes "Rule " ++ decimal t ++ codes " " ++ signed_decimal y ++ codes " " ++ signed_decimal x
 judgement_text (Population t n) = codes "Population " ++ decimal t ++ codes " " ++ decimal n
 judgement_text Same = codes "Same"
+judgement_text (Shorter d) = codes "Shorter " ++ decimal d
 
 abbrev pub demand_error_text : DemandError → List ℕ
 demand_error_text (NotSquare height width) = codes "NotSquare " ++ decimal height ++ codes " " ++ decimal width

@@ -31,6 +31,9 @@ pub struct Demands {
     pub edge: Edge,
     pub symmetry: Symmetry,
     pub period: Option<Period>,
+    /// The period is exact: no shorter one along the same line takes generation 0 to where it is then. Without a period
+    /// it says nothing.
+    pub exact: bool,
     pub bounds: Bounds,
     /// Two generations that have to differ in some cell.
     pub differ: Option<(u32, u32)>,
@@ -45,6 +48,7 @@ impl Demands {
             edge,
             symmetry: Symmetry::C1,
             period: None,
+            exact: false,
             bounds: Bounds::new(Vec::new(alloc)),
             differ: None,
         }

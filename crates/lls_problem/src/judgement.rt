@@ -28,6 +28,8 @@ pub enum Judgement {
     Population(u32, u32),
     /// The two generations that have to differ are equal.
     Same,
+    /// The period isn't exact: so many generations after the first it's there again, moved along the same line.
+    Shorter(u32),
 }
 
 impl fmt::Display for Judgement {
@@ -48,6 +50,7 @@ impl fmt::Display for Judgement {
             Judgement::Rule(t, y, x) => write!(f, "Rule {t} {y} {x}"),
             Judgement::Population(t, n) => write!(f, "Population {t} {n}"),
             Judgement::Same => write!(f, "Same"),
+            Judgement::Shorter(d) => write!(f, "Shorter {d}"),
         }
     }
 }

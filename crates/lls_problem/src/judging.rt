@@ -8,6 +8,7 @@ ghost use Rattle.lls_problem.specs.declared.judgement.Judgement.{Judgement};
 
 use crate::cells::{first_disagreement, first_misfit};
 use crate::differences::differs;
+use crate::exact::first_shorter;
 use crate::losses::first_loss;
 use crate::population::first_outside;
 use crate::transitions::first_transition;
@@ -57,6 +58,9 @@ pub fn judge(problem: &Problem, history: &History) -> Judgement
     }
     if !differs(problem, history) {
         return Judgement::Same;
+    }
+    if let Some(length) = first_shorter(problem, history) {
+        return Judgement::Shorter(length);
     }
     Judgement::Meets
 }

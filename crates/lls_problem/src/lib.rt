@@ -5,6 +5,7 @@ mod bounds;
 mod cells;
 mod demands;
 mod differences;
+mod exact;
 mod form;
 mod judgement;
 mod judging;

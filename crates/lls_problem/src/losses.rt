@@ -150,7 +150,7 @@ fn course_of(period: Period, t: u32) -> Course
 }
 
 // The first loss of a generation.
-fn first_at(problem: &Problem, history: &History, period: Period, t: u32) -> Option<Loss>
+pub fn first_at(problem: &Problem, history: &History, period: Period, t: u32) -> Option<Loss>
     requires sizes { HasItsSizes problem.now history.now }
     requires period { IsPeriod period }
     requires later { t + period.length < problem.now.posed.generations }
