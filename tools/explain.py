@@ -214,6 +214,10 @@ def same_name(line, place):
     return f"{shown(line.word(place))} is the file that {line.command} {does}: {written} needs another name"
 
 
+def no_period(line, place):
+    return f"{shown(line.word(place))} speaks of the period: `--period P,X,Y` says which"
+
+
 def neighbourhood(nine):
     """A neighbourhood by its number, as its rows from top to bottom."""
     bits = f"{nine:09b}"
@@ -243,6 +247,7 @@ WORD_FAULTS = {
     "MissingValue": missing_value,
     "Operands": operands,
     "BadValue": bad_value,
+    "NoPeriod": no_period,
     "SameName": same_name,
     "RulesCross": rules_cross,
     "LooseBackground": loose_background,

@@ -1,7 +1,7 @@
 # Completion of lls's words in bash: `. tools/lls.bash`, or a link to it in ~/.local/share/bash-completion/completions/lls.
 # It serves `lls` and `./lls`.
 
-_lls_demands='--edge --symmetry --period --live --differ'
+_lls_demands='--edge --symmetry --period --exact --live --differ'
 
 # The options that a command takes.
 _lls_options() {
@@ -21,6 +21,7 @@ _lls_values() {
     case $1 in
     --edge) echo 'closed open' ;;
     --symmetry) echo 'C1 C2 C4 D2- D2| D2\ D2/ D4+ D4x D8' ;;
+    --exact) echo 'yes no' ;;
     --keep) echo 'all half' ;;
     --manner) echo 'restless steady both' ;;
     --as) echo 'rows rle' ;;

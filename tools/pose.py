@@ -78,10 +78,7 @@ def oscillator(width, height, period, margin):
     if period < 2:
         raise BadQuestion("the period of an oscillator is 2 or more; `still` asks for a still life")
     first = boxed(width + 2 * margin, height + 2 * margin, margin, margin, width, height)
-    apart = period // least_factor(period)
-    left = [divisor for divisor in range(2, period) if period % divisor == 0 and apart % divisor]
-    notes = [f"oscillators of period {' and '.join(map(str, left))} fit too"] if left else []
-    return Question([first] + [unknown_like(first)] * period, [f"--period {period}", f"--differ 0,{apart}"], notes + [phases_note(first, margin)])
+    return Question([first] + [unknown_like(first)] * period, [f"--period {period}", no_shorter(period)], [phases_note(first, margin)])
 
 
 def rotor(width, height, period, columns, rows, margin):
@@ -158,6 +155,13 @@ def phases_note(rows, margin):
     return f"all phases have to lie in the grid of {len(rows[0])} by {len(rows)}; --margin {margin + 1} leaves them more room"
 
 
+def no_shorter(period):
+    """Returns the option that leaves out the shorter periods: where one prime alone divides the period, two generations that differ say it."""
+    factor = least_factor(period)
+    alone = all(number % factor == 0 for number in range(2, period + 1) if period % number == 0)
+    return f"--differ 0,{period // factor}" if alone else "--exact yes"
+
+
 def least_factor(number):
     return next(factor for factor in range(2, number + 1) if number % factor == 0)
 
@@ -170,9 +174,8 @@ def spaceship(width, height, period, right, down, margin):
     left, top = margin + max(0, -right), margin + max(0, -down)
     first = boxed(width + 2 * margin + abs(right), height + 2 * margin + abs(down), left, top, width, height)
     times = math.gcd(period, right, down)
-    notes = [f"what is there again {period // times} generations later, moved by {right // times},{down // times}, fits too"]
-    options = [f"--period {period},{right},{down}", "--live 0:1-"]
-    return Question([first] + [unknown_like(first)] * period, options, (notes if times > 1 else []) + [phases_note(first, margin)])
+    options = [f"--period {period},{right},{down}", *(["--exact yes"] if times > 1 else []), "--live 0:1-"]
+    return Question([first] + [unknown_like(first)] * period, options, [phases_note(first, margin)])
 
 
 def glide(width, height, later, right, margin):
@@ -211,7 +214,7 @@ def torus(width, height, period):
 
     if period < 1:
         raise BadQuestion("the period is 1 or more")
-    told = ["--live 0:1-"] if period == 1 else [f"--differ 0,{period // least_factor(period)}"]
+    told = ["--live 0:1-"] if period == 1 else [no_shorter(period)]
     notes = ["the picture has a ring more, of the cells from its other sides"]
     return Question([generation(number) for number in range(period + 1)], ["--edge open", f"--period {period}", *told], notes)
 

@@ -29,7 +29,7 @@ def bound(generations, size):
     return f"{random.randrange(generations)}:{low}-{high}"
 
 
-def problem():
+def problem(exact):
     generations, height = random.randint(1, 4), random.randint(1, 3)
     width = height if random.random() < 0.5 else random.randint(1, 3)
     names = random.sample(["a", "b", "c3", "xY9"], random.randint(1, 3))
@@ -48,6 +48,8 @@ def problem():
         period, shift = random.randint(1, generations - 1), (random.randint(-2, 2), random.randint(-2, 2))
         words.append(f"--period={period},{shift[0]},{shift[1]}")
         script += [f"--period={period}", f"--shift={shift[0]},{shift[1]}"]
+        words += exact
+        script += exact
     if random.random() < 0.6:
         bounds = ",".join(bound(generations, height * width) for _ in range(random.randint(1, 3)))
         words.append(f"--live={bounds}")
@@ -66,6 +68,11 @@ def crew(choose):
     return choose.choice([[], [f"--crew={searchers}"], [f"--crew={searchers}", f"--turns={seed}"]])
 
 
+def exact(choose):
+    """Whether a period has to be exact; drawn by itself too."""
+    return choose.choice([[], ["--exact=yes"], ["--exact=yes"], ["--exact=no"]])
+
+
 def lines(words):
     return "".join(f"{word}\n" for word in words)
 
@@ -73,9 +80,9 @@ def lines(words):
 def main():
     seed, count, folder = ending.words(__doc__, "SEED", "COUNT", "FOLDER")
     random.seed(ending.number(seed, "SEED"))
-    choose = random.Random(ending.number(seed, "SEED"))
+    choose, exactly = (random.Random(ending.number(seed, "SEED")) for _ in range(2))
     for k in range(ending.number(count, "COUNT")):
-        text, *lists = *problem(), crew(choose)
+        text, *lists = *problem(exact(exactly)), crew(choose)
         for name, content in zip(("lls", "words", "script", "form", "crew"), (text, *map(lines, lists))):
             with open(os.path.join(folder, f"{k}.{name}"), "w") as file:
                 file.write(content)

@@ -2,7 +2,7 @@
 """Makes the formula of a small search file and an LRAT proof of its absence, by plain splitting.
 
     refute.py SEARCH BIRTHS SURVIVALS closed|open [--symmetry NAME] [--period N] [--shift DX,DY] [--live T:LOW-HIGH,..]
-        [--differ A,B] [--formula 1|2] [--define V,W]
+        [--differ A,B] [--exact yes|no] [--formula 1|2] [--define V,W]
 
 BIRTHS and SURVIVALS are digits, or `-` for none. LOW and HIGH may be left out. Form 2 of the formula, by cover, is the default. With
 V and W the proof begins with a variable of its own, which is true just where both of these are, and splits on it first. The proof goes to the standard output, the sizes of the formula to the
@@ -88,6 +88,10 @@ def cover(forbidden):
     return chosen
 
 
+def primes(most):
+    return [q for q in range(2, most + 1) if all(q % k for k in range(2, q))]
+
+
 def opposite(place):
     """The negation of a literal or of a constant."""
     return not place if isinstance(place, bool) else -place
@@ -96,7 +100,7 @@ def opposite(place):
 class Formula:
     """The clauses of a search file, in the order of docs/definitions.md."""
 
-    def __init__(self, generations, successor, closed, form=2, symmetry="C1", period=None, shift=(0, 0), live=(), differ=None):
+    def __init__(self, generations, successor, closed, form=2, symmetry="C1", period=None, shift=(0, 0), live=(), differ=None, exact=False):
         self.generations = generations
         self.height, self.width = len(generations[0]), len(generations[0][0])
         self.count = len(generations) * self.height * self.width
@@ -118,6 +122,10 @@ class Formula:
             self.push_bound(generation, low, high)
         if differ is not None:
             self.push_difference(*differ)
+        if exact and period is not None:
+            for prime in primes(period):
+                if all(number % prime == 0 for number in (period, *shift)):
+                    self.push_unseen(period // prime, *(number // prime for number in shift))
 
     def variable(self, t, y, x):
         return 1 + x + self.width * (y + self.height * t)
@@ -204,6 +212,20 @@ class Formula:
         for d, (y, x) in enumerate(self.grid(), base + 1):
             a, b = self.variable(first, y, x), self.variable(second, y, x)
             self.clauses += [[-d, a, b], [-d, -a, -b]]
+        self.clauses.append(list(range(base + 1, self.count + 1)))
+
+    def push_unseen(self, length, dx, dy):
+        """Generation `length` isn't generation 0 moved: some place differs from where it comes from."""
+        if self.background[0] != self.background[length]:
+            return
+        leaving = [((y, x), (y + dy, x + dx)) for y, x in self.grid()]
+        entering = [((y - dy, x - dx), (y, x)) for y, x in self.grid() if (y - dy, x - dx) not in self.grid()]
+        base = self.count
+        self.count += len(leaving + entering)
+        for d, (early, late) in enumerate(leaving + entering, base + 1):
+            a, b = self.place(0, *early), self.place(length, *late)
+            self.push_clause([-d, a, b])
+            self.push_clause([-d, opposite(a), opposite(b)])
         self.clauses.append(list(range(base + 1, self.count + 1)))
 
     def place(self, t, y, x):
@@ -333,6 +355,7 @@ def parser_of(description):
     parser.add_argument("--shift", type=pair, default=(0, 0))
     parser.add_argument("--live", type=bounds, default=())
     parser.add_argument("--differ", type=pair)
+    parser.add_argument("--exact", choices=("yes", "no"), default="no")
     parser.add_argument("--formula", type=int, choices=(1, 2), default=2)
     return parser
 
@@ -346,7 +369,7 @@ def formula_of(words):
 
     with open(words.search, encoding="ascii") as file:
         generations = read_search_file(file.read())
-    demands = (words.symmetry, words.period, words.shift, words.live, words.differ)
+    demands = (words.symmetry, words.period, words.shift, words.live, words.differ, words.exact == "yes")
     return Formula(generations, successor, words.edge == "closed", words.formula, *demands)
 
 

@@ -1,7 +1,7 @@
 #!/usr/bin/env python3
 """Says whether a small search file has a solution, by trying all histories.
 
-    solutions.py SEARCH [--rule=B../S..] [--edge=..] [--symmetry=..] [--period=P,DX,DY] [--live=..] [--differ=A,B] [--least|--most]
+    solutions.py SEARCH [--rule=B../S..] [--edge=..] [--symmetry=..] [--period=P,DX,DY] [--live=..] [--differ=A,B] [--exact=yes|no] [--least|--most]
 
 Prints `yes` or `no`; with `--least` the fewest live cells that a solution has in generation 0, with `--most` the most, or `no`. It tries every first generation
 and every value of a marked cell; the other cells follow by the rule.
@@ -34,6 +34,7 @@ class Problem:
         self.period = [int(n) for n in (options["period"] + ",0,0").split(",")[:3]] if "period" in options else None
         self.bounds = [bound.replace(":", "-").split("-") for bound in options["live"].split(",")] if "live" in options else []
         self.differ = [int(n) for n in options["differ"].split(",")] if "differ" in options else None
+        self.exact = options.get("exact") == "yes"
         self.cells = [[row.replace(",", " ").split() for row in part.split("\n")] for part in text.strip().split("\n\n")]
         self.count, self.height, self.width = len(self.cells), len(self.cells[0]), len(self.cells[0][0])
         self.grounds = [0]
@@ -103,7 +104,23 @@ class Problem:
             population = sum(map(sum, history[int(t)]))
             if population < int(low or 0) or high and population > int(high):
                 return False
-        return not self.differ or history[self.differ[0]] != history[self.differ[1]]
+        if self.differ and history[self.differ[0]] == history[self.differ[1]]:
+            return False
+        return not (self.exact and any(self.is_there(history, part) for part in self.parts()))
+
+    def parts(self):
+        """The shorter periods along the same line, by each divisor that is a prime."""
+        length, dx, dy = self.period
+        for divisor in range(2, length + 1):
+            if length % divisor == dx % divisor == dy % divisor == 0 and all(divisor % k for k in range(2, divisor)):
+                yield length // divisor, dx // divisor, dy // divisor
+
+    def is_there(self, history, part):
+        """Whether generation 0 is there again after a period, on the whole plane: far enough from the grid all is background."""
+        length, dx, dy = part
+        far = max(abs(dx), abs(dy)) + 1
+        return all(self.at(history, 0, y, x) == self.at(history, length, y + dy, x + dx)
+                   for y in range(-far, self.height + far) for x in range(-far, self.width + far))
 
 
 def main():

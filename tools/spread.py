@@ -7,7 +7,7 @@
     spread.py join FOLDER PROOF
     spread.py look FOLDER
 
-`start` takes the search file, the options of its question (--rule, --edge, --symmetry, --period, --live, --differ) and the form of
+`start` takes the search file, the options of its question (--rule, --edge, --symmetry, --period, --exact, --live, --differ) and the form of
 the formula (--formula), which are those of the file's line `#!` where the words have none and not --bare, and lays out the first pieces in FOLDER: each is the search file with the N unknown cells of generation 0 that
 are nearest to the middle (1 where --cells isn't given) fixed one way. `run` searches all open pieces in rounds, each within its budget (10,000 for the first ones), by GNU
 parallel (Debian's package `parallel`): over this machine's processors, or with `-- --sshloginfile HOSTS` over many machines that have the
@@ -38,7 +38,7 @@ import time
 import ending
 from refute import read_search_file
 
-OPTIONS = ("rule", "edge", "symmetry", "period", "live", "differ", "formula")
+OPTIONS = ("rule", "edge", "symmetry", "period", "exact", "live", "differ", "formula")
 FIRST_BUDGET, MOST_BUDGET = 10_000, 10_000_000
 # the seconds of a day
 MOST_AGE = 86_400

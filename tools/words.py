@@ -17,7 +17,7 @@ import sys
 
 import ending
 
-DEMANDS = ["edge", "symmetry", "period", "live", "differ"]
+DEMANDS = ["edge", "symmetry", "period", "exact", "live", "differ"]
 PROBLEM = ["rule"] + DEMANDS
 FORMED = PROBLEM + ["formula"]
 # a problem whose rule is left open between two
@@ -51,6 +51,7 @@ VALUES = {"text": "rule", "seed": "seed", "size": "size"}
 CHOICES = {
     "edge": ["closed", "open"],
     "symmetry": ["C1", "C2", "C4", "D2-", "D2|", "D2\\", "D2/", "D4+", "D4x", "D8"],
+    "exact": ["yes", "no"],
     "formula": ["1", "2"],
     "keep": ["all", "half"],
     "manner": ["restless", "steady", "both"],
@@ -246,6 +247,8 @@ def job(words):
     values = {name: value(place, name, text) for name, (place, text) in given.items()}
     for name, (place, text) in zip(names, operands):
         values[name] = value(place, VALUES[name], text) if name in VALUES else text
+    if "exact" in given and "period" not in given:
+        raise Fault(f"NoPeriod {given['exact'][0]}")
     before = []
     for name, (place, text) in zip(names, operands):
         if name in OUTPUTS.get(words[0], []) and text in before:
@@ -299,6 +302,7 @@ BAD = {
     "keep": ["some", "All"],
     "manner": ["calm", "Both"],
     "as": ["RLE", "row"],
+    "exact": ["Yes", "1", "yes,no"],
 }
 ODD = ["", "-", "--", "-x", "-4", "---", "--best", "--best=1", "--=x", "--edge=", "--rule=-", "--help", "--edge", "--keep"]
 

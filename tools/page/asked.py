@@ -10,7 +10,7 @@ CELL = re.compile(r"(?:[01*]|-?[A-Za-z][A-Za-z0-9]{0,31})'?")
 # The commands that the page has, each with whether it writes a proof.
 COMMANDS = {"search": True, "least": True, "most": True, "open": True, "judge": False, "check": False, "spread": True}
 # What is said of the question, and what only of how it is searched.
-ASKING = ("rule", "low", "high", "edge", "symmetry", "period", "live", "differ", "formula")
+ASKING = ("rule", "low", "high", "edge", "symmetry", "period", "exact", "live", "differ", "formula")
 UNDECIDED = "undecided: the budget is spent, and nothing is known. A greater budget, another manner or pieces (spread) go on."
 
 
@@ -110,7 +110,7 @@ def found(cells, given):
         says += " It obeys the rule on the whole infinite plane, with nothing but background outside the grid."
     else:
         more.append("what the rule makes outside of the grid, or at marked cells, isn't looked at")
-    if given.get("period"):
+    if given.get("period") and given.get("exact") != "yes":
         more.append("its period may be a divisor of the one that is asked for, unless two generations have to differ")
     more.append("there may be others; that this is the only one isn't said")
     return says, more

@@ -13,7 +13,7 @@ use Rattle.lls_encode.proofs.Satisfied.{is_true-negation}
 use Rattle.lls_encode.proofs.Parts.{satisfies-append}
 
 -- the place that is true where another isn't
-abbrev IsOpposed : List Bool → Place → Type 0
+abbrev pub IsOpposed : List Bool → Place → Type 0
 IsOpposed values place = value_of values (differing place true) ≡ not (value_of values place)
 
 opposed_in : (p : PosedProblem) (values : List Bool) (t : ℕ) (row column : Option ℕ) → IsOpposed values (place_in p t row column)
@@ -21,7 +21,7 @@ opposed_in p values t (Some row) (Some column) = is_true-negation values (pos (p
 opposed_in p values t (Some row) None = refl
 opposed_in p values t None column = refl
 
-IsOpposed-place_at : (p : PosedProblem) (values : List Bool) (t : ℕ) (y x : ℤ) → IsOpposed values (place_at p t y x)
+pub IsOpposed-place_at : (p : PosedProblem) (values : List Bool) (t : ℕ) (y x : ℤ) → IsOpposed values (place_at p t y x)
 IsOpposed-place_at p values t y x = opposed_in p values t _ _
 
 -- the clause of two places

@@ -1,7 +1,8 @@
 -- The pairs of a shorter period: their generations, and how many there are.
 use Rattle.std.proofs.Common.{◌≡◌, ◌<◌, ◌≤◌, ℕ, zero, suc, ◌+◌, ◌-◌, ◌*◌, ℤ, pos, ◌-ℤ◌, Bool, true, false, cond, List, [], ◌∷◌, ◌++◌, map, length, refl, sym, ap, ◌∙◌, subst, arith, length-append}
-use Rattle.std.specs.List.{AllByRecursion as Each, flat_map, range_with_len}
+use Rattle.std.specs.List.{AllByRecursion as Each, All, flat_map, range_with_len}
 use Rattle.std.proofs.lemmas.List.{append-nil}
+use Rattle.std.proofs.lemmas.List.Elements.{All-from_recursion}
 use Rattle.std.proofs.lemmas.List.FromFn.{length-map-range_with_len}
 use Rattle.lls_search_file.specs.Posed.{IsPosed}
 use Rattle.lls_symmetry.specs.declared.moved.Course.{Course}
@@ -36,6 +37,14 @@ pairs_in p part shorter =
     (Each-range (IsInFile p) (row_entering course height width) height (λ y row.
     Each-range (IsInFile p) (entering course height width y) width (λ x column.
     one_or_none p (coming course y x) (is_on_grid height width (pos y -ℤ course.dy) (pos x -ℤ course.dx)) (record { early = first; late = later }))))
+
+pub early_in : (p : PosedProblem) (part : Period) (pairs : List Moved) → part.length < p.posed.generations → pairs ≡ pairs_of p part → All (λ pair. pair.early.t < p.posed.generations) pairs
+early_in p part pairs shorter are =
+    subst (All (λ pair. pair.early.t < p.posed.generations)) (sym are) (λ k d within. (All-from_recursion (IsInFile p) (pairs_of p part) (pairs_in p part shorter) k d within).early)
+
+pub late_in : (p : PosedProblem) (part : Period) (pairs : List Moved) → part.length < p.posed.generations → pairs ≡ pairs_of p part → All (λ pair. pair.late.t < p.posed.generations) pairs
+late_in p part pairs shorter are =
+    subst (All (λ pair. pair.late.t < p.posed.generations)) (sym are) (λ k d within. (All-from_recursion (IsInFile p) (pairs_of p part) (pairs_in p part shorter) k d within).late)
 
 -- the pairs that the code makes: of a file that ends with the later generation, there are those of generation 0 alone
 pub pairs_made : (height width length : ℕ) (dx dy : ℤ) → moved_pairs_of (length + 1) height width length dx dy ≡ generation_moved height width (course_at length dx dy 0)

@@ -1,5 +1,5 @@
 -- The clauses of the shorter periods, one after another: what one more leaves, and how many there are.
-use Rattle.std.proofs.Common.{◌≡◌, ◌<◌, ◌≤◌, ℕ, zero, suc, ◌+◌, ◌-◌, ◌*◌, ℤ, true, false, Bool, cond, List, [], ◌∷◌, ◌++◌, map, length, Option, None, Some, refl, sym, ap, ◌∙◌, subst, arith, append_assoc, length-append}
+use Rattle.std.proofs.Common.{◌≡◌, ◌<◌, ◌≤◌, ℕ, zero, suc, ◌+◌, ◌-◌, ◌*◌, ℤ, true, false, Bool, cond, List, [], ◌∷◌, ◌++◌, map, length, Option, None, Some, refl, sym, ap, ◌∙◌, subst, arith, append_assoc, length-append, add-zero}
 use Rattle.std.specs.List.{flat_map, filter_map, cons_option, range_with_len}
 use Rattle.std.specs.Option.{option_map_or, option_to_list}
 use Rattle.std.proofs.lemmas.List.{append-nil}
@@ -14,7 +14,7 @@ use Rattle.lls_transition.specs.declared.place.Place.{Place}
 use Rattle.lls_transition.specs.declared.place.Place.TheVariants.{Of}
 use Rattle.lls_transition.specs.Clause.{clause_of, differing, with_clauses}
 use Rattle.lls_encode.specs.Place.{place_at}
-use Rattle.lls_encode.specs.Formula.{any_of, unequal_clauses, difference_variable, pair_at, pair_difference, unequal_pairs, has_other_background, pairs_of, unseen_clauses, unseen_vars, all_unseen, all_unseen_vars, exact_part, exact_vars}
+use Rattle.lls_encode.specs.Formula.{any_of, unequal_clauses, difference_variable, pair_at, pair_difference, unequal_pairs, has_other_background, pairs_of, unseen_clauses, unseen_vars, all_unseen, all_unseen_vars, asked_part, asked_vars, exact_part, exact_vars, difference_part, difference_vars}
 use Rattle.lls_encode.specs.Room.{HasRoom, with_more}
 use Rattle.lls_encode.proofs.Steps.{length-flat_map_most, pushed_more}
 use Rattle.lls_encode.proofs.Pairs.{pairs_few}
@@ -59,24 +59,45 @@ length-pairs p base n k pairs formula now is =
     let count : length now.clauses ≡ length formula.clauses + length clauses = ap (λ (g : Cnf). length g.clauses) is ∙ length-append formula.clauses clauses in
     omega (arith, count, length-flat_map_most (pair_difference p base pairs) 2 (length-pair_difference p base pairs) 0 k)
 
+-- the clauses of a shorter period are those of its pairs, where the background is the same then
+pub unseen_made : (p : PosedProblem) (formula next : Cnf) (part : Period) (pairs : List Moved) → pairs ≡ pairs_of p part → has_other_background p part ≡ false
+    → next ≡ with_more formula (length pairs) (unequal_pairs p formula.vars pairs) → next ≡ with_more formula (unseen_vars p part) (unseen_clauses p formula.vars part)
+unseen_made p formula next part pairs are same made =
+    made ∙ ap (λ ps. with_more formula (length ps) (unequal_pairs p formula.vars ps)) are
+    ∙ ap (λ b. with_more formula (cond b 0 (length (pairs_of p part))) (cond b [] (unequal_pairs p formula.vars (pairs_of p part)))) (sym same)
+
+pub unseen_vars-pairs : (p : PosedProblem) (part : Period) (pairs : List Moved) → pairs ≡ pairs_of p part → has_other_background p part ≡ false → unseen_vars p part ≡ length pairs
+unseen_vars-pairs p part pairs are same = ap (λ b. cond b 0 (length (pairs_of p part))) same ∙ ap length (sym are)
+
+-- more twice is more at once
+with_more-more : (formula : Cnf) (a b : ℕ) (xs ys : List Clause) → with_more (with_more formula a xs) b ys ≡ with_more formula (a + b) (xs ++ ys)
+with_more-more formula a b xs ys =
+    ap (λ clauses. record { vars = formula.vars + a + b; clauses = clauses }) (append_assoc formula.clauses xs ys)
+    ∙ ap (λ vars. record { vars = vars; clauses = formula.clauses ++ (xs ++ ys) }) (place formula.vars a b)
+  where
+    place : (a b c : ℕ) → a + b + c ≡ a + (b + c)
+    place a b c = omega arith
+
+-- two generations that are asked to differ, and behind them the exact period
+pub both_parts : (p : PosedProblem) (formula asked all : Cnf) → asked ≡ with_more formula (asked_vars p) (asked_part p formula.vars) → all ≡ with_more asked (exact_vars p) (exact_part p asked.vars)
+    → all ≡ with_more formula (difference_vars p) (difference_part p formula.vars)
+both_parts p formula asked all one two =
+    two ∙ ap (λ (f : Cnf). with_more f (exact_vars p) (exact_part p f.vars)) one
+    ∙ with_more-more formula (asked_vars p) (exact_vars p) (asked_part p formula.vars) (exact_part p (formula.vars + asked_vars p))
+
 -- the formula with the clauses of shorter periods behind its own, and their variables
 abbrev pub with_parts : PosedProblem → Cnf → List Period → Cnf
 with_parts p formula parts = with_more formula (all_unseen_vars p parts) (all_unseen p formula.vars parts)
 
 pub with_no_parts : (p : PosedProblem) (formula : Cnf) → with_parts p formula [] ≡ formula
-with_no_parts p formula = rw append-nil refl
+with_no_parts p formula = rw (append-nil, add-zero) refl
 
 -- one more, and those that are left
 pub with_part : (p : PosedProblem) (formula next : Cnf) (part : Period) (parts : List Period) → next ≡ with_more formula (unseen_vars p part) (unseen_clauses p formula.vars part)
     → with_parts p next parts ≡ with_parts p formula (part ∷ parts)
 with_part p formula next part parts is =
     ap (λ (f : Cnf). with_parts p f parts) is
-    ∙ ap (λ clauses. record { vars = formula.vars + unseen_vars p part + all_unseen_vars p parts; clauses = clauses })
-    (append_assoc formula.clauses (unseen_clauses p formula.vars part) (all_unseen p (formula.vars + unseen_vars p part) parts))
-    ∙ ap (λ vars. record { vars = vars; clauses = formula.clauses ++ all_unseen p formula.vars (part ∷ parts) }) (place formula.vars (unseen_vars p part) (all_unseen_vars p parts))
-  where
-    place : (a b c : ℕ) → a + b + c ≡ a + (b + c)
-    place a b c = omega arith
+    ∙ with_more-more formula (unseen_vars p part) (all_unseen_vars p parts) (unseen_clauses p formula.vars part) (all_unseen p (formula.vars + unseen_vars p part) parts)
 
 -- the numbers that are left, at the next of them
 left : (period : Period) (q : ℕ) → q < period.length + 1
@@ -125,13 +146,14 @@ few_all_unseen : (p : PosedProblem) → IsPosed p.posed → (parts : List Period
 few_all_unseen p kept [] = omega arith
 few_all_unseen p kept (part ∷ parts) = omega (arith, few_unseen p part kept (has_other_background p part), few_all_unseen p kept parts)
 
+one_more : (found : Option Period) (parts : List Period) → length (cons_option found parts) ≤ length parts + 1
+one_more None parts = omega arith
+one_more (Some part) parts = omega arith
+
 length-filter_map : (period : Period) (a n : ℕ) → length (filter_map (part_by period) (range_with_len a n)) ≤ n
 length-filter_map period a zero = omega arith
-length-filter_map period a (suc n) = one_more (part_by period a)
-  where
-    one_more : (found : Option Period) → length (cons_option found (filter_map (part_by period) (range_with_len (a + 1) n))) ≤ suc n
-    one_more None = omega (arith, length-filter_map period (a + 1) n)
-    one_more (Some part) = omega (arith, length-filter_map period (a + 1) n)
+length-filter_map period a (suc n) =
+    omega (arith, length-filter_map period (a + 1) n, one_more (part_by period a) (filter_map (part_by period) (range_with_len (a + 1) n)))
 
 pub length-parts_of : (period : Period) → IsPeriod period → length (parts_of period) ≤ 64
 length-parts_of period kept = omega (arith, kept.length.1, length-filter_map period 0 (period.length + 1))

@@ -219,7 +219,8 @@ satisfies-unequal_pairs p h values has base pairs inside are unequal =
     let variables = map (difference_variable base) (range_with_len 0 n) in
     let each : satisfies values (flat_map (pair_difference p base pairs) (range_with_len 0 n)) ≡ true =
     satisfies-range values (pair_difference p base pairs) 0 n (λ k low high.
-    satisfies-pair_difference p values base pairs k ∙ told _ _ _ (mark_is p h values has base pairs inside are k (omega (arith, high)))) in
+    satisfies-pair_difference p values base pairs k
+    ∙ told (is_true values (difference_variable base k)) (early_said p values pairs k) (late_said p values pairs k) (mark_is p h values has base pairs inside are k (omega (arith, high)))) in
     let some : list_any (is_true values) variables ≡ true =
     elim (list_any (is_true values) variables) as (λ b. list_any (is_true values) variables ≡ b → list_any (is_true values) variables ≡ true) [
       | true ↦ λ test. test

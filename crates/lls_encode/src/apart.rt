@@ -26,6 +26,8 @@ pub fn push_difference(
     ensures { OnOk result (formula.new ≡ with_more formula.old (difference_vars problem.now)
         (difference_part problem.now formula.old.vars)) }
 {
+    // The limits of the file's sizes are known from here on.
+    let _posed = problem.posed();
     push_asked(alloc, formula, problem)?;
     push_exact(alloc, formula, problem)
 }

@@ -139,6 +139,8 @@ fn push_parts(
     ensures { OnOk result (formula.new ≡ with_more formula.old (all_unseen_vars problem.now (parts_of period))
         (all_unseen problem.now formula.old.vars (parts_of period))) }
 {
+    // The limits of the file's sizes are known from here on.
+    let _posed = problem.posed();
     for q in 0..period.length + 1 {
         if let Some(part) = period.part(q) {
             push_unseen(alloc, formula, problem, part)?;

@@ -66,6 +66,7 @@ IsSolution-made table size numbers history count sizes high wide begins goes_on 
       rule = λ t y x within framed unmarked. obeys table history size high wide goes_on t y x within framed;
       populated = λ k bound none. absurd (omega (arith, none));
       differ = λ pair none. cc;
+      exact = λ on period none. cc;
     }
 
 -- nothing of an open edge alone can fail to fit a file

@@ -40,6 +40,7 @@ pub(crate) fn with_bound(alloc: Global, demands: &Demands, bound: Bound) -> Resu
         edge: demands.edge,
         symmetry: demands.symmetry,
         period: demands.period,
+        exact: demands.exact,
         bounds: Bounds::new(bounds),
         differ: demands.differ,
     })

@@ -4,7 +4,8 @@ use Rattle.std.specs.Prelude.{replicate, unwrap_or}
 use Rattle.lls_rule.specs.Rule.{answer, successor, background}
 use Rattle.lls_grid.specs.History.{History, place_cell, at, nine}
 use Rattle.lls_symmetry.specs.Symmetry.{IsSymmetric}
-use Rattle.lls_problem.specs.Problem.{PosedProblem}
+use Rattle.lls_problem.specs.declared.demands.Period.{Period}
+use Rattle.lls_problem.specs.Problem.{PosedProblem, part_of}
 use Rattle.lls_problem.specs.Solution.{IsDifference}
 use Rattle.lls_encode.specs.Parts.{MeetsBefore, MeetsAfter}
 use Rattle.lls_open.specs.Between.{IsBetween, AreEnds, with_rule}
@@ -67,4 +68,8 @@ MeetsAfter-same p rule other h same meets = record {
           },
         ),
       );
+  exact = λ on period is q prime divides there.
+      let part : Period = part_of period q in
+      meets.exact on period is q prime divides (λ y x.
+      sym (at-same rule other h part.length (y +ℤ part.dy) (x +ℤ part.dx) same) ∙ there y x ∙ at-same rule other h 0 y x same);
 }

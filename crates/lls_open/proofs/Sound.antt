@@ -148,6 +148,7 @@ IsOpenSolution-by_clauses p form high values kept fitting ends enough satisfied 
         rule = Obeys-by_clauses p form high h values ends has body.1 same;
         populated = after.populated;
         differ = after.differ;
+        exact = after.exact;
       };
     }
 

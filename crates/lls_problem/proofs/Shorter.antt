@@ -176,7 +176,7 @@ abs_within (negsuc n) within = omega (arith, ints, within.0)
 below_by : (m n : ℕ) → m ≤ 64 → 64 < n → m < n
 below_by m n few more = omega (arith, few, more)
 
-shift_fits : (z : ℤ) → IsWithin MOST_SHIFT z → FitsSigned w32 z
+pub shift_fits : (z : ℤ) → IsWithin MOST_SHIFT z → FitsSigned w32 z
 shift_fits z within = fits_signed_from_abs w32 z (below_by (unsigned_abs z) _ (abs_within z within) (lit< tt))
 
 pub quotient_made : (z : ℤ) (q : ℕ) → IsWithin MOST_SHIFT z → 1 ≤ q → q ≤ 63 → to_z w32 (of_z w32 (int_div (to_z w32 (of_z w32 z)) (to_z w32 q))) ≡ int_div z (pos q)

@@ -63,7 +63,7 @@ formula_options = settings.Formula ∷ []
 
 -- the demands of a problem
 abbrev pub demand_options : List Setting
-demand_options = settings.Edge ∷ settings.Symmetry ∷ settings.Period ∷ settings.Live ∷ settings.Differ ∷ []
+demand_options = settings.Edge ∷ settings.Symmetry ∷ settings.Period ∷ settings.Exact ∷ settings.Live ∷ settings.Differ ∷ []
 
 -- what patterns are written in
 abbrev pub pattern_options : List Setting
@@ -135,6 +135,7 @@ option_name settings.Formula = codes "formula"
 option_name settings.Edge = codes "edge"
 option_name settings.Symmetry = codes "symmetry"
 option_name settings.Period = codes "period"
+option_name settings.Exact = codes "exact"
 option_name settings.Live = codes "live"
 option_name settings.Differ = codes "differ"
 option_name settings.As = codes "as"

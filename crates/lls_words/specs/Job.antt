@@ -1,7 +1,7 @@
 -- The job of a command line, or its first fault.
-use Rattle.std.specs.Prelude.{ℕ, ◌≤◌, Bool, false, List, [], ◌∷◌, length, All, Option, None, Some, Result, Ok, Err, if◌then◌else◌}
+use Rattle.std.specs.Prelude.{ℕ, ◌≤◌, Bool, false, List, [], ◌∷◌, length, All, Option, None, Some, is_some, find, Result, Ok, Err, if◌then◌else◌}
 use Rattle.std.specs.Str.{bytes_eq}
-use Rattle.std.specs.Option.{ForSome, option_map}
+use Rattle.std.specs.Option.{ForSome, option_map, option_map_or}
 use Rattle.lls_rule.specs.Rule.{table_of, by_counts}
 use Rattle.lls_hensel.specs.declared.read.RuleError.{RuleError}
 use Rattle.lls_hensel.specs.Isotropy.{IsIsotropic}
@@ -23,11 +23,11 @@ use Rattle.lls_words.specs.declared.crew_plan.CrewPlan.{CrewPlan}
 use Rattle.lls_words.specs.declared.job.Job.{Job}
 use Rattle.lls_words.specs.declared.job.Job.TheVariants as jobs
 use Rattle.lls_words.specs.declared.error.WordsError.{WordsError}
-use Rattle.lls_words.specs.declared.error.WordsError.TheVariants.{NoCommand, UnknownCommand, BadValue, BadRule, Operands, SameName, RulesCross, LooseBackground}
-use Rattle.lls_words.specs.Command.{command_of, operand_count}
+use Rattle.lls_words.specs.declared.error.WordsError.TheVariants.{NoCommand, UnknownCommand, BadValue, BadRule, NoPeriod, Operands, SameName, RulesCross, LooseBackground}
+use Rattle.lls_words.specs.Command.{command_of, operand_count, same_setting}
 use Rattle.lls_base.specs.Results.{and_then}
 use Rattle.lls_words.specs.Scan.{Operand, Given, scan}
-use Rattle.lls_words.specs.Values.{edge_in, period_in, bounds_in, generations_in, budget_in, keep_all_in, manner_in, rle_in, form_in, seed_in, size_in, searchers_in, most_budget, most_size, most_searchers, default_budget, default_further}
+use Rattle.lls_words.specs.Values.{edge_in, period_in, bounds_in, generations_in, exact_in, budget_in, keep_all_in, manner_in, rle_in, form_in, seed_in, size_in, searchers_in, most_budget, most_size, most_searchers, default_budget, default_further}
 
 -- a rule text at a place
 abbrev pub rule_or : ℕ → Result (List Bool) RuleError → Result (List Bool) WordsError
@@ -59,6 +59,8 @@ setting_value s place text settings.Symmetry =
     and_then (value_or place (symmetry_of text)) (λ symmetry. Ok (with_demands s (record s.demands { symmetry = symmetry })))
 setting_value s place text settings.Period =
     and_then (value_or place (period_in text)) (λ period. Ok (with_demands s (record s.demands { period = Some period })))
+setting_value s place text settings.Exact =
+    and_then (value_or place (exact_in text)) (λ exact. Ok (with_demands s (record s.demands { exact = exact })))
 setting_value s place text settings.Live =
     and_then (value_or place (bounds_in text)) (λ bounds. Ok (with_demands s (record s.demands { bounds = bounds })))
 setting_value s place text settings.Differ =
@@ -77,9 +79,20 @@ abbrev pub with_value : Settings → Given → Result Settings WordsError
 with_value s given = setting_value s given.place given.value given.setting
 
 -- the settings of the options in their order
+abbrev pub gathered : Settings → List Given → Result Settings WordsError
+gathered s [] = Ok s
+gathered s (given ∷ givens) = and_then (with_value s given) (λ more. gathered more givens)
+
+-- the place of an option, and that of `--exact` where it stands without `--period`
+abbrev pub place_of : Setting → List Given → Option ℕ
+place_of setting givens = option_map (λ given. given.place) (find (λ given. same_setting given.setting setting) givens)
+
+abbrev pub lone_exact : List Given → Option ℕ
+lone_exact givens = if is_some (place_of settings.Period givens) then None else place_of settings.Exact givens
+
+-- those settings, unless it does
 abbrev pub settled : Settings → List Given → Result Settings WordsError
-settled s [] = Ok s
-settled s (given ∷ givens) = and_then (with_value s given) (λ more. settled more givens)
+settled s givens = and_then (gathered s givens) (λ all. option_map_or (λ place. Err (NoPeriod place)) (lone_exact givens) (Ok all))
 
 -- Life, `B3/S23`
 abbrev pub life : List Bool

@@ -26,6 +26,7 @@ words_error_text (words.RepeatedOption place) = codes "RepeatedOption " ++ decim
 words_error_text (words.MissingValue place) = codes "MissingValue " ++ decimal place
 words_error_text (words.BadValue place) = codes "BadValue " ++ decimal place
 words_error_text (words.BadRule place fault) = bad_rule_text place fault
+words_error_text (words.NoPeriod place) = codes "NoPeriod " ++ decimal place
 words_error_text (words.Operands expected found) = codes "Operands " ++ pair_text expected found
 words_error_text (words.SameName place) = codes "SameName " ++ decimal place
 words_error_text (words.RulesCross nine) = codes "RulesCross " ++ decimal nine

@@ -91,6 +91,12 @@ size_in text = number_in 1 most_size text
 abbrev pub searchers_in : List ℕ → Option ℕ
 searchers_in text = number_in 1 most_searchers text
 
+-- whether the period is to be exact
+abbrev pub exact_in : List ℕ → Option Bool
+exact_in text =
+    if bytes_eq text (codes "yes") then Some true else
+    if bytes_eq text (codes "no") then Some false else None
+
 -- whether all learnt clauses are kept
 abbrev pub keep_all_in : List ℕ → Option Bool
 keep_all_in text =

@@ -33,6 +33,7 @@ pub enum Setting {
     Edge,
     Symmetry,
     Period,
+    Exact,
     Live,
     Differ,
     As,
@@ -178,7 +179,7 @@ fn is_among(options: &[Setting], setting: Setting) -> bool
 
 impl Setting {
     // The table of options.
-    const ALL: [Setting; 15] = [
+    const ALL: [Setting; 16] = [
         Setting::Rule,
         Setting::Low,
         Setting::High,
@@ -186,6 +187,7 @@ impl Setting {
         Setting::Edge,
         Setting::Symmetry,
         Setting::Period,
+        Setting::Exact,
         Setting::Live,
         Setting::Differ,
         Setting::As,
@@ -208,6 +210,7 @@ impl Setting {
             Setting::Edge => "edge",
             Setting::Symmetry => "symmetry",
             Setting::Period => "period",
+            Setting::Exact => "exact",
             Setting::Live => "live",
             Setting::Differ => "differ",
             Setting::As => "as",

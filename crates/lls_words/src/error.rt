@@ -24,6 +24,8 @@ pub enum WordsError {
     BadValue(u64),
     /// The value is no rule text; the place is the option's or the operand's.
     BadRule(u64, RuleError),
+    /// `--exact` stands at that place, and no `--period` anywhere.
+    NoPeriod(u64),
     /// How many operands the command has, and how many there are.
     Operands(u64, u64),
     /// A file that is written has the name of an earlier one.
@@ -56,6 +58,7 @@ impl fmt::Display for WordsError {
                 let fault = *fault;
                 BadRule { place, fault }.fmt(f)
             }
+            WordsError::NoPeriod(place) => write!(f, "NoPeriod {place}"),
             WordsError::Operands(expected, found) => write!(f, "Operands {expected} {found}"),
             WordsError::SameName(place) => write!(f, "SameName {place}"),
             WordsError::RulesCross(nine) => write!(f, "RulesCross {nine}"),

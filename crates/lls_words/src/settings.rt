@@ -4,7 +4,7 @@ ghost use Rattle.lls_base.specs.Results.{Gives};
 ghost use Rattle.lls_hensel.specs.Isotropy.{IsIsotropic};
 ghost use Rattle.lls_problem.specs.Bounds.{HasEnds};
 ghost use Rattle.lls_problem.specs.Problem.{IsPeriod};
-ghost use Rattle.lls_words.specs.Job.{rule_at, value_or, with_value, settled, defaults, AreSettled};
+ghost use Rattle.lls_words.specs.Job.{rule_at, value_or, with_value, gathered, place_of, lone_exact, settled, defaults, AreSettled};
 ghost use Rattle.lls_words.specs.Values.{period_in, bounds_in, budget_in, searchers_in};
 ghost use Rattle.lls_words.specs.Seen.{seen_given};
 
@@ -13,7 +13,7 @@ use crate::error::WordsError;
 use crate::further::Further;
 use crate::scan::Given;
 use crate::values::{
-    DEFAULT_BUDGET, MOST_BUDGET, MOST_SEARCHERS, bounds_in, budget_in, edge_in, form_in,
+    DEFAULT_BUDGET, MOST_BUDGET, MOST_SEARCHERS, bounds_in, budget_in, edge_in, exact_in, form_in,
     generations_in, keep_all_in, manner_in, period_in, rle_in, searchers_in, seed_in,
 };
 use lls_hensel::read_rule;
@@ -79,6 +79,7 @@ impl Settings {
             Setting::Edge => settings.demands.edge = edge_in(value).ok_or(fault)?,
             Setting::Symmetry => settings.demands.symmetry = read_symmetry(value).ok_or(fault)?,
             Setting::Period => settings.demands.period = Some(period_at(given.place, value)?),
+            Setting::Exact => settings.demands.exact = exact_in(value).ok_or(fault)?,
             Setting::Live => {
                 settings.demands.bounds = bounds_at(alloc, given.place, value)?;
             }
@@ -152,9 +153,9 @@ fn searchers_at(place: u64, text: &[u8]) -> Result<u32, WordsError>
     }
 }
 
-/// The settings of a command's options, in their order.
-pub fn settle(alloc: Global, givens: &[Given]) -> Result<Settings, WordsError>
-    ensures settings { Gives WordsError.Memory (λ s. s) result (settled defaults (map seen_given givens.now)) }
+// The settings of options, in their order.
+fn gather(alloc: Global, givens: &[Given]) -> Result<Settings, WordsError>
+    ensures settings { Gives WordsError.Memory (λ s. s) result (gathered defaults (map seen_given givens.now)) }
     ensures allowed { IfOk result AreSettled }
 {
     let mut settings = Settings::default_values(alloc);
@@ -162,4 +163,38 @@ pub fn settle(alloc: Global, givens: &[Given]) -> Result<Settings, WordsError>
         settings = settings.with_value(alloc, given)?;
     }
     Ok(settings)
+}
+
+// The place of an option, where it was given.
+#[tactic(auto, using(crate::proofs::Lists::mapped))]
+fn place_of(givens: &[Given], setting: Setting) -> Option<u64>
+    ensures { result ≡ place_of setting (map seen_given givens.now) }
+{
+    givens
+        .iter()
+        .find(|given| given.setting == setting)
+        .map(|given| given.place)
+}
+
+// The place of `--exact`, where it was given without `--period`.
+fn lone_exact(givens: &[Given]) -> Option<u64>
+    ensures { result ≡ lone_exact (map seen_given givens.now) }
+{
+    match place_of(givens, Setting::Period) {
+        Some(_) => None,
+        None => place_of(givens, Setting::Exact),
+    }
+}
+
+/// The settings of a command's options, in their order, or the first fault: of a value, and then `--exact` without
+/// `--period`.
+pub fn settle(alloc: Global, givens: &[Given]) -> Result<Settings, WordsError>
+    ensures settings { Gives WordsError.Memory (λ s. s) result (settled defaults (map seen_given givens.now)) }
+    ensures allowed { IfOk result AreSettled }
+{
+    let settings = gather(alloc, givens)?;
+    match lone_exact(givens) {
+        Some(place) => Err(WordsError::NoPeriod(place)),
+        None => Ok(settings),
+    }
 }

@@ -4,7 +4,7 @@ ghost use Rattle.std.specs.Option.{ForSome, option_map};
 ghost use Rattle.lls_grid.specs.Place.{IsWithin};
 ghost use Rattle.lls_problem.specs.Bounds.{HasEnds};
 ghost use Rattle.lls_problem.specs.Problem.{IsPeriod};
-ghost use Rattle.lls_words.specs.Values.{edge_in, budget_in, seed_in, size_in, searchers_in, keep_all_in, manner_in, rle_in, form_in, cut_at, number_in, shift_in, period_in, generation_in, generations_in, low_in, high_in, bound_in, bounds_in};
+ghost use Rattle.lls_words.specs.Values.{edge_in, budget_in, seed_in, size_in, searchers_in, exact_in, keep_all_in, manner_in, rle_in, form_in, cut_at, number_in, shift_in, period_in, generation_in, generations_in, low_in, high_in, bound_in, bounds_in};
 ghost use Rattle.lls_words.specs.Seen.{seen_pair};
 
 use crate::further::Manner;
@@ -99,6 +99,19 @@ pub fn searchers_in(text: &[u8]) -> Option<u32>
     ensures within { IfSome result (λ searchers. (1 ≤ searchers) × (searchers ≤ MOST_SEARCHERS)) }
 {
     number_in(text, 1, MOST_SEARCHERS)
+}
+
+/// Whether a text has the period be exact.
+pub fn exact_in(text: &[u8]) -> Option<bool>
+    ensures { result ≡ exact_in text.now }
+{
+    if text == b"yes".as_slice() {
+        Some(true)
+    } else if text == b"no".as_slice() {
+        Some(false)
+    } else {
+        None
+    }
 }
 
 /// Whether a text keeps all learnt clauses.

@@ -1,10 +1,11 @@
 -- The front, the transitions and the difference make the formula. What it says is the two theorems' matter.
-use Rattle.std.proofs.Common.{◌≡◌, ◌<◌, ◌∙◌, ap, sym, length, [], subst, ℕ, arith}
+use Rattle.std.proofs.Common.{◌≡◌, ◌<◌, ◌+◌, ◌∙◌, ap, sym, length, [], subst, ℕ, arith}
 use Rattle.lls_lit.specs.Formula.{Cnf, satisfies, IsUnsatisfiable}
+use Rattle.lls_encode.specs.Formula.{bounds_vars}
 use Rattle.lls_encode.specs.History.{HasAssignment}
 use Rattle.lls_encode.proofs.Complete.{HasAssignment-values_of, absent_from}
 use Rattle.lls_encode.proofs.Sound.{IsSolution-history_of, unsatisfiable_from}
-use Rattle.lls_encode.proofs.Made.{empty_of, few_clauses, made, room_for_transitions, room_for_bounds, room_for_difference}
+use Rattle.lls_encode.proofs.Made.{empty_of, few_after_vars, few_clauses, made, room_for_transitions, room_for_bounds, room_for_difference}
 use Rattle.lls_encode.proofs.formula.encode.Goals as goal
 
 abbrev with_vars : ℕ → Cnf
@@ -27,6 +28,16 @@ push_bounds-requires-clause-room c =
     (room_for_transitions p c.new-formula.result c.push_front.new.formula c.posed.ensures.kept c.demands-demands.ensures.kept empty c.in_ok-push_front.ensures)
     c.in_ok-push_transitions.ensures in
     omega (arith, room)
+
+pub push_difference-requires-clause-most : goal.push_difference-requires-clause-most
+push_difference-requires-clause-most c =
+    let p = c.args.problem.now in
+    let cells : length c.items-cells.result.now ≡ length p.posed.cells = ap length (c.items-cells.ensures ∙ ap (λ f. f.cells) (c.behind-problem.view_is ∙ c.posed.ensures.value)) in
+    let empty : c.new-formula.result.vars ≡ length c.items-cells.result.now = ap (λ (f : Cnf). f.vars) c.new-formula.ensures in
+    let front : c.push_front.new.formula.vars ≡ c.new-formula.result.vars = ap (λ (f : Cnf). f.vars) c.in_ok-push_front.ensures in
+    let transitions : c.push_transitions.new.formula.vars ≡ c.push_front.new.formula.vars = ap (λ (f : Cnf). f.vars) c.in_ok-push_transitions.ensures in
+    let bounded : c.push_bounds.new.formula.vars ≡ c.push_transitions.new.formula.vars + bounds_vars p = ap (λ (f : Cnf). f.vars) c.in_ok-push_bounds.ensures in
+    omega (arith, cells, empty, front, transitions, bounded, c.posed.ensures.kept.most, few_after_vars p c.posed.ensures.kept c.demands-demands.ensures.kept)
 
 pub push_difference-requires-clause-room : goal.push_difference-requires-clause-room
 push_difference-requires-clause-room c =
