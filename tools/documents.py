@@ -3,7 +3,7 @@
 
     documents.py [DOCUMENT ..]
 
-With no DOCUMENT: README.md and docs/tutorial.md. A command is a line of a code block that begins with `$ `; what follows it, up to
+With no DOCUMENT: README.md and both parts of the tutorial. A command is a line of a code block that begins with `$ `; what follows it, up to
 the next such line or the end of the block, is what it has to print on its two streams. Blocks without such a line aren't run. The
 commands of a document run one after the other, in a fresh folder that has this repository's `lls`, `tools`, `docs` and a copy of `examples`;
 `$ echo $?` shows the status of the one before. A command begins with `./lls`, `tools/` or a word of PLAIN: anything else is a fault,
@@ -95,7 +95,7 @@ def faults_of(document, folder):
 
 
 def main():
-    names = sys.argv[1:] or ["README.md", "docs/tutorial.md"]
+    names = sys.argv[1:] or ["README.md", "docs/tutorial.md", "docs/tutorial-2.md"]
     # Where the program isn't there yet, it is made here, and not inside a command's time.
     made = subprocess.run([f"{TOP}/lls", "rule", "B3/S23"], stdout=subprocess.DEVNULL, check=False)
     if made.returncode != 0:

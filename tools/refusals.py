@@ -1,5 +1,5 @@
 #!/usr/bin/env python3
-"""Compares README.md's lists of calls that may refuse with the public calls of the crates that answer a `Result`.
+"""Compares docs/proved.md's lists of calls that may refuse with the public calls of the crates that answer a `Result`.
 
     refusals.py
 
@@ -69,8 +69,8 @@ def public_calls():
 
 
 def listed_calls():
-    """The calls of README.md: those in the table's second column, and those behind a crate's name in the list."""
-    part = read(f"{TOP}/README.md").partition(HEADING)[2].partition("\n## ")[0]
+    """The calls of docs/proved.md: those in the table's second column, and those behind a crate's name in the list."""
+    part = read(f"{TOP}/docs/proved.md").partition(HEADING)[2].partition("\n## ")[0]
     rows = re.findall(r"^\| `(lls\w*)` \| ([^|]*)", part, re.M) + re.findall(r"^- `(lls\w*)`: (.*)", part, re.M)
     return {(crate, call) for crate, names in rows for call in re.findall(r"`([\w:]+)`", names)}
 
@@ -79,9 +79,9 @@ def main():
     ending.words(__doc__)
     there, listed = public_calls(), listed_calls()
     for crate, call in sorted(there - listed):
-        print(f"README.md doesn't say what stands after a refusal of {crate}'s {call}", file=sys.stderr)
+        print(f"docs/proved.md doesn't say what stands after a refusal of {crate}'s {call}", file=sys.stderr)
     for crate, call in sorted(listed - there):
-        print(f"README.md says what stands after a refusal of {crate}'s {call}, which is no public call that may refuse", file=sys.stderr)
+        print(f"docs/proved.md says what stands after a refusal of {crate}'s {call}, which is no public call that may refuse", file=sys.stderr)
     return 0 if there == listed and there else 1
 
 

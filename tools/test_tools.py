@@ -197,12 +197,11 @@ class Pose(unittest.TestCase):
         self.assertEqual(err, "options: --period 2 --differ 0,1\n" + note)
 
     def test_oscillators_of_smaller_periods_are_kept_out(self):
-        rows = {3: ("0,1", None), 4: ("0,2", None), 6: ("0,3", "2"), 9: ("0,3", None), 12: ("0,6", "4"), 30: ("0,15", "2 and 6 and 10")}
-        for period, (differ, left) in rows.items():
+        rows = {3: "--differ 0,1", 4: "--differ 0,2", 6: "--exact yes", 8: "--differ 0,4", 9: "--differ 0,3", 12: "--exact yes", 30: "--exact yes"}
+        for period, told in rows.items():
             err = self.posed("oscillator", 1, 1, period, "--margin", 0)[1]
-            note = f"note: oscillators of period {left} fit too\n" if left else ""
             room = "note: all phases have to lie in the grid of 1 by 1; --margin 1 leaves them more room\n"
-            self.assertEqual(err, f"options: --period {period} --differ {differ}\n{note}{room}")
+            self.assertEqual(err, f"options: --period {period} {told}\n{room}")
 
     def test_bands_regions_and_phases(self):
         self.assertEqual(self.posed("still", 3, 3, "--band", 1)[0].split("\n\n")[0], "#! --period 1 --live 0:1-\n* * 0\n* * *\n0 * *")
@@ -223,9 +222,10 @@ class Pose(unittest.TestCase):
         note = "note: all phases have to lie in the grid of 3 by 3; --margin 1 leaves them more room\n"
         self.assertEqual(err, "options: --period 1,-1,2 --live 0:1-\n" + note)
 
-    def test_slower_twins_are_named(self):
-        err = self.posed("spaceship", 4, 4, 4, 2, 0)[1]
-        self.assertEqual(err.split("\n")[1], "note: what is there again 2 generations later, moved by 1,0, fits too")
+    def test_ships_of_a_shorter_period_are_kept_out(self):
+        for move, told in (((4, 2, 0), "--period 4,2,0 --exact yes --live 0:1-"), ((6, -3, 0), "--period 6,-3,0 --exact yes --live 0:1-"), ((4, 1, 2), "--period 4,1,2 --live 0:1-")):
+            err = self.posed("spaceship", 4, 4, *move)[1]
+            self.assertEqual(err.split("\n")[0], f"options: {told}")
 
     def test_predecessor(self):
         path = scratch(self, "p.rle", "x = 2, y = 1, rule = B36/S23\nbo!\n")

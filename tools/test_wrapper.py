@@ -86,6 +86,7 @@ WORDS = [
     ("rule B2-/S", "NoLetters 2 3", "the rule 'B2-/S', column 3: letters have to follow the dash\n    B2-/S\n      ^"),
     ("rule 23/8c", "BadLetter 2 5", "the rule '23/8c', column 5: behind 8 stand no letters\n    23/8c\n        ^"),
     ("rule Bc/S", "BadLetter 2 2", "the rule 'Bc/S', column 2: a letter stands behind a digit\n    Bc/S\n     ^"),
+    ("search f p --exact yes", "NoPeriod 4", "'--exact' speaks of the period: `--period P,X,Y` says which"),
     ("make 1 8 p p", "SameName 5", "'p' is the file that make writes both: the proof needs another name"),
     ("rule B3", "Stray 2 3", "the rule 'B3', column 3: something is missing at its end; a rule is written as B3/S23, 23/3 or B2-a/S12\n    B3\n      ^"),
     ("search q.lls q.lls", "SameName 3", "'q.lls' is the file that search reads: the proof needs another name"),

@@ -34,6 +34,7 @@ solved edge mark early late obeys = record {
   rule = obeys;
   populated = λ k d none. absurd (omega (arith, none));
   differ = λ pair is. cc;
+  exact = λ on period none. cc;
 }
 
 gone_obeys : Obeys open_problem gone

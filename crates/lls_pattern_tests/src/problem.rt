@@ -16,6 +16,7 @@ fn judgements_and_faults_by_their_texts(rt: HostRuntime) -> Result<(), Fail> {
         (Judgement::Rule(1, -1, 1), "Rule 1 -1 1"),
         (Judgement::Population(0, 300), "Population 0 300"),
         (Judgement::Same, "Same"),
+        (Judgement::Shorter(3), "Shorter 3"),
     ];
     for (judgement, text) in judgements {
         assert!(rt; format!(in alloc; "{judgement}")?.as_str() == text);

@@ -23,14 +23,15 @@ fn job_of(alloc: Global, line: &str) -> Result<Job, Fail> {
 
 // Options, each with a value that it may have.
 const OPTIONS: &str = "\
-formula=1 rule=B3/S23 low=B3/S2 high=B3/S23 edge=open symmetry=C2 period=2 live=0:1- differ=0,1 as=rle budget=7 keep=all manner=steady crew=3 turns=5 best=1";
+formula=1 rule=B3/S23 low=B3/S2 high=B3/S23 edge=open symmetry=C2 period=2 exact=no live=0:1- differ=0,1 as=rle budget=7 keep=all manner=steady crew=3 turns=5 best=1";
 
 // Whether a command line takes an option that stands behind it, which is the only fault that it may have.
 fn takes(alloc: Global, line: &str, option: &str) -> Result<bool, Fail> {
     let line = format!(in alloc; "{line} --{option}")?;
     let words = words_of(alloc, &line)?;
     match read_job(alloc, &words) {
-        Ok(_) => Ok(true),
+        // `--exact` is taken, and wants a period beside it
+        Ok(_) | Err(WordsError::NoPeriod(_)) => Ok(true),
         Err(WordsError::UnknownOption(place)) => {
             if place == words.len() as u64 {
                 Ok(false)
@@ -62,33 +63,33 @@ fn each_command_takes_its_options_alone(rt: HostRuntime) -> Result<(), Fail> {
     let rows = [
         (
             "check f p",
-            "formula rule edge symmetry period live differ ",
+            "formula rule edge symmetry period exact live differ ",
         ),
         (
             "search f p",
-            "formula rule edge symmetry period live differ as budget keep manner crew turns ",
+            "formula rule edge symmetry period exact live differ as budget keep manner crew turns ",
         ),
-        ("judge f p", "rule edge symmetry period live differ as "),
-        ("cnf f", "formula rule edge symmetry period live differ "),
+        ("judge f p", "rule edge symmetry period exact live differ as "),
+        ("cnf f", "formula rule edge symmetry period exact live differ "),
         ("sat f p", "budget keep manner "),
         ("lrat f p", ""),
         ("rule B3/S23", ""),
         ("make 1 8 f p", ""),
         (
             "least f p",
-            "formula rule edge symmetry period live differ as budget keep manner ",
+            "formula rule edge symmetry period exact live differ as budget keep manner ",
         ),
         (
             "most f p",
-            "formula rule edge symmetry period live differ as budget keep manner ",
+            "formula rule edge symmetry period exact live differ as budget keep manner ",
         ),
         (
             "open f p",
-            "formula low high edge symmetry period live differ as budget keep manner ",
+            "formula low high edge symmetry period exact live differ as budget keep manner ",
         ),
         (
             "opencheck f p",
-            "formula low high edge symmetry period live differ ",
+            "formula low high edge symmetry period exact live differ ",
         ),
         ("trim f p o", ""),
     ];
@@ -337,13 +338,13 @@ fn problem_of(job: Job) -> Result<(Rule, Demands), Fail> {
 fn demands_of_a_problem(rt: HostRuntime) -> Result<(), Fail> {
     let alloc = rt.alloc();
     let rows = [
-        "judge f --symmetry D2/ --period 07,-64,064 p --live 0:1-,063:-08192 --differ=63,0",
-        "check --live=000:0001-,63:0-8192 --differ 63,0 f --period=7,-64,64 --symmetry D2/ p",
-        "cnf --symmetry D2/ --differ 063,00 --live 0:1-,63:-8192 --period 7,-64,64 f",
-        "least f p --symmetry D2/ --differ 063,00 --live 0:1-,63:-8192 --period 7,-64,64",
-        "most --symmetry D2/ f --differ 063,00 --live 0:1-,63:-8192 p --period 7,-64,64",
-        "open --symmetry D2/ --high=B3/S23 f --differ 063,00 p --live 0:1-,63:-8192 --period 7,-64,64",
-        "opencheck f f --symmetry D2/ --differ 063,00 --live 0:1-,63:-8192 --period 7,-64,64",
+        "judge f --symmetry D2/ --exact yes --period 07,-64,064 p --live 0:1-,063:-08192 --differ=63,0",
+        "check --live=000:0001-,63:0-8192 --differ 63,0 f --period=7,-64,64 --exact=yes --symmetry D2/ p",
+        "cnf --symmetry D2/ --differ 063,00 --live 0:1-,63:-8192 --period 7,-64,64 --exact yes f",
+        "least f p --symmetry D2/ --exact yes --differ 063,00 --live 0:1-,63:-8192 --period 7,-64,64",
+        "most --symmetry D2/ --exact yes f --differ 063,00 --live 0:1-,63:-8192 p --period 7,-64,64",
+        "open --symmetry D2/ --exact yes --high=B3/S23 f --differ 063,00 p --live 0:1-,63:-8192 --period 7,-64,64",
+        "opencheck f f --exact yes --symmetry D2/ --differ 063,00 --live 0:1-,63:-8192 --period 7,-64,64",
     ];
     let period = Period {
         length: 7,
@@ -366,6 +367,7 @@ fn demands_of_a_problem(rt: HostRuntime) -> Result<(), Fail> {
         let (_, demands) = problem_of(job_of(alloc, line)?)?;
         let found = (line, demands.symmetry, demands.period, demands.differ);
         assert!(rt; found == (line, Symmetry::D2Up, Some(period), Some((63, 0))));
+        assert!(rt; demands.exact, "at {line:?}");
         assert!(rt; demands.bounds.items() == bounds.as_slice(), "at {line:?}");
     }
     Ok(())
@@ -398,6 +400,7 @@ fn a_problem_without_options_is_of_life(rt: HostRuntime) -> Result<(), Fail> {
         let found = (counts_as_life(&rule), demands.edge, demands.symmetry);
         assert!(rt; (line, found) == (line, (true, Edge::Framed, Symmetry::C1)));
         assert!(rt; (line, demands.period, demands.differ) == (line, None, None));
+        assert!(rt; !demands.exact, "at {line:?}");
         assert!(rt; demands.bounds.items().is_empty(), "at {line:?}");
     }
     Ok(())

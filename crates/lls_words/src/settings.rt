@@ -1,9 +1,11 @@
 // The values of a command's options.
-ghost use Rattle.std.specs.Prelude.{◌≡◌, ◌≤◌, map, All, IfOk};
+ghost use Rattle.std.specs.Prelude.{◌≡◌, ◌≤◌, map, find, All, IfOk};
+ghost use Rattle.std.specs.Option.{option_map};
 ghost use Rattle.lls_base.specs.Results.{Gives};
 ghost use Rattle.lls_hensel.specs.Isotropy.{IsIsotropic};
 ghost use Rattle.lls_problem.specs.Bounds.{HasEnds};
 ghost use Rattle.lls_problem.specs.Problem.{IsPeriod};
+ghost use Rattle.lls_words.specs.Command.{same_setting};
 ghost use Rattle.lls_words.specs.Job.{rule_at, value_or, with_value, gathered, place_of, lone_exact, settled, defaults, AreSettled};
 ghost use Rattle.lls_words.specs.Values.{period_in, bounds_in, budget_in, searchers_in};
 ghost use Rattle.lls_words.specs.Seen.{seen_given};
@@ -165,15 +167,22 @@ fn gather(alloc: Global, givens: &[Given]) -> Result<Settings, WordsError>
     Ok(settings)
 }
 
+// The option of that setting, where it was given.
+fn given_of<'g, 'w>(givens: &'g [Given<'w>], setting: Setting) -> Option<&'g Given<'w>>
+    ensures { option_map (λ given. given.now) result ≡ find (λ given. same_setting given.setting setting) givens.now }
+{
+    givens.iter().find(|given| given.setting == setting)
+}
+
 // The place of an option, where it was given.
 #[tactic(auto, using(crate::proofs::Lists::mapped))]
 fn place_of(givens: &[Given], setting: Setting) -> Option<u64>
     ensures { result ≡ place_of setting (map seen_given givens.now) }
 {
-    givens
-        .iter()
-        .find(|given| given.setting == setting)
-        .map(|given| given.place)
+    match given_of(givens, setting) {
+        Some(given) => Some(given.place),
+        None => None,
+    }
 }
 
 // The place of `--exact`, where it was given without `--period`.
