@@ -560,7 +560,10 @@ class Help(Case):
         self.assertEqual(self.lls("fly", "--help"), (2, b"", "lls: no command 'fly'; ./lls --help names them\n"))
 
     def test_no_words(self):
-        self.assertEqual(self.lls(), (2, b"", self.lls("--help")[1].decode()))
+        status, out, err = self.lls()
+        self.assertEqual((status, out, len(err.splitlines())), (2, b"", 10))
+        named = err.partition("Commands: ")[2].partition(".\n")[0].split(", ")
+        self.assertEqual(sorted(named), sorted(words.COMMANDS))
 
 
 class Terminal(Case):

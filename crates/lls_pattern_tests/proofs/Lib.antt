@@ -1,1 +1,2 @@
 pub mod WorkedPlane
+pub mod ExactPlane

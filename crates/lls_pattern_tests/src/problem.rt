@@ -5,7 +5,7 @@ use std::test::Fail;
 #[test]
 fn judgements_and_faults_by_their_texts(rt: HostRuntime) -> Result<(), Fail> {
     let alloc = rt.alloc();
-    let judgements: [(Judgement, &str); 10] = [
+    let judgements: [(Judgement, &str); 11] = [
         (Judgement::Meets, "Meets"),
         (Judgement::Size, "Size"),
         (Judgement::Cell(0, 1, 2), "Cell 0 1 2"),
