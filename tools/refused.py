@@ -1,10 +1,11 @@
 #!/usr/bin/env python3
-"""Says what a person may have mixed up where `lls` doesn't take a proof: another formula, a file of another kind, or one that isn't whole.
+"""Says what a person may have mixed up where `lls` doesn't take a proof: another formula, a file of another kind, or one that isn't whole; and
+in words which demand a pattern breaks that is judged.
 
     refused.py PROGRAM WORD ..
 
-The WORDs are those of a command line of `lls` that ended with status 1; PROGRAM prints a formula where that is needed. Prints a line for each thing
-that is seen, and nothing where none is, where the command checks no proof, or where the files can't be read. `./lls` calls this.
+The WORDs are those of a command line of `lls` that has ended; PROGRAM prints a formula, or judges once more, where that is needed. Prints a line for each thing
+that is seen, and nothing where none is, where the command checks no proof and judges no pattern, or where the files can't be read. `./lls` calls this.
 """
 import re
 import subprocess
@@ -60,9 +61,37 @@ def ends_of(name):
         return start, file.read()
 
 
+def place(t, y, x):
+    return f"generation {t}, row {y}, column {x}, counted from 0"
+
+
+# What each broken demand is, by its numbers.
+BROKEN = {
+    "Size": lambda: "the pattern and the search file have other numbers of generations, rows or columns",
+    "Cell": lambda *at: f"{place(*at)}: the search file fixes this cell the other way",
+    "Name": lambda *at: f"{place(*at)}: this cell isn't as the first cell of its name",
+    "Symmetry": lambda *at: f"{place(*at)}: this cell isn't as its image under the symmetry",
+    "Background": lambda t: f"all that lies outside of the grid isn't in generation {t} as it is a period later",
+    "Moved": lambda *at: f"{place(*at)}: what is there isn't there again a period later, moved by the shift",
+    "Rule": lambda *at: f"{place(*at)}: the rule makes another cell there; -1, or as many as the grid has, is the ring round it",
+    "Population": lambda t, live: f"generation {t} has {live} live cells, and --live asks for another number",
+    "Same": lambda: "the two generations of --differ are equal",
+    "Shorter": lambda t: f"the period isn't exact: generation {t} is generation 0 already, moved along the same line",
+}
+
+
+def demand_of(program, words):
+    """Returns what demand the program finds broken, in words, or nothing."""
+    said = subprocess.run([program, *words], stdin=subprocess.DEVNULL, capture_output=True, text=True, check=False).stdout
+    name, *numbers = said.removeprefix("broken: ").split() or [""]
+    return [BROKEN[name](*numbers)] if said.startswith("broken: ") and name in BROKEN else []
+
+
 def notes_on(program, words):
     try:
         command, values = spoken.job(words)
+        if command == "judge":
+            return demand_of(program, words)
         if command not in ("check", "lrat", "opencheck", "trim"):
             return []
         name, given = values["proof"], spoken.scan(words, spoken.COMMANDS[command][1])[1]

@@ -41,7 +41,7 @@ WORDS = [
     ("lrat f -", "BadWord 3", "'-' is no option; a file whose name begins with - is written ./-name"),
     ("lrat f -p", "BadWord 3", "'-p' is no option; a file whose name begins with - is written ./-p"),
     ("search q.lls p --simmetry C2", "UnknownOption 4", "no option '--simmetry'; is it --symmetry?"),
-    ("cnf q.lls --fast=1", "UnknownOption 3", "no option '--fast'; cnf takes --rule --edge --symmetry --period --live --differ --formula"),
+    ("cnf q.lls --fast=1", "UnknownOption 3", "no option '--fast'; cnf takes --rule --edge --symmetry --period --exact --live --differ --formula"),
     ("check q.lls p --budget 9", "UnknownOption 4", "check doesn't take --budget, which is for search, sat, least, most, open"),
     ("least q.lls p --crew 2", "UnknownOption 4", "least doesn't take --crew, which is for search"),
     ("sat f p --edge open", "UnknownOption 4", "sat doesn't take --edge, which is for check, search, judge, cnf, least, most, open, opencheck"),
@@ -495,6 +495,19 @@ class Refused(Case):
         self.assertEqual(self.lls("check", "q.lls", "p", OUT="refused", ENDS="1"), (1, b"refused", note))
         self.assertEqual(self.lls("--quiet", "check", "q.lls", "p", OUT="refused", ENDS="1"), (1, b"refused", ""))
         self.assertEqual(self.lls("check", "q.lls", "p", OUT="accepted", ENDS="0"), (0, b"accepted", ""))
+
+    def test_broken_demands_in_words(self):
+        rows = {
+            "Size": "the pattern and the search file have other numbers of generations, rows or columns",
+            "Moved 0 -1 4": "generation 0, row -1, column 4, counted from 0: what is there isn't there again a period later, moved by the shift",
+            "Population 1 7": "generation 1 has 7 live cells, and --live asks for another number",
+            "Same": "the two generations of --differ are equal",
+            "Shorter 3": "the period isn't exact: generation 3 is generation 0 already, moved along the same line",
+        }
+        for said, note in rows.items():
+            status, out, err = self.lls("judge", "q.lls", "p", OUT=f"broken: {said}", ENDS="1")
+            self.assertEqual((status, out, err), (1, f"broken: {said}".encode(), f"lls: note: {note}\n"))
+        self.assertEqual(self.lls("judge", "q.lls", "p", OUT="meets", ENDS="0"), (0, b"meets", ""))
 
     def test_nothing_is_said_where_nothing_is_seen(self):
         for line in ("check q.lls none", "search q.lls p", "check q.lls", "", "judge q.lls p"):
