@@ -42,6 +42,7 @@ words_status-is (words.BadValue place) = tt
 words_status-is (words.BadRule place fault) = tt
 words_status-is (words.Operands expected found) = tt
 words_status-is (words.SameName place) = tt
+words_status-is (words.NoPeriod place) = tt
 words_status-is (words.RulesCross nine) = tt
 words_status-is (words.LooseBackground nine) = tt
 
@@ -58,6 +59,7 @@ words_status-cases (words.BadValue place) = inl refl
 words_status-cases (words.BadRule place fault) = inl refl
 words_status-cases (words.Operands expected found) = inl refl
 words_status-cases (words.SameName place) = inl refl
+words_status-cases (words.NoPeriod place) = inl refl
 words_status-cases (words.RulesCross nine) = inl refl
 words_status-cases (words.LooseBackground nine) = inl refl
 

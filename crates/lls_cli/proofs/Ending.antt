@@ -161,6 +161,7 @@ words_ended (words.BadValue place) task shelf out err_before err_after status fi
 words_ended (words.BadRule place fault) task shelf out err_before err_after status fits read said = rw (read (λ is. cc)) (words_refused (words.BadRule place fault) shelf out err_before err_after status fits said)
 words_ended (words.Operands expected found) task shelf out err_before err_after status fits read said = rw (read (λ is. cc)) (words_refused (words.Operands expected found) shelf out err_before err_after status fits said)
 words_ended (words.SameName place) task shelf out err_before err_after status fits read said = rw (read (λ is. cc)) (words_refused (words.SameName place) shelf out err_before err_after status fits said)
+words_ended (words.NoPeriod place) task shelf out err_before err_after status fits read said = rw (read (λ is. cc)) (words_refused (words.NoPeriod place) shelf out err_before err_after status fits said)
 words_ended (words.RulesCross nine) task shelf out err_before err_after status fits read said = rw (read (λ is. cc)) (words_refused (words.RulesCross nine) shelf out err_before err_after status fits said)
 words_ended (words.LooseBackground nine) task shelf out err_before err_after status fits read said = rw (read (λ is. cc)) (words_refused (words.LooseBackground nine) shelf out err_before err_after status fits said)
 

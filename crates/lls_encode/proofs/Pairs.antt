@@ -1,5 +1,5 @@
 -- The pairs of a shorter period: their generations, and how many there are.
-use Rattle.std.proofs.Common.{◌≡◌, ◌<◌, ◌≤◌, ℕ, zero, suc, ◌+◌, ◌-◌, ◌*◌, ℤ, pos, ◌-ℤ◌, Bool, true, false, cond, List, [], ◌∷◌, ◌++◌, map, length, refl, sym, ap, ◌∙◌, subst, arith, length-append}
+use Rattle.std.proofs.Common.{◌≡◌, ◌<◌, ◌≤◌, ℕ, ◌+◌, ◌-◌, ℤ, pos, ◌-ℤ◌, Bool, true, false, cond, List, [], ◌∷◌, length, sym, ap, ◌∙◌, subst, arith, length-append}
 use Rattle.std.specs.List.{AllByRecursion as Each, All, flat_map, range_with_len}
 use Rattle.std.proofs.lemmas.List.{append-nil}
 use Rattle.std.proofs.lemmas.List.Elements.{All-from_recursion}
@@ -71,6 +71,9 @@ pairs_few p part kept =
       arith,
       length-append (all_leaving course height width) (all_entering course height width),
       length-rows (row_leaving course width) height (λ y. omega (arith, kept.width.1, length-map-range_with_len (leaving course y) 0 width)) kept.height.1,
-      length-rows (row_entering course height width) height (λ y. omega (arith, kept.width.1,
-      length-flat_map_most (entering course height width y) 1 (λ x. length-one_or_none (coming course y x) (is_on_grid height width (pos y -ℤ course.dy) (pos x -ℤ course.dx))) 0 width)) kept.height.1,
+      length-rows (row_entering course height width) height (λ y. omega (
+        arith,
+        kept.width.1,
+        length-flat_map_most (entering course height width y) 1 (λ x. length-one_or_none (coming course y x) (is_on_grid height width (pos y -ℤ course.dy) (pos x -ℤ course.dx))) 0 width,
+      )) kept.height.1,
     )

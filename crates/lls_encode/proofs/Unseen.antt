@@ -1,6 +1,6 @@
 -- The clauses of an exact period say that generation 0 isn't there again after a shorter one, and a solution's assignment satisfies them.
-use Rattle.std.proofs.Common.{◌≡◌, ◌<◌, ◌≤◌, ℕ, zero, suc, ◌+◌, ◌-◌, ℤ, pos, ◌+ℤ◌, Bool, true, false, not, ◌&&◌, ◌||◌, cond, List, [], ◌∷◌, ◌++◌, map, length, get_or, refl, sym, ap, ◌∙◌, subst, arith, length-append}
-use Rattle.std.specs.List.{AllByRecursion as Each, All, list_any, flat_map, range_with_len}
+use Rattle.std.proofs.Common.{◌≡◌, ◌<◌, ℕ, ◌+◌, ℤ, ◌+ℤ◌, Bool, true, false, not, ◌&&◌, ◌||◌, cond, List, [], ◌∷◌, ◌++◌, map, length, get_or, refl, sym, ap, ◌∙◌, subst, arith, length-append}
+use Rattle.std.specs.List.{AllByRecursion as Each, list_any, flat_map, range_with_len}
 use Rattle.std.proofs.lemmas.Bool.{and_parts, and_from}
 use Rattle.std.proofs.lemmas.List.{get_or_append_left, get_or-append-add}
 use Rattle.std.proofs.lemmas.List.Elements.{All-from_recursion, All-from_get_or, recursion_from_All}
@@ -10,7 +10,7 @@ use Rattle.lls_lit.specs.Formula.{is_true, satisfies}
 use Rattle.lls_rule.specs.Rule.{background}
 use Rattle.lls_grid.specs.History.{History, at}
 use Rattle.lls_symmetry.specs.declared.moved.Moved.{Moved}
-use Rattle.lls_symmetry.specs.Moved.{generation_moved, IsMovedPair}
+use Rattle.lls_symmetry.specs.Moved.{IsMovedPair}
 use Rattle.lls_problem.specs.declared.demands.Period.{Period}
 use Rattle.lls_problem.specs.Problem.{PosedProblem, AreFitting}
 use Rattle.lls_problem.specs.Solution.{IsThere, IsExact}
@@ -29,7 +29,7 @@ use Rattle.lls_encode.proofs.Parts.{satisfies-append, satisfied_in_range}
 use Rattle.lls_encode.proofs.Values.{HasCells, is_true-cell, value_of-place_at}
 use Rattle.lls_encode.proofs.Alike.{IsOpposed, IsOpposed-place_at}
 use Rattle.lls_encode.proofs.Returned.{said}
-use Rattle.lls_encode.proofs.Differing.{HasTrue, some_true, any_true, differ-unequal, literal}
+use Rattle.lls_encode.proofs.Differing.{HasTrue, some_true, any_true, literal}
 use Rattle.lls_encode.proofs.Pairs.{IsInFile, pairs_in}
 
 -- the clause of a literal and two places

@@ -66,11 +66,7 @@ fn push_differing(
 }
 
 /// Pushes the clauses of two generations that are asked to differ, where there are such, and their variables.
-pub fn push_asked(
-    alloc: Global,
-    formula: &mut Formula,
-    problem: &Problem,
-) -> Result<(), Memory>
+pub fn push_asked(alloc: Global, formula: &mut Formula, problem: &Problem) -> Result<(), Memory>
     requires vars { length problem.now.posed.cells ≤ formula.old.vars }
     requires most { formula.old.vars + asked_vars problem.now ≤ Var.MOST }
     requires room { HasRoom formula.old MOST_CLAUSES_ASKED }

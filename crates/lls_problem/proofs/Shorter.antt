@@ -1,5 +1,5 @@
 -- A history's period is exact where generation 0 is there again after none of the shorter ones.
-use Rattle.std.proofs.Common.{FitsSigned, w32, to_z, of_z, to_z-of_z, lit<, ◌≡◌, ◌≢◌, ◌<◌, ◌≤◌, ℕ, zero, suc, ◌+◌, ◌-◌, ◌*◌, ◌/◌, ◌%◌, ◌==◌, ℤ, pos, negsuc, ◌+ℤ◌, neg_ℤ, unsigned_abs, int_div, Bool, true, false, not, ◌&&◌, cond, List, [], ◌∷◌, ◌++◌, map, Option, None, Some, refl, sym, ap, ◌∙◌, subst, arith, nat_le, inl, inr}
+use Rattle.std.proofs.Common.{FitsSigned, w32, to_z, of_z, to_z-of_z, lit<, ◌≡◌, ◌≢◌, ◌<◌, ◌≤◌, ℕ, zero, suc, ◌+◌, ◌-◌, ◌*◌, ◌/◌, ◌%◌, ◌==◌, ℤ, pos, negsuc, ◌+ℤ◌, neg_ℤ, unsigned_abs, int_div, Bool, true, false, not, ◌&&◌, cond, List, [], ◌∷◌, ◌++◌, map, Option, None, Some, refl, sym, ap, ◌∙◌, subst, arith, nat_le}
 use Rattle.std.specs.List.{AllByRecursion as Each, list_all, cons_option, flat_map, filter_map, range_with_len}
 use Rattle.std.specs.Option.{option_map_or}
 use Rattle.std.proofs.lemmas.Int.{ints, fits_signed_from_abs, quot_fits, to_z_pos}

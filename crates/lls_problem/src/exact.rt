@@ -34,9 +34,7 @@ impl Period {
         requires most { q ≤ self.length }
         ensures { result ≡ is_multiple self q }
     {
-        self.length % q == 0
-            && self.dx.unsigned_abs() % q == 0
-            && self.dy.unsigned_abs() % q == 0
+        self.length % q == 0 && self.dx.unsigned_abs() % q == 0 && self.dy.unsigned_abs() % q == 0
     }
 
     /// The shorter period of which q make this one, where q is a prime that divides the period and both parts of its

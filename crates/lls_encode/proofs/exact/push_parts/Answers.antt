@@ -1,4 +1,4 @@
-use Rattle.std.proofs.Common.{◌≡◌, ◌≤◌, ◌+◌, ◌-◌, ◌∙◌, ◌∷◌, ap, sym, arith, Some}
+use Rattle.std.proofs.Common.{◌≡◌, ◌+◌, ◌-◌, ◌∙◌, ap, sym, arith}
 use Rattle.std.specs.List.{filter_map, range_with_len}
 use Rattle.lls_lit.specs.Formula.{Cnf}
 use Rattle.lls_problem.specs.Exact.{part_by, parts_of}

@@ -1,4 +1,4 @@
-use Rattle.std.proofs.Common.{FitsSigned, w32, to_z, of_z, to_z-of_z, ◌≡◌, ◌+◌, ◌∙◌, false, length, ap, sym, subst, arith}
+use Rattle.std.proofs.Common.{FitsSigned, w32, to_z, of_z, to_z-of_z, ◌≡◌, ◌+◌, ◌∙◌, false, length, ap, sym, arith}
 use Rattle.lls_rule.specs.Rule.{background}
 use Rattle.lls_symmetry.specs.Moved.{moved_pairs_of}
 use Rattle.lls_problem.specs.Unlike.{differ}
