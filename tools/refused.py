@@ -62,7 +62,8 @@ def ends_of(name):
 
 
 def place(t, y, x):
-    return f"generation {t}, row {y}, column {x}, counted from 0"
+    ring = ", in the ring round the grid" if "-1" in (y, x) else ""
+    return f"generation {t}, row {y}, column {x}, counted from 0{ring}"
 
 
 # What each broken demand is, by its numbers.
@@ -73,7 +74,7 @@ BROKEN = {
     "Symmetry": lambda *at: f"{place(*at)}: this cell isn't as its image under the symmetry",
     "Background": lambda t: f"all that lies outside of the grid isn't in generation {t} as it is a period later",
     "Moved": lambda *at: f"{place(*at)}: what is there isn't there again a period later, moved by the shift",
-    "Rule": lambda *at: f"{place(*at)}: the rule makes another cell there; -1, or as many as the grid has, is the ring round it",
+    "Rule": lambda *at: f"{place(*at)}: the rule makes another cell there",
     "Population": lambda t, live: f"generation {t} has {live} live cells, and --live asks for another number",
     "Same": lambda: "the two generations of --differ are equal",
     "Shorter": lambda t: f"the period isn't exact: generation {t} is generation 0 already, moved along the same line",

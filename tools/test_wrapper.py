@@ -499,7 +499,7 @@ class Refused(Case):
     def test_broken_demands_in_words(self):
         rows = {
             "Size": "the pattern and the search file have other numbers of generations, rows or columns",
-            "Moved 0 -1 4": "generation 0, row -1, column 4, counted from 0: what is there isn't there again a period later, moved by the shift",
+            "Moved 0 -1 4": "generation 0, row -1, column 4, counted from 0, in the ring round the grid: what is there isn't there again a period later, moved by the shift",
             "Population 1 7": "generation 1 has 7 live cells, and --live asks for another number",
             "Same": "the two generations of --differ are equal",
             "Shorter 3": "the period isn't exact: generation 3 is generation 0 already, moved along the same line",
