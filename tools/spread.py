@@ -4,15 +4,15 @@
     spread.py start SEARCH FOLDER [problem options] [--bare] [--budget N] [--cells N] [--lls PROGRAM]
     spread.py run FOLDER [-- options of GNU parallel]
     spread.py next FOLDER [--age SECONDS]
-    spread.py join FOLDER PROOF
+    spread.py join FOLDER PROOF [--trimmed]
     spread.py look FOLDER
 
 `start` takes the search file, the options of its question (--rule, --edge, --symmetry, --period, --exact, --live, --differ) and the form of
 the formula (--formula), which are those of the file's line `#!` where the words have none and not --bare, and lays out the first pieces in FOLDER: each is the search file with the N unknown cells of generation 0 that
 are nearest to the middle (1 where --cells isn't given) fixed one way. `run` searches all open pieces in rounds, each within its budget (10,000 for the first ones), by GNU
 parallel (Debian's package `parallel`): over this machine's processors, or with `-- --sshloginfile HOSTS` over many machines that have the
-program under the same name, and `rsync`. A piece whose budget is spent is split by one more cell, and its parts get twice the budget. `run` can be
-killed at any time and begun again; a piece counts only where its answer stands whole. It ends with 20 where every piece is closed,
+program under the same name, and `rsync`. A piece whose budget is spent is tried in the other manner, and where that spends it too it is split by one more cell, and its parts get twice the budget. `run` can be
+killed at any time and begun again; a piece counts only where its answer stands whole and comes from the program that `start` had: its sum goes with each answer. It ends with 20 where every piece is closed,
 and with 10 where one has a pattern, which fits the whole file too and is judged against it.
 
 `next` is for queues of jobs, and needs no GNU parallel: it searches one open piece and ends with 0, or with 30 where none is free just now, and as `run` does where
@@ -20,11 +20,14 @@ nothing is left. Any number of them may run at once over a folder that their mac
 is older than --age (a day): whoever made it is gone then.
 
 `join` writes the proof that no generations fit SEARCH and the options, and has `lls check` look at it. It reads the pieces' proofs
-line by line, so its memory goes with the clauses that are in use at a time. `look` says how a search stands.
+line by line, so its memory goes with the clauses that are in use at a time. With --trimmed it has `lls trim` leave out what the whole doesn't need, which takes memory for the whole.
+`look` says how a search stands: which pieces are open, what runs where and since when, and how long the rest may take, which is the time of the closed pieces times the share of the
+space that is open over that which is closed.
 
 Nothing here has to be trusted: `lls check SEARCH PROOF [options]` shows the absence, and `lls judge` a pattern.
 """
 import argparse
+import hashlib
 import json
 import os
 import re
@@ -43,6 +46,9 @@ FIRST_BUDGET, MOST_BUDGET = 10_000, 10_000_000
 # the seconds of a day
 MOST_AGE = 86_400
 PATTERN, ABSENT, UNDECIDED = 10, 20, 30
+MANNERS = ("restless", "steady")
+# An addition of the empty clause, which ends the proof of an absence.
+EMPTY = re.compile(r"\d+ 0( \d+)* 0\n?$")
 
 
 class Stop(Exception):
@@ -84,6 +90,19 @@ class Piece:
         with open(self.path("tries"), encoding="ascii") as file:
             return int(file.read())
 
+    def options(self):
+        """Returns the options of its next search."""
+        manner = [f"--manner={other_manner(self.spread.options)}"] if self.has("other") else []
+        return [*self.spread.options, *manner, f"--budget={self.budget()}"]
+
+    def took(self):
+        """Returns on which machine it was closed and in how many seconds, if that is known."""
+        if not self.has("took"):
+            return "", 0.0
+        with open(self.path("took"), encoding="ascii") as file:
+            machine, seconds = file.read().split()
+        return machine, float(seconds)
+
     def budget(self):
         return min(MOST_BUDGET, self.spread.budget * 2 ** (self.depth() - self.spread.cells + self.tries()))
 
@@ -99,7 +118,7 @@ class Spread:
         except OSError:
             raise Stop(f"{folder}: no search is laid out here; `start` does that") from None
         self.options, self.budget, self.cells = asked["options"], asked["budget"], asked["cells"]
-        self.clauses, self.program = asked["clauses"], asked["lls"]
+        self.clauses, self.program, self.sum = asked["clauses"], asked["lls"], asked.get("sum")
         with open(f"{folder}/search.lls", encoding="utf-8") as file:
             self.generations = read_search_file(file.read())
         self.order = splitting_order(self.generations[0])
@@ -116,6 +135,26 @@ class Spread:
                 waiting += reversed(piece.parts())
             else:
                 yield piece
+
+
+def other_manner(options):
+    """Returns the manner that a search with these options doesn't go about it by, as docs/usage.md says which that is."""
+    said = dict(option[2:].split("=", 1) for option in options)
+    period, *move = map(int, said.get("period", "0").split(","))
+    stays = not any(move)
+    is_steady = period >= 4 or period == 3 and stays or period == 0 and said.get("edge") == "open"
+    return MANNERS[0] if is_steady else MANNERS[1]
+
+
+def made_of(program):
+    """Returns the file whose bytes say which program this is: of the repository's wrapper, what it runs."""
+    built = f"{os.path.dirname(os.path.realpath(program))}/crates/lls/out/lls"
+    return built if os.path.exists(built) else program
+
+
+def sum_of(name):
+    with open(name, "rb") as file:
+        return hashlib.sha256(file.read()).hexdigest()
 
 
 def splitting_order(rows):
@@ -175,7 +214,7 @@ def start(words):
         raise Stop(f"generation 0 has {free} unknown cells to fix, and not {words.cells}")
     os.makedirs(f"{words.folder}/pieces")
     write_whole(f"{words.folder}/search.lls", text)
-    asked = {"options": options, "budget": words.budget, "cells": words.cells, "clauses": clauses, "lls": os.path.abspath(words.lls)}
+    asked = {"options": options, "budget": words.budget, "cells": words.cells, "clauses": clauses, "lls": os.path.abspath(words.lls), "sum": sum_of(made_of(words.lls))}
     write_whole(f"{words.folder}/asked.json", json.dumps(asked, indent=1) + "\n")
     print(f"{2 ** words.cells} pieces, each with a budget of {words.budget:,}")
     return 0
@@ -183,11 +222,14 @@ def start(words):
 
 # Rounds.
 
-# One job: the search, and a file that holds its status and behind it what it found, under its final name only where it is whole.
+# One job: the search, and a file that holds its status, the program's sum, the machine and the seconds, and behind them what it found, under its
+# final name only where it is whole.
 JOB = (
-    "{lls} search pieces/{{1}}.lls pieces/{{1}}.part {options} --budget={{2}} >pieces/{{1}}.out 2>pieces/{{1}}.err; s=$?; "
+    "b=$(date +%s); echo $(hostname) $b >pieces/{{1}}.runs; "
+    "{lls} search pieces/{{1}}.lls pieces/{{1}}.part {{2}} >pieces/{{1}}.out 2>pieces/{{1}}.err; s=$?; rm -f pieces/{{1}}.runs; "
     "case $s in 10) f=pieces/{{1}}.out;; 20) f=pieces/{{1}}.part;; 30) f=/dev/null;; *) cat pieces/{{1}}.err >&2; exit $s;; esac; "
-    "( echo $s; cat $f ) >pieces/{{1}}.new && mv pieces/{{1}}.new pieces/{{1}}.ended; rm -f pieces/{{1}}.part pieces/{{1}}.out pieces/{{1}}.err"
+    "m=$(sha256sum <{made}); ( echo $s ${{m%% *}} $(hostname) $(($(date +%s) - b)) && cat $f ) >pieces/{{1}}.new && mv pieces/{{1}}.new pieces/{{1}}.ended; "
+    "rm -f pieces/{{1}}.new pieces/{{1}}.part pieces/{{1}}.out pieces/{{1}}.err"
 )
 
 
@@ -200,14 +242,13 @@ def search_round(spread, pieces, more):
     """Searches pieces by GNU parallel, and returns whether it could."""
     for piece in pieces:
         write_whole(piece.path("lls"), text_of(piece))
-    write_whole(f"{spread.folder}/round", "".join(f"{piece.name}\t{piece.budget()}\n" for piece in pieces))
-    job = JOB.format(lls=shlex.quote(spread.program), options=" ".join(map(shlex.quote, spread.options)))
+    write_whole(f"{spread.folder}/round", "".join(f"{piece.name}\t{' '.join(map(shlex.quote, piece.options()))}\n" for piece in pieces))
+    job = JOB.format(lls=shlex.quote(spread.program), made=shlex.quote(made_of(spread.program)))
     words = ["parallel", "--will-cite", "--joblog", "joblog", "--colsep", "\t", "-a", "round"]
-    if sys.stderr.isatty():
-        words.append("--eta")
     if any(word.startswith(("--sshlogin", "-S")) for word in more):
         words += ["--transferfile", "pieces/{1}.lls", "--return", "pieces/{1}.ended", "--cleanup"]
-    subprocess.run([*words, *more, job], cwd=spread.folder, check=False)
+    with subprocess.Popen([*words, *more, job], cwd=spread.folder) as parallel:
+        show_round(spread, pieces, parallel)
 
 
 def take_ended(spread, piece):
@@ -215,20 +256,41 @@ def take_ended(spread, piece):
     if not piece.has("ended"):
         return None
     with open(piece.path("ended"), encoding="ascii") as file:
-        status = int(file.readline())
+        head = file.readline().split()
+        status, is_ours = int(head[0]), spread.sum in (None, head[1])
+        whole = status != ABSENT or EMPTY.match(last_line(piece.path("ended")))
+        if not is_ours or not whole:
+            os.remove(piece.path("ended"))
+            print(f"{piece.name} is searched again: {'its proof is cut off' if is_ours else f'{head[2]} has another program'}", file=sys.stderr)
+            return None
         if status in (PATTERN, ABSENT):
             kept = piece.path("pattern" if status == PATTERN else "proof")
             with open(f"{kept}.new", "w", encoding="ascii") as to:
                 shutil.copyfileobj(file, to)
             os.replace(f"{kept}.new", kept)
-    if status == UNDECIDED and piece.depth() < len(spread.order):
+            write_whole(piece.path("took"), f"{head[2]} {head[3]}\n")
+    if status == UNDECIDED and not piece.has("other"):
+        write_whole(piece.path("other"), "")
+    elif status == UNDECIDED and piece.depth() < len(spread.order):
         write_whole(piece.path("split"), "")
     elif status == UNDECIDED:
         if piece.budget() == MOST_BUDGET:
             raise Stop(f"{piece.name} has no cell left to fix, and is undecided with the greatest budget")
         write_whole(piece.path("tries"), str(piece.tries() + 1))
+        os.remove(piece.path("other"))
     os.remove(piece.path("ended"))
     return status
+
+
+def last_line(path):
+    """Returns the last line of a file, of which no more than that is read where it is short."""
+    with open(path, "rb") as file:
+        end, size = b"", file.seek(0, os.SEEK_END)
+        while size > 0 and b"\n" not in end.rstrip(b"\n"):
+            size = max(0, size - 65_536)
+            file.seek(size)
+            end = file.read()
+    return end.rstrip(b"\n").rpartition(b"\n")[2].decode("ascii", "replace") + ("\n" if end.endswith(b"\n") else "")
 
 
 def stands(leaves):
@@ -253,17 +315,17 @@ def run(words):
     if shutil.which("parallel") is None:
         raise Stop("GNU parallel isn't there; it is Debian's package `parallel`")
     while True:
-        for piece in list(spread.leaves()):
-            take_ended(spread, piece)
+        taken = [take_ended(spread, piece) for piece in list(spread.leaves()) if piece.has("ended")]
+        if taken and not any(taken):
+            raise Stop("no answer of this round can be taken: `start` lays out a search for this program")
         leaves = list(spread.leaves())
         found = next_of(leaves, "pattern")
         if found:
             return judged(spread, found)
-        count, closed, share = stands(leaves)
-        print(f"{count} open, {closed} closed, {100 * share:.4g} % of the space closed, {time.time() - began:.0f} s", flush=True)
-        if count == 0:
-            return ABSENT
+        print(f"{standing(leaves)}, {time.time() - began:.0f} s", flush=True)
         pieces = [piece for piece in leaves if not piece.has("proof")]
+        if not pieces:
+            return ABSENT
         search_round(spread, pieces, words.more)
         if not any(piece.has("ended") for piece in pieces):
             raise Stop(f"no piece ended in this round; {words.folder}/joblog says how the jobs did")
@@ -280,7 +342,8 @@ class Lock:
 
     def make(self):
         try:
-            os.close(os.open(self.path, os.O_CREAT | os.O_EXCL | os.O_WRONLY))
+            with os.fdopen(os.open(self.path, os.O_CREAT | os.O_EXCL | os.O_WRONLY), "w") as file:
+                file.write(f"{socket.gethostname()} {time.time():.0f}\n")
             return True
         except FileExistsError:
             return False
@@ -314,13 +377,14 @@ def search_one(spread, piece):
     part, out = piece.path(f"part.{whose()}"), piece.path(f"out.{whose()}")
     try:
         with open(out, "wb") as file:
-            words = [spread.program, "search", piece.path("lls"), part, *spread.options, f"--budget={piece.budget()}"]
+            began, words = time.time(), [spread.program, "search", piece.path("lls"), part, *piece.options()]
             done = subprocess.run(words, stdin=subprocess.DEVNULL, stdout=file, stderr=subprocess.PIPE, check=False)
         if done.returncode not in (PATTERN, ABSENT, UNDECIDED):
             raise Stop(f"{piece.name}: {done.stderr.decode(errors='replace').strip() or f'status {done.returncode}'}")
         found = {PATTERN: out, ABSENT: part, UNDECIDED: os.devnull}[done.returncode]
         with open(found, encoding="ascii") as file:
-            write_whole(piece.path("ended"), f"{done.returncode}\n{file.read()}")
+            head = f"{done.returncode} {sum_of(made_of(spread.program))} {socket.gethostname()} {time.time() - began:.1f}"
+            write_whole(piece.path("ended"), f"{head}\n{file.read()}")
     finally:
         for path in (part, out):
             if os.path.exists(path):
@@ -426,6 +490,20 @@ def unit_places(piece):
     return places
 
 
+def trim_joined(spread, proof):
+    """Puts what the joined proof's empty clause rests on in its place."""
+    formula = f"{proof}.cnf"
+    try:
+        with open(formula, "wb") as file:
+            subprocess.run([spread.program, "cnf", f"{spread.folder}/search.lls", *spread.options], stdout=file, stderr=subprocess.DEVNULL, check=False)
+        said = spread.lls("trim", formula, proof, f"{proof}.new")
+        print(f"lls trim says: {said.stdout.strip() or said.stderr.strip()}")
+        if said.returncode == 0:
+            os.replace(f"{proof}.new", proof)
+    finally:
+        os.remove(formula)
+
+
 def join(words):
     spread = Spread(words.folder)
     count = stands(list(spread.leaves()))[0]
@@ -434,6 +512,8 @@ def join(words):
     with open(f"{words.proof}.new", "w", encoding="ascii") as file:
         Joined(spread, file).piece(Piece(spread, "r"))
     os.replace(f"{words.proof}.new", words.proof)
+    if words.trimmed:
+        trim_joined(spread, words.proof)
     said = spread.lls("check", f"{spread.folder}/search.lls", words.proof, *spread.options)
     print(f"lls check says: {said.stdout.strip() or said.stderr.strip()}")
     return 0 if said.stdout == "accepted\n" else 1
@@ -442,14 +522,60 @@ def join(words):
 # How it stands.
 
 
+def standing(leaves):
+    """Returns how many pieces are open and closed, the share of the space that is closed, and how long the rest may take."""
+    count, closed, share = stands(leaves)
+    spent = sum(piece.took()[1] for piece in leaves)
+    left = f", {clock(spent * (1 - share) / share)} of one processor may be left" if 0 < share < 1 and spent else ""
+    return f"{count} open, {closed} closed, {100 * share:.4g} % of the space closed{left}"
+
+
+def show_round(spread, pieces, process):
+    """Waits for a process, and shows on a terminal, in place, how many pieces ended meanwhile and which one runs longest."""
+    began = time.time()
+    while sys.stderr.isatty():
+        try:
+            process.wait(1)
+            print("\r\x1b[K", end="", file=sys.stderr, flush=True)
+            return
+        except subprocess.TimeoutExpired:
+            ended = sum(piece.has("ended") for piece in pieces)
+            oldest = next((piece.name for piece in pieces if piece.has("runs")), "")
+            print(f"\r\x1b[K{ended} of {len(pieces)} pieces of this round ended, {clock(time.time() - began)}; {oldest}", end="", file=sys.stderr, flush=True)
+    process.wait()
+
+
+def clock(seconds):
+    """A time in words, as long as it is good for."""
+    for unit, size in (("days", 86_400), ("hours", 3600), ("minutes", 60)):
+        if seconds >= 2 * size:
+            return f"{seconds / size:.1f} {unit}"
+    return f"{seconds:.0f} seconds"
+
+
+def state_of(piece):
+    """Returns what a piece is, and where and how long it was searched, or is."""
+    if piece.has("proof"):
+        machine, seconds = piece.took()
+        return f"closed by {machine} in {clock(seconds)}" if machine else "closed"
+    if piece.has("pattern"):
+        return "pattern"
+    for running in ("runs", "lock"):
+        try:
+            with open(piece.path(running), encoding="ascii") as file:
+                machine, began = file.read().split()
+            return f"open, at {machine} for {clock(max(0, time.time() - float(began)))}"
+        except (OSError, ValueError):
+            pass
+    return "open, in the other manner next" if piece.has("other") else "open"
+
+
 def look(words):
     spread = Spread(words.folder)
     leaves = list(spread.leaves())
-    count, closed, share = stands(leaves)
-    print(f"{count} open, {closed} closed, {100 * share:.4g} % of the space closed")
+    print(standing(leaves))
     for piece in leaves:
-        state = "closed" if piece.has("proof") else "pattern" if piece.has("pattern") else "open"
-        print(f"{'  ' * piece.depth()}{piece.name}: {state}, budget {piece.budget():,}")
+        print(f"{'  ' * piece.depth()}{piece.name}: {state_of(piece)}, budget {piece.budget():,}")
     hardest = max((piece for piece in leaves if not piece.has("proof")), key=Piece.depth, default=None)
     if hardest:
         print(f"generation 0 of {hardest.name}:")
@@ -477,6 +603,7 @@ def words_given():
         words.add_argument("folder")
         if kind is join:
             words.add_argument("proof")
+            words.add_argument("--trimmed", action="store_true")
         if kind is start:
             for option in OPTIONS:
                 words.add_argument(f"--{option}")

@@ -3,9 +3,12 @@
 
     test_spread.py
 """
+import contextlib
+import io
 import json
 import os
 import tempfile
+import time
 import unittest
 
 import spread
@@ -77,10 +80,42 @@ class Pieces(unittest.TestCase):
         self.assertEqual(spread.stands(leaves), (2, 1, 0.25))
 
     def test_what_ended_is_taken(self):
-        self.write("pieces/r0.ended", "20\n9 0 1 0\n")
-        self.write("pieces/r1.ended", "30\n")
-        self.assertEqual([spread.take_ended(self.piece(name).spread, self.piece(name)) for name in ("r0", "r1", "r00")], [20, 30, None])
-        self.assertEqual(sorted(os.listdir(f"{self.folder}/pieces")), ["r0.proof", "r1.split"])
+        def taken(name):
+            piece = self.piece(name)
+            return spread.take_ended(piece.spread, piece)
+
+        self.write("pieces/r0.ended", "20 sum here 7.5\n9 1 0 1 0\n10 0 9 0\n")
+        self.write("pieces/r1.ended", "30 sum there 3\n")
+        self.assertEqual([taken(name) for name in ("r0", "r1", "r00")], [20, 30, None])
+        self.assertEqual(sorted(os.listdir(f"{self.folder}/pieces")), ["r0.proof", "r0.took", "r1.other"])
+        self.assertEqual(self.piece("r0").took(), ("here", 7.5))
+        # Behind the other manner a piece is split.
+        self.assertIn("--manner=steady", self.piece("r1").options())
+        self.write("pieces/r1.ended", "30 sum there 3\n")
+        self.assertEqual(taken("r1"), 30)
+        self.assertTrue(self.piece("r1").has("split"))
+
+    def test_answers_that_do_not_count(self):
+        self.write("asked.json", json.dumps({"options": ["--period=1"], "budget": 100, "cells": 1, "clauses": 50, "lls": "lls", "sum": "mine"}))
+        for ended in ("20 other here 1\n9 0 1 0\n", "30 other here 1\n", "20 mine here 1\n9 1 0 1 0\n", "20 mine here 1\n9 0 1 ", "20 mine here 1\n"):
+            self.write("pieces/r0.ended", ended)
+            piece = self.piece("r0")
+            with contextlib.redirect_stderr(io.StringIO()) as said:
+                self.assertIsNone(spread.take_ended(piece.spread, piece))
+            self.assertIn("here has another program" if "other" in ended else "its proof is cut off", said.getvalue())
+            self.assertEqual(os.listdir(f"{self.folder}/pieces"), [])
+
+    def test_the_other_manner(self):
+        for options, manner in [([], "steady"), (["--edge=open"], "restless"), (["--period=3"], "restless"), (["--period=3,1,0"], "steady"), (["--period=4,1,1"], "restless"), (["--period=2"], "steady")]:
+            self.assertEqual(spread.other_manner(options), manner, options)
+
+    def test_how_it_looks(self):
+        self.write("pieces/r0.proof", "1 0 1 0\n")
+        self.write("pieces/r0.took", "here 90\n")
+        self.write("pieces/r1.runs", f"there {time.time() - 300:.0f}\n")
+        leaves = list(spread.Spread(self.folder).leaves())
+        self.assertEqual(spread.standing(leaves), "1 open, 1 closed, 50 % of the space closed, 90 seconds of one processor may be left")
+        self.assertEqual([spread.state_of(leaf) for leaf in leaves], ["closed by here in 90 seconds", "open, at there for 5.0 minutes"])
 
     def test_locks(self):
         piece = self.piece("r0")
