@@ -46,7 +46,6 @@ FIRST_BUDGET, MOST_BUDGET = 10_000, 10_000_000
 # the seconds of a day
 MOST_AGE = 86_400
 PATTERN, ABSENT, UNDECIDED = 10, 20, 30
-MANNERS = ("restless", "steady")
 # An addition of the empty clause, which ends the proof of an absence.
 EMPTY = re.compile(r"\d+ 0( \d+)* 0\n?$")
 
@@ -90,10 +89,10 @@ class Piece:
         with open(self.path("tries"), encoding="ascii") as file:
             return int(file.read())
 
-    def options(self):
-        """Returns the options of its next search."""
-        manner = [f"--manner={other_manner(self.spread.options)}"] if self.has("other") else []
-        return [*self.spread.options, *manner, f"--budget={self.budget()}"]
+    def manner(self):
+        """Returns the manner of its next search: that which goes without saying, and then the other one."""
+        first, other = manners_of(self.spread.options)
+        return other if self.has("other") else first
 
     def took(self):
         """Returns on which machine it was closed and in how many seconds, if that is known."""
@@ -137,13 +136,13 @@ class Spread:
                 yield piece
 
 
-def other_manner(options):
-    """Returns the manner that a search with these options doesn't go about it by, as docs/usage.md says which that is."""
+def manners_of(options):
+    """Returns the manner that a search with these options goes about it by where none is said, as docs/usage.md has it, and the other one."""
     said = dict(option[2:].split("=", 1) for option in options)
     period, *move = map(int, said.get("period", "0").split(","))
     stays = not any(move)
     is_steady = period >= 4 or period == 3 and stays or period == 0 and said.get("edge") == "open"
-    return MANNERS[0] if is_steady else MANNERS[1]
+    return ("steady", "restless") if is_steady else ("restless", "steady")
 
 
 def made_of(program):
@@ -226,7 +225,7 @@ def start(words):
 # final name only where it is whole.
 JOB = (
     "b=$(date +%s); echo $(hostname) $b >pieces/{{1}}.runs; "
-    "{lls} search pieces/{{1}}.lls pieces/{{1}}.part {{2}} >pieces/{{1}}.out 2>pieces/{{1}}.err; s=$?; rm -f pieces/{{1}}.runs; "
+    "{lls} search pieces/{{1}}.lls pieces/{{1}}.part {options} --budget={{2}} --manner={{3}} >pieces/{{1}}.out 2>pieces/{{1}}.err; s=$?; rm -f pieces/{{1}}.runs; "
     "case $s in 10) f=pieces/{{1}}.out;; 20) f=pieces/{{1}}.part;; 30) f=/dev/null;; *) cat pieces/{{1}}.err >&2; exit $s;; esac; "
     "m=$(sha256sum <{made}); ( echo $s ${{m%% *}} $(hostname) $(($(date +%s) - b)) && cat $f ) >pieces/{{1}}.new && mv pieces/{{1}}.new pieces/{{1}}.ended; "
     "rm -f pieces/{{1}}.new pieces/{{1}}.part pieces/{{1}}.out pieces/{{1}}.err"
@@ -242,8 +241,9 @@ def search_round(spread, pieces, more):
     """Searches pieces by GNU parallel, and returns whether it could."""
     for piece in pieces:
         write_whole(piece.path("lls"), text_of(piece))
-    write_whole(f"{spread.folder}/round", "".join(f"{piece.name}\t{' '.join(map(shlex.quote, piece.options()))}\n" for piece in pieces))
-    job = JOB.format(lls=shlex.quote(spread.program), made=shlex.quote(made_of(spread.program)))
+    write_whole(f"{spread.folder}/round", "".join(f"{piece.name}\t{piece.budget()}\t{piece.manner()}\n" for piece in pieces))
+    options = " ".join(map(shlex.quote, spread.options))
+    job = JOB.format(lls=shlex.quote(spread.program), made=shlex.quote(made_of(spread.program)), options=options)
     words = ["parallel", "--will-cite", "--joblog", "joblog", "--colsep", "\t", "-a", "round"]
     if any(word.startswith(("--sshlogin", "-S")) for word in more):
         words += ["--transferfile", "pieces/{1}.lls", "--return", "pieces/{1}.ended", "--cleanup"]
@@ -377,7 +377,8 @@ def search_one(spread, piece):
     part, out = piece.path(f"part.{whose()}"), piece.path(f"out.{whose()}")
     try:
         with open(out, "wb") as file:
-            began, words = time.time(), [spread.program, "search", piece.path("lls"), part, *piece.options()]
+            began, words = time.time(), [spread.program, "search", piece.path("lls"), part, *spread.options]
+            words += [f"--budget={piece.budget()}", f"--manner={piece.manner()}"]
             done = subprocess.run(words, stdin=subprocess.DEVNULL, stdout=file, stderr=subprocess.PIPE, check=False)
         if done.returncode not in (PATTERN, ABSENT, UNDECIDED):
             raise Stop(f"{piece.name}: {done.stderr.decode(errors='replace').strip() or f'status {done.returncode}'}")

@@ -90,7 +90,7 @@ class Pieces(unittest.TestCase):
         self.assertEqual(sorted(os.listdir(f"{self.folder}/pieces")), ["r0.proof", "r0.took", "r1.other"])
         self.assertEqual(self.piece("r0").took(), ("here", 7.5))
         # Behind the other manner a piece is split.
-        self.assertIn("--manner=steady", self.piece("r1").options())
+        self.assertEqual([self.piece(name).manner() for name in ("r0", "r1")], ["restless", "steady"])
         self.write("pieces/r1.ended", "30 sum there 3\n")
         self.assertEqual(taken("r1"), 30)
         self.assertTrue(self.piece("r1").has("split"))
@@ -107,7 +107,7 @@ class Pieces(unittest.TestCase):
 
     def test_the_other_manner(self):
         for options, manner in [([], "steady"), (["--edge=open"], "restless"), (["--period=3"], "restless"), (["--period=3,1,0"], "steady"), (["--period=4,1,1"], "restless"), (["--period=2"], "steady")]:
-            self.assertEqual(spread.other_manner(options), manner, options)
+            self.assertEqual(spread.manners_of(options)[1], manner, options)
 
     def test_how_it_looks(self):
         self.write("pieces/r0.proof", "1 0 1 0\n")
