@@ -1,8 +1,8 @@
 -- Where the rule holds on the whole plane, an exact period has no shorter one along the same line at all.
-use Rattle.std.proofs.Common.{◌≡◌, ◌≢◌, ◌<◌, ◌≤◌, ℕ, zero, suc, ◌+◌, ◌-◌, ◌*◌, ◌/◌, ◌%◌, ℤ, pos, negsuc, ◌+ℤ◌, ◌-ℤ◌, neg_ℤ, unsigned_abs, int_div, Bool, true, List, [], ◌∷◌, Option, Some, refl, sym, ap, ◌∙◌, subst, arith, inl, inr}
+use Rattle.std.proofs.Common.{◌≡◌, ◌≢◌, ◌<◌, ◌≤◌, ℕ, zero, suc, ◌+◌, ◌*◌, ◌/◌, ◌%◌, ℤ, pos, negsuc, ◌+ℤ◌, ◌-ℤ◌, neg_ℤ, unsigned_abs, int_div, Bool, true, List, Some, refl, sym, ap, ◌∙◌, arith, inl, inr}
 use Rattle.std.proofs.lemmas.Int.{ints}
-use Rattle.std.proofs.lemmas.Bool.{cases_lt, eqb-true, eqb-false}
-use Rattle.std.proofs.Math.Nat.{mod-add-div, mul-div_cancel_left, mul-mod_right, mul_assoc, div-le_self, div-lt_self}
+use Rattle.std.proofs.lemmas.Bool.{cases_lt}
+use Rattle.std.proofs.Math.Nat.{mod-add-div, mul-div_cancel_left, mul-mod_right, mul_assoc, div-le_self}
 use Rattle.lls_rule.specs.Rule.{successor}
 use Rattle.lls_grid.specs.History.{History, at, nine}
 use Rattle.lls_problem.specs.declared.demands.Period.{Period}

@@ -69,8 +69,14 @@ fn each_command_takes_its_options_alone(rt: HostRuntime) -> Result<(), Fail> {
             "search f p",
             "formula rule edge symmetry period exact live differ as budget keep manner crew turns ",
         ),
-        ("judge f p", "rule edge symmetry period exact live differ as "),
-        ("cnf f", "formula rule edge symmetry period exact live differ "),
+        (
+            "judge f p",
+            "rule edge symmetry period exact live differ as ",
+        ),
+        (
+            "cnf f",
+            "formula rule edge symmetry period exact live differ ",
+        ),
         ("sat f p", "budget keep manner "),
         ("lrat f p", ""),
         ("rule B3/S23", ""),
