@@ -32,6 +32,8 @@ asked; the options go to the standard error:
 
 They also stand in the file's first line, `#! --period 2 --differ 0,1`, from which `lls COMMAND q.lls ..` takes them.
 
+Shorter periods along the same line are left out: of an oscillator by two generations that differ where one prime alone divides the period, else by `--exact yes`.
+
 The margin is N rows and columns more on each side: 1 where it isn't given for what has phases besides (an oscillator, a spaceship, a glide), else
 0. Generation 0 is dead there, and later ones may use it;
 of a predecessor it is the other way round, and of an orphan the pattern is dead there. Round the grid everything stays dead. Where a
