@@ -24,7 +24,7 @@ _lls_values() {
     --exact) echo 'yes no' ;;
     --keep) echo 'all half' ;;
     --manner) echo 'restless steady both' ;;
-    --as) echo 'rows rle' ;;
+    --as) echo 'rows rle cells' ;;
     --formula) echo '1 2' ;;
     --rule | --low | --high) echo 'B3/S23 B36/S23 B2/S B368/S245' ;;
     esac

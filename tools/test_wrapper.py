@@ -8,6 +8,7 @@ docs/formats.md, those of the words also as tools/words.py finds them.
 """
 import os
 import pty
+import re
 import select
 import shutil
 import signal
@@ -288,6 +289,39 @@ class Case(unittest.TestCase):
             ["./lls", *given], capture_output=True, cwd=self.top, env={**os.environ, **environment}, stdin=subprocess.DEVNULL, timeout=20, check=False
         )
         return done.returncode, done.stdout, done.stderr.decode()
+
+
+class Forms(Case):
+    """Files by the standard input, and patterns as plaintext. The program prints its words and the file that it is to read."""
+
+    SAYS = '#!/bin/bash\necho "$@" >words\ncat "${FILE:-$2}"\nexit "${ENDS:-0}"\n'
+
+    def given(self, text, *words, **environment):
+        self.program(self.SAYS)
+        done = subprocess.run(["./lls", *words], capture_output=True, cwd=self.top, env={**os.environ, **environment}, input=text.encode(), timeout=20, check=False)
+        with open(f"{self.top}/words", encoding="utf-8") as file:
+            return done.returncode, done.stdout.decode(), re.sub(r"/proc/\d+/fd/5|/\S*/pattern.rle", "FILE", file.read().strip())
+
+    def test_the_standard_input(self):
+        self.assertEqual(self.given("1 *\n", "--bare", "cnf", "-"), (0, "1 *\n", "cnf FILE"))
+        self.assertEqual(self.given("#! --period 3\n1 *\n", "cnf", "-"), (0, "#! --period 3\n1 *\n", "cnf FILE --period 3"))
+        # The file that is written isn't read, and of two none is.
+        self.assertEqual(self.given("1 *\n", "search", "q.lls", "-", FILE="q.lls")[2], "search q.lls -")
+        self.assertEqual(self.given("1 *\n", "check", "-", "-", FILE="q.lls")[2], "check - -")
+
+    def test_plaintext_is_printed(self):
+        self.write("answer", "least 2\n0 1\n1 0\n\n1 0\n0 0\n")
+        want = "!least 2\n!Generation 0\n.O\nO.\n!Generation 1\nO.\n..\n"
+        for words in (["--as", "cells"], ["--as=cells"]):
+            self.assertEqual(self.given("", "least", "q.lls", "p", *words, "--period=1", FILE="answer", ENDS="10"), (10, want, "least q.lls p --period=1"))
+        self.write("answer", "no pattern\n")
+        self.assertEqual(self.given("", "search", "q.lls", "p", "--as=cells", FILE="answer", ENDS="20"), (20, "no pattern\n", "search q.lls p"))
+        self.assertEqual(self.given("", "cnf", "q.lls", "--as=cells")[2], "cnf q.lls --as=cells")
+
+    def test_plaintext_is_judged(self):
+        self.write("g.cells", "!Name: two\n.O\n")
+        status, out, words = self.given("", "judge", "q.lls", "g.cells", "--as", "cells", "--period", "1")
+        self.assertEqual((status, words), (0, "judge q.lls FILE --period 1 --as rle"))
 
 
 class KeptProofs(Case):
