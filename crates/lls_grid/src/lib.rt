@@ -2,11 +2,13 @@
 #![tactic(auto)]
 
 mod history;
+mod patterns;
 mod place;
 mod sizes;
 mod text;
 
 pub use history::History;
+pub use patterns::{Pattern, Patterns};
 pub use place::index_within;
 pub use sizes::{GridPlace, Sizes};
 pub use text::print_history;

@@ -7,6 +7,8 @@ pub mod Steps
 pub mod Lines
 pub mod LineTotals
 pub mod Whole
+pub mod Endings
+pub mod Albums
 pub mod ItemRows
 pub mod Cells
 pub mod Wrapping

@@ -7,6 +7,8 @@ pub mod Items
 pub mod Picture
 pub mod Reading
 pub mod Reader
+pub mod Pictures
+pub mod Album
 pub mod Between
 pub mod Printing
 pub mod Stacked

@@ -4,6 +4,9 @@
 mod header;
 mod item;
 mod parts;
+mod pictures;
+mod pictures_error;
+mod pictures_fault;
 mod print;
 mod read;
 mod reader;
@@ -11,6 +14,9 @@ mod rle_error;
 mod rle_fault;
 mod tokens;
 
+pub use pictures::read_pictures;
+pub use pictures_error::PicturesError;
+pub use pictures_fault::PicturesFault;
 pub use print::print_rle;
 pub use read::read_rle;
 pub use reader::MOST_BYTES;

@@ -23,14 +23,7 @@ pub fn read_rle(alloc: Global, bytes: &[u8], height: u32, width: u32) -> Result<
     let Some(number) = header_number(&mut lines) else {
         return Err(RleError::Fault(RleFault::NoHeader));
     };
-    let reader = Reader {
-        height,
-        width,
-        cells: vec![in alloc; false; (width * height) as usize]?,
-        row: 0,
-        column: 0,
-        count: None,
-    };
+    let reader = Reader::new(alloc, height, width)?;
     Ok(reader.take_lines(number + 1, lines)?)
 }
 

@@ -1,5 +1,5 @@
 // The reader of a pattern: where it stands in the grid, and which cells are live so far.
-ghost use Rattle.std.specs.Prelude.{◌≡◌, ◌≤◌, ◌<◌, ◌+◌, ◌*◌, ◌^◌, ◌∷◌, ◌++◌, ◌||◌, [], ℕ, List, length, false, slice_index_or, Err, IfErr, OnOk};
+ghost use Rattle.std.specs.Prelude.{◌≡◌, ◌≤◌, ◌<◌, ◌+◌, ◌*◌, ◌^◌, ◌∷◌, ◌++◌, ◌||◌, [], ℕ, List, length, false, slice_index_or, Err, IfErr, IfOk, OnOk};
 ghost use Rattle.std.specs.Result.{result_err};
 ghost use Rattle.lls_rle.specs.Items.{Items, before_items};
 ghost use Rattle.lls_rle.specs.Picture.{misfit};
@@ -12,6 +12,7 @@ use crate::parts::{Part, part_of};
 use crate::tokens::{Token, Tokens};
 use lls_grid::{History, Sizes};
 use lls_text::Lines;
+use std::alloc::{AllocError, Global};
 
 /// The greatest number of bytes of a text.
 pub const MOST_BYTES: usize = 1_048_576;
@@ -33,6 +34,7 @@ pub(crate) struct Reader {
 impl Reader {
     ghost use Rattle.lls_rle.specs.Tokens.{PlacedToken, tokens_of};
     ghost use Rattle.lls_rle.specs.Seen.{seen_token};
+    ghost use Rattle.lls_rle.specs.Album.{HasRead};
     ghost use Rattle.lls_rle.specs.Reader.{IsReader, answer_from, goes_on, items_from, painted, total};
 
     /// Takes the lines of which the first has a number.
@@ -53,8 +55,25 @@ impl Reader {
         Err(RleFault::NoEnd)
     }
 
-    // Takes one more line, and answers whether the pattern ended.
-    fn take_line(&mut self, number: u64, line: &[u8]) -> Result<bool, RleFault>
+    /// A reader that has read nothing.
+    pub fn new(alloc: Global, height: u32, width: u32) -> Result<Reader, AllocError>
+        requires height { (1 ≤ height) × (height ≤ History.MOST_HEIGHT) }
+        requires width { (1 ≤ width) × (width ≤ History.MOST_WIDTH) }
+        ensures none { IfOk result (HasRead height width []) }
+        ensures place { IfOk result (λ reader. (reader.row ≡ 0) × (reader.column ≡ 0)) }
+    {
+        Ok(Reader {
+            height,
+            width,
+            cells: vec![in alloc; false; (width * height) as usize]?,
+            row: 0,
+            column: 0,
+            count: None,
+        })
+    }
+
+    /// Takes one more line, and answers whether the pattern ended.
+    pub fn take_line(&mut self, number: u64, line: &[u8]) -> Result<bool, RleFault>
         requires kept { IsReader self.old }
         requires line { length line.now < 2 ^ 62 }
         requires row { self.old.row + MOST_COUNT * length line.now < 2 ^ 62 }
@@ -63,6 +82,7 @@ impl Reader {
         ensures kept { IsReader self.new }
         ensures row { self.new.row ≤ self.old.row + MOST_COUNT * length line.now }
         ensures column { self.new.column ≤ self.old.column + MOST_COUNT * length line.now }
+        ensures sizes { (self.new.height ≡ self.old.height) × (self.new.width ≡ self.old.width) }
     {
         if is_comment(line) {
             return Ok(false);
@@ -166,6 +186,13 @@ impl Reader {
         let from = self.column + u64::from(self.width) * self.row;
         make_live(&mut self.cells, from as usize, count as usize);
         Ok(())
+    }
+
+    /// The cells of the pattern in the order row, column, where it ends here.
+    pub fn into_cells(self) -> Vec<bool>
+        ensures { result.items ≡ self.cells.items }
+    {
+        self.cells
     }
 
     /// The history, where the pattern ends here.

@@ -1,6 +1,7 @@
 pub mod AllItems
 pub mod Counts
 pub mod Counting
+pub mod Listings
 pub mod Numbering
 pub mod Endings
 pub mod NameBytes

@@ -8,6 +8,10 @@ use Rattle.lls_search_file.specs.declared.history_fault.HistoryFault.{HistoryFau
 use Rattle.lls_search_file.specs.declared.history_fault.HistoryFault.TheVariants.{Text, NotPlain}
 use Rattle.lls_search_file.specs.declared.history_error.HistoryError.{HistoryError}
 use Rattle.lls_search_file.specs.declared.history_error.HistoryError.TheVariants as history
+use Rattle.lls_search_file.specs.declared.list_fault.ListFault.{ListFault}
+use Rattle.lls_search_file.specs.declared.list_fault.ListFault.TheVariants as list
+use Rattle.lls_search_file.specs.declared.list_error.ListError.{ListError}
+use Rattle.lls_search_file.specs.declared.list_error.ListError.TheVariants as lists
 
 abbrev pub posed_fault_text : PosedFault → List ℕ
 posed_fault_text Empty = codes "Empty"
@@ -32,6 +36,17 @@ history_fault_text (NotPlain t y x) = codes "NotPlain " ++ decimal t ++ codes " 
 abbrev pub history_error_text : HistoryError → List ℕ
 history_error_text (history.Fault fault) = history_fault_text fault
 history_error_text history.Memory = codes "Memory"
+
+abbrev pub list_fault_text : ListFault → List ℕ
+list_fault_text (list.Text fault) = posed_fault_text fault
+list_fault_text (list.Width line width found) = codes "Width " ++ decimal line ++ codes " " ++ decimal width ++ codes " " ++ decimal found
+list_fault_text (list.Height line height found) = codes "Height " ++ decimal line ++ codes " " ++ decimal height ++ codes " " ++ decimal found
+list_fault_text (list.NotPlain line cell) = codes "NotPlain " ++ decimal line ++ codes " " ++ decimal cell
+list_fault_text (list.TooMany n) = codes "TooMany " ++ decimal n
+
+abbrev pub list_error_text : ListError → List ℕ
+list_error_text (lists.Fault fault) = list_fault_text fault
+list_error_text lists.Memory = codes "Memory"
 
 -- a size passes its limit
 abbrev pub is_limit : PosedFault → Bool

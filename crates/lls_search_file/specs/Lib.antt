@@ -1,6 +1,8 @@
 pub mod Counted
 pub mod FaultText
 pub mod Kept
+pub mod Lister
+pub mod Listing
 pub mod Plain
 pub mod Posed
 pub mod Printing
