@@ -55,6 +55,7 @@ holds_judged problem history (judgements.Rule t y x) meets broken = broken (λ i
 holds_judged problem history (judgements.Population t n) meets broken = broken (λ is. cc)
 holds_judged problem history judgements.Same meets broken = broken (λ is. cc)
 holds_judged problem history (judgements.Shorter d) meets broken = broken (λ is. cc)
+holds_judged problem history (judgements.Listed n) meets broken = broken (λ is. cc)
 
 -- the answer of a judgement is right
 pub judged_answer : (problem : PosedProblem) (history : History) (judgement : Judgement) (answer : Answer) → IsJudgement problem history judgement
@@ -85,6 +86,7 @@ judge_plain (judgements.Rule t y x) = (refl, λ files. tt)
 judge_plain (judgements.Population t n) = (refl, λ files. tt)
 judge_plain judgements.Same = (refl, λ files. tt)
 judge_plain (judgements.Shorter d) = (refl, λ files. tt)
+judge_plain (judgements.Listed n) = (refl, λ files. tt)
 
 pub check_lawful : (subject : Subject) (proof : List ℕ) → IsLawful (check_meaning subject proof)
 check_lawful subject proof =

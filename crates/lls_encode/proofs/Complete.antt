@@ -20,7 +20,7 @@ use Rattle.lls_encode.specs.History.{HasAssignment}
 use Rattle.lls_encode.specs.Parts.{MeetsBefore, MeetsAfter, HasExtension, after_part}
 use Rattle.std.proofs.Math.Seq.{take-append_seam}
 use Rattle.lls_problem.specs.Exact.{excluded}
-use Rattle.lls_encode.specs.Formula.{fixed_clauses, same, name_literal, has_name, tied_to, name_clauses, first_framed, framed_count, framed, cubes_of, clauses_at, place_clauses, line_clauses, generation_clauses, transitions_by, fixed_part, name_part, symmetry_part, period_part, front_part, transition_part, bounds_part, bounds_vars, difference_base, difference_part, asked_part, asked_vars, exact_part, formula_of}
+use Rattle.lls_encode.specs.Formula.{fixed_clauses, same, name_literal, has_name, tied_to, name_clauses, first_framed, framed_count, framed, cubes_of, clauses_at, place_clauses, line_clauses, generation_clauses, transitions_by, fixed_part, name_part, symmetry_part, period_part, front_part, transition_part, bounds_part, bounds_vars, difference_base, difference_part, asked_part, asked_vars, exact_part, listed_part, formula_of}
 use Rattle.lls_encode.proofs.Steps.{flat_map-map}
 use Rattle.lls_encode.proofs.Framed.{IsFramedLine, framed_place, framed_both}
 use Rattle.lls_encode.proofs.Parts.{satisfies-append}
@@ -29,6 +29,7 @@ use Rattle.lls_encode.proofs.Mirrored.{satisfies-symmetry_part}
 use Rattle.lls_encode.proofs.Returned.{satisfies-period_part}
 use Rattle.lls_encode.proofs.Differing.{marks_where, length-marks_where, count_of, HasCells-append, satisfies-asked_part}
 use Rattle.lls_encode.proofs.Unseen.{AreMarks, all_marks, length-all_marks, marks_behind, satisfies-exact_part}
+use Rattle.lls_encode.proofs.Unlisted.{satisfies-listed_part}
 use Rattle.lls_encode.proofs.AllBounds.{AreBounds, HasCounters, satisfies-bounds_clauses, AllCount-append, has_counters}
 use Rattle.lls_encode.proofs.Satisfied.{satisfies-range, is_true-negation, is_literal, or_left}
 use Rattle.lls_encode.proofs.Obeyed.{cubes_contain, satisfies-by_successor}
@@ -188,10 +189,12 @@ has_extension p h values kept fitting has enough meets =
     (AllCount-append p kept before marks (omega (arith, len, enough)) (length values) p.demands.bounds fit (omega (arith, len)) counters.counts) meets.populated in
     let difference : satisfies (before ++ marks) (difference_part p (length values + bounds_vars p)) ≡ true =
     ap (λ base. satisfies (before ++ marks) (difference_part p base)) (sym len)
-    ∙ satisfies-append (before ++ marks) (asked_part p (length before)) (exact_part p (length before + asked_vars p))
+    ∙ satisfies-append (before ++ marks) (asked_part p (length before) ++ exact_part p (length before + asked_vars p)) (listed_part p)
+    ∙ and_from _ _ (satisfies-append (before ++ marks) (asked_part p (length before)) (exact_part p (length before + asked_vars p))
     ∙ and_from _ _ (satisfies-asked_part p h before unseen has_before (omega (arith, len, enough)) fitting meets.differ)
     (satisfies-exact_part p h (before ++ marks) has_all (length before + asked_vars p) fitting meets.exact
-    (subst (λ n. AreMarks (before ++ marks) (length before + n) unseen) (length-marks_where p before) (marks_behind before asked unseen))) in
+    (subst (λ n. AreMarks (before ++ marks) (length before + n) unseen) (length-marks_where p before) (marks_behind before asked unseen))))
+    (satisfies-listed_part p h (before ++ marks) has_all fitting meets.unlisted) in
     record {
       more = counters.more ++ marks;
       count = length-append counters.more marks ∙ ap (λ n. n + length marks) counters.count
@@ -232,7 +235,7 @@ HasAssignment-values_of p form kept fitting history solution =
     let cells : List Bool = cells_of history in
     let count : length cells ≡ length p.posed.cells = count_of p history kept solution.sizes in
     let after : HasExtension p cells = has_extension p history cells kept fitting (HasCells-cells_of p history kept solution.sizes) (omega (arith, count))
-    (record { populated = solution.populated; differ = solution.differ; exact = solution.exact }) in
+    (record { populated = solution.populated; differ = solution.differ; exact = solution.exact; unlisted = solution.unlisted }) in
     record {
       values = cells ++ after.more;
       count = length-values p form history kept solution.sizes after;

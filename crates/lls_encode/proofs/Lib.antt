@@ -19,6 +19,7 @@ pub mod Pairs
 pub mod Unseen
 pub mod Parted
 pub mod LiveCells
+pub mod Unlisted
 pub mod Ends
 pub mod OneBound
 pub mod AllBounds

@@ -33,7 +33,7 @@ counted values f (x ∷ xs) a each =
     ∙ sym (sum_by-cons (λ b. cond b 1 0) x xs)
 
 -- the cells of a generation stand together among all
-cells_of_generation : (p : PosedProblem) (h : History) → HasSizes p.posed.generations p.posed.height p.posed.width h → (t : ℕ) → t < p.posed.generations
+pub cells_of_generation : (p : PosedProblem) (h : History) → HasSizes p.posed.generations p.posed.height p.posed.width h → (t : ℕ) → t < p.posed.generations
     → cells_of_rows (rows_at h t) ≡ take (generation_size p) (drop (p.posed.width * (p.posed.height * t)) (cells_of h))
 cells_of_generation p h sizes t t_in =
     ap (λ h. cells_of_rows (rows_at h t)) (sym (folded-cells_of p.posed.generations p.posed.height p.posed.width h sizes))

@@ -2,6 +2,7 @@
 use Rattle.std.proofs.Common.{◌≡◌, ◌<◌, ◌≤◌, ℕ, ◌+◌, ◌-◌, List, [], ◌∷◌, ◌++◌, map, length, refl, ap, ◌∙◌, arith, length-append, Option, None, Some}
 use Rattle.std.specs.Option.{option_map_or}
 use Rattle.std.specs.List.{flat_map, range_with_len}
+use Rattle.std.proofs.lemmas.List.{length-map}
 use Rattle.lls_lit.specs.Formula.{Clause, Cnf}
 use Rattle.lls_search_file.specs.Posed.{IsPosed}
 use Rattle.lls_problem.specs.declared.demands.Period.{Period}
@@ -9,7 +10,7 @@ use Rattle.lls_problem.specs.declared.form.Form.{Form}
 use Rattle.lls_problem.specs.Problem.{PosedProblem, AreFitting}
 use Rattle.lls_problem.specs.Solution.{cell_number}
 use Rattle.lls_transition.specs.Clause.{with_clauses}
-use Rattle.lls_encode.specs.Formula.{fixed_clauses, name_clauses, cubes_of, generation_clauses, generation_size, period_clauses, difference_variable, cell_difference, differing_clauses, asked_part, asked_vars, exact_part, fixed_part, name_part, symmetry_part, period_part, front_part, transition_part, bounds_part, bounds_vars, difference_base, difference_part, difference_vars, formula_of}
+use Rattle.lls_encode.specs.Formula.{fixed_clauses, name_clauses, cubes_of, generation_clauses, generation_size, period_clauses, difference_variable, cell_difference, differing_clauses, asked_part, asked_vars, exact_part, unlike, listed_part, fixed_part, name_part, symmetry_part, period_part, front_part, transition_part, bounds_part, bounds_vars, difference_base, difference_part, difference_vars, formula_of}
 use Rattle.lls_encode.specs.Parts.{after_part, after_vars}
 use Rattle.lls_encode.specs.Room.{HasRoom, with_more}
 use Rattle.lls_encode.proofs.Steps.{length-flat_map_most, HasRoom-behind, with_clauses-append}
@@ -66,19 +67,24 @@ length-asked p kept base (Some pair) =
 pub length-asked_part : (p : PosedProblem) → IsPosed p.posed → (base : ℕ) → length (asked_part p base) ≤ 8193
 length-asked_part p kept base = length-asked p kept base p.demands.differ
 
-length-difference_part : (p : PosedProblem) → IsPosed p.posed → AreFitting p.posed p.demands → (base : ℕ) → length (difference_part p base) ≤ 1056833
+pub length-listed_part : (p : PosedProblem) → AreFitting p.posed p.demands → length (listed_part p) ≤ 1000000
+length-listed_part p fitting = omega (arith, length-map p.demands.listed (unlike p), fitting.listed.few)
+
+length-difference_part : (p : PosedProblem) → IsPosed p.posed → AreFitting p.posed p.demands → (base : ℕ) → length (difference_part p base) ≤ 2056833
 length-difference_part p kept fitting base =
     omega (
       arith,
+      length-append (asked_part p base ++ exact_part p (base + asked_vars p)) (listed_part p),
       length-append (asked_part p base) (exact_part p (base + asked_vars p)),
       length-asked_part p kept base,
       length-exact_part p kept fitting (base + asked_vars p),
+      length-listed_part p fitting,
     )
 
 length-bounds_part : (p : PosedProblem) → IsPosed p.posed → AreFitting p.posed p.demands → (base : ℕ) → length (bounds_part p base) ≤ 6000000
 length-bounds_part p kept fitting base = omega (arith, length-bounds_clauses p kept base p.demands.bounds, fitting.counters)
 
-pub length-after_part : (p : PosedProblem) → IsPosed p.posed → AreFitting p.posed p.demands → (base : ℕ) → length (after_part p base) ≤ 7056833
+pub length-after_part : (p : PosedProblem) → IsPosed p.posed → AreFitting p.posed p.demands → (base : ℕ) → length (after_part p base) ≤ 8056833
 length-after_part p kept fitting base =
     omega (
       arith,
@@ -152,7 +158,7 @@ pub room_for_bounds : (p : PosedProblem) (form : Form) (front transitions : Cnf)
 room_for_bounds p form front transitions kept has is = HasRoom-behind front transitions (transition_part p form) 900000000 700000000 is (omega (arith, length-transition_part p form kept)) has
 
 pub room_for_difference : (p : PosedProblem) (transitions bounded : Cnf) → IsPosed p.posed → AreFitting p.posed p.demands → HasRoom transitions 700000000
-    → bounded ≡ with_more transitions (bounds_vars p) (bounds_part p transitions.vars) → HasRoom bounded 1081410
+    → bounded ≡ with_more transitions (bounds_vars p) (bounds_part p transitions.vars) → HasRoom bounded 2081410
 room_for_difference p transitions bounded kept fitting has is =
     let count : length bounded.clauses ≡ length transitions.clauses + length (bounds_part p transitions.vars) =
     ap (λ (f : Cnf). length f.clauses) is ∙ length-append transitions.clauses (bounds_part p transitions.vars) in

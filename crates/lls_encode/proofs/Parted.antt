@@ -14,7 +14,7 @@ use Rattle.lls_transition.specs.declared.place.Place.{Place}
 use Rattle.lls_transition.specs.declared.place.Place.TheVariants.{Of}
 use Rattle.lls_transition.specs.Clause.{clause_of, differing, with_clauses}
 use Rattle.lls_encode.specs.Place.{place_at}
-use Rattle.lls_encode.specs.Formula.{any_of, unequal_clauses, difference_variable, pair_at, pair_difference, unequal_pairs, has_other_background, pairs_of, unseen_clauses, unseen_vars, all_unseen, all_unseen_vars, asked_part, asked_vars, exact_part, exact_vars, difference_part, difference_vars}
+use Rattle.lls_encode.specs.Formula.{any_of, unequal_clauses, difference_variable, pair_at, pair_difference, unequal_pairs, has_other_background, pairs_of, unseen_clauses, unseen_vars, all_unseen, all_unseen_vars, asked_part, asked_vars, exact_part, exact_vars, listed_part, difference_part, difference_vars}
 use Rattle.lls_encode.specs.Room.{HasRoom, with_more}
 use Rattle.lls_encode.proofs.Steps.{length-flat_map_most, pushed_more}
 use Rattle.lls_encode.proofs.Pairs.{pairs_few}
@@ -78,12 +78,19 @@ with_more-more formula a b xs ys =
     place : (a b c : ℕ) → a + b + c ≡ a + (b + c)
     place a b c = omega arith
 
--- two generations that are asked to differ, and behind them the exact period
-pub both_parts : (p : PosedProblem) (formula asked all : Cnf) → asked ≡ with_more formula (asked_vars p) (asked_part p formula.vars) → all ≡ with_more asked (exact_vars p) (exact_part p asked.vars)
-    → all ≡ with_more formula (difference_vars p) (difference_part p formula.vars)
-both_parts p formula asked all one two =
+-- two generations that are asked to differ, behind them the exact period, and behind that the listed patterns
+both_parts : (p : PosedProblem) (formula asked exact : Cnf) → asked ≡ with_more formula (asked_vars p) (asked_part p formula.vars) → exact ≡ with_more asked (exact_vars p) (exact_part p asked.vars)
+    → exact ≡ with_more formula (difference_vars p) (asked_part p formula.vars ++ exact_part p (formula.vars + asked_vars p))
+both_parts p formula asked exact one two =
     two ∙ ap (λ (f : Cnf). with_more f (exact_vars p) (exact_part p f.vars)) one
     ∙ with_more-more formula (asked_vars p) (exact_vars p) (asked_part p formula.vars) (exact_part p (formula.vars + asked_vars p))
+
+pub all_parts : (p : PosedProblem) (formula asked exact all : Cnf) → asked ≡ with_more formula (asked_vars p) (asked_part p formula.vars) → exact ≡ with_more asked (exact_vars p) (exact_part p asked.vars)
+    → all ≡ with_clauses exact (listed_part p) → all ≡ with_more formula (difference_vars p) (difference_part p formula.vars)
+all_parts p formula asked exact all one two three =
+    let both : List Clause = asked_part p formula.vars ++ exact_part p (formula.vars + asked_vars p) in
+    three ∙ ap (λ f. with_clauses f (listed_part p)) (both_parts p formula asked exact one two)
+    ∙ ap (λ clauses. record { vars = formula.vars + difference_vars p; clauses = clauses }) (append_assoc formula.clauses both (listed_part p))
 
 -- the formula with the clauses of shorter periods behind its own, and their variables
 abbrev pub with_parts : PosedProblem → Cnf → List Period → Cnf

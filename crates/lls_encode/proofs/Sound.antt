@@ -15,7 +15,7 @@ use Rattle.lls_problem.specs.Problem.{PosedProblem, AreFitting}
 use Rattle.lls_problem.specs.Solution.{is_marked, Obeys, IsSolution, IsAbsent}
 use Rattle.lls_cube.specs.declared.cube.Cube.{Cube}
 use Rattle.lls_transition.specs.Transition.{ContainForbidden}
-use Rattle.lls_encode.specs.Formula.{cubes_of, transitions_by, place_clauses, line_clauses, generation_clauses, fixed_part, name_part, symmetry_part, period_part, front_part, transition_part, bounds_part, bounds_vars, difference_base, difference_part, asked_part, asked_vars, exact_part, formula_of}
+use Rattle.lls_encode.specs.Formula.{cubes_of, transitions_by, place_clauses, line_clauses, generation_clauses, fixed_part, name_part, symmetry_part, period_part, front_part, transition_part, bounds_part, bounds_vars, difference_base, difference_part, asked_part, asked_vars, exact_part, listed_part, formula_of}
 use Rattle.lls_encode.specs.History.{history_of}
 use Rattle.lls_encode.specs.Parts.{MeetsBefore, MeetsAfter, after_part}
 use Rattle.lls_encode.proofs.Framed.{framed_row, framed_column}
@@ -27,6 +27,7 @@ use Rattle.lls_encode.proofs.Agree.{MeetsCells-by_clauses}
 use Rattle.lls_encode.proofs.Mirrored.{AreSymmetric-by_clauses}
 use Rattle.lls_encode.proofs.Returned.{Returns-by_clauses}
 use Rattle.lls_encode.proofs.Differing.{Differs-by_clauses}
+use Rattle.lls_encode.proofs.Unlisted.{IsUnlisted-by_clauses}
 use Rattle.lls_encode.proofs.Unseen.{IsExact-by_clauses}
 use Rattle.lls_encode.proofs.AllBounds.{All-by_clauses}
 
@@ -106,11 +107,15 @@ MeetsAfter-by_clauses p values base kept fitting enough behind satisfied =
     let h : History = history_of p values in
     let has : HasCells p values h = HasCells-history_of p values kept enough in
     let parts = and_parts _ _ (sym (satisfies-append values (bounds_part p base) (difference_part p (base + bounds_vars p))) ∙ satisfied) in
-    let apart = and_parts _ _ (sym (satisfies-append values (asked_part p (base + bounds_vars p)) (exact_part p (base + bounds_vars p + asked_vars p))) ∙ parts.1) in
+    let asked = asked_part p (base + bounds_vars p) in
+    let exact = exact_part p (base + bounds_vars p + asked_vars p) in
+    let behind_them = and_parts _ _ (sym (satisfies-append values (asked ++ exact) (listed_part p)) ∙ parts.1) in
+    let apart = and_parts _ _ (sym (satisfies-append values asked exact) ∙ behind_them.0) in
     record {
       populated = All-by_clauses p h values has base behind p.demands.bounds (AreBounds-fitting p fitting) parts.0;
       differ = Differs-by_clauses p h values has fitting (base + bounds_vars p) apart.0;
       exact = IsExact-by_clauses p h values has fitting (base + bounds_vars p + asked_vars p) apart.1;
+      unlisted = IsUnlisted-by_clauses p h values has behind_them.1;
     }
 
 -- each part of the formula is satisfied
@@ -152,6 +157,7 @@ IsSolution-history_of p form kept fitting values enough satisfied =
       populated = after.populated;
       differ = after.differ;
       exact = after.exact;
+      unlisted = after.unlisted;
     }
 
 -- so where there is no solution nothing satisfies the formula

@@ -1,5 +1,5 @@
 -- The formula of a problem, by its parts: fixed cells, names, symmetry, period, transitions, bounds on live cells, differing
--- generations, exact period. The transitions are by its form.
+-- generations, exact period, listed patterns. The transitions are by its form.
 use Rattle.std.specs.Prelude.{ℕ, ◌+◌, ◌-◌, ◌*◌, ℤ, pos, negsuc, ◌-ℤ◌, Bool, true, false, ◌==◌, nat_le, List, [], ◌∷◌, ◌++◌, map, length, slice_index_or, Option, None, Some, if◌then◌else◌}
 use Rattle.std.specs.Option.{option_map_or, option_to_list}
 use Rattle.std.specs.List.{flat_map, range_with_len, position_from}
@@ -23,7 +23,7 @@ use Rattle.lls_problem.specs.declared.form.Form.{Form}
 use Rattle.lls_problem.specs.declared.form.Form.TheVariants.{Rows, Cover}
 use Rattle.lls_problem.specs.declared.bounds.Bound.{Bound}
 use Rattle.lls_problem.specs.Bounds.{top_end, counter_top, counter_vars, all_counter_vars}
-use Rattle.lls_problem.specs.Problem.{PosedProblem}
+use Rattle.lls_problem.specs.Problem.{Pattern, PosedProblem}
 use Rattle.lls_problem.specs.Solution.{cell_number, is_marked}
 use Rattle.lls_problem.specs.Unlike.{differ}
 use Rattle.lls_problem.specs.Losses.{course_of}
@@ -241,6 +241,14 @@ abbrev pub all_unseen_vars : PosedProblem → List Period → ℕ
 all_unseen_vars p [] = 0
 all_unseen_vars p (part ∷ parts) = unseen_vars p part + all_unseen_vars p parts
 
+-- generation 0 isn't a pattern: some cell of it is the other one
+abbrev pub other_cell : PosedProblem → Pattern → ℕ → ℤ
+other_cell p pattern k =
+    let cell = cell_of_generation p 0 k in if slice_index_or pattern k false then negation cell else cell
+
+abbrev pub unlike : PosedProblem → Pattern → Clause
+unlike p pattern = map (other_cell p pattern) (range_with_len 0 (generation_size p))
+
 -- the parts in their order
 abbrev pub fixed_part : PosedProblem → List Clause
 fixed_part p = flat_map (λ k. fixed_clauses k (cell_number p.posed.cells k).kind) (range_with_len 0 (length p.posed.cells))
@@ -280,8 +288,12 @@ exact_part p base = all_unseen p base (excluded p.demands)
 abbrev pub exact_vars : PosedProblem → ℕ
 exact_vars p = all_unseen_vars p (excluded p.demands)
 
+-- the listed patterns that generation 0 mustn't be
+abbrev pub listed_part : PosedProblem → List Clause
+listed_part p = map (unlike p) p.demands.listed
+
 abbrev pub difference_part : PosedProblem → ℕ → List Clause
-difference_part p base = asked_part p base ++ exact_part p (base + asked_vars p)
+difference_part p base = asked_part p base ++ exact_part p (base + asked_vars p) ++ listed_part p
 
 -- and how many that has
 abbrev pub difference_vars : PosedProblem → ℕ

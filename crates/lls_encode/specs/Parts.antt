@@ -3,7 +3,7 @@ use Rattle.std.specs.Prelude.{◌≡◌, ℕ, ◌+◌, Bool, true, List, ◌++�
 use Rattle.lls_lit.specs.Formula.{Clause, satisfies}
 use Rattle.lls_grid.specs.History.{History, cells_of}
 use Rattle.lls_problem.specs.Problem.{PosedProblem}
-use Rattle.lls_problem.specs.Solution.{MeetsCells, AreSymmetric, Returns, IsPopulated, Differs, IsExact}
+use Rattle.lls_problem.specs.Solution.{MeetsCells, AreSymmetric, Returns, IsPopulated, Differs, IsExact, IsUnlisted}
 use Rattle.lls_encode.specs.Formula.{bounds_part, bounds_vars, difference_part, difference_vars}
 
 -- fixed cells and names are as the file says, and each generation is symmetric, and there again a period later, as asked
@@ -12,11 +12,12 @@ pub record MeetsBefore (problem : PosedProblem) (history : History) : Type 0 whe
   pub symmetric : AreSymmetric problem history
   pub moved : Returns problem history
 
--- bounds on live cells are kept, two generations differ, and the period is exact, as asked
+-- bounds on live cells are kept, two generations differ, the period is exact, and generation 0 is no listed pattern, as asked
 pub record MeetsAfter (problem : PosedProblem) (history : History) : Type 0 where
   pub populated : IsPopulated problem history
   pub differ : Differs problem history
   pub exact : IsExact problem history
+  pub unlisted : IsUnlisted problem history
 
 -- the clauses behind the transitions, whose variables stand behind the first `base`
 abbrev pub after_part : PosedProblem → ℕ → List Clause

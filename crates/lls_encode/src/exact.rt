@@ -26,7 +26,7 @@ const MOST_PAIRS: usize = 2 * History::MOST_HEIGHT as usize * History::MOST_WIDT
 // Two clauses a pair, and one that some pair differs.
 const MOST_CLAUSES_PAIRS: usize = 2 * MOST_PAIRS + 1;
 
-/// Those of all shorter periods, and as many for the next.
+/// Those of all shorter periods, which are fewer than the longest period has generations, with room for two more.
 pub const MOST_CLAUSES_EXACT: usize = (MOST_PERIOD as usize + 2) * MOST_CLAUSES_PAIRS;
 
 // Pushes the clause that d or one of two places is true. A known place that is false isn't written, and where a known

@@ -50,9 +50,10 @@ pub(crate) fn push_front(
 /// of the counters that bounds on live cells need. Where two generations have to differ, it has one variable more for each
 /// cell of the grid, behind these; and under an exact period, behind all others, one for each place that a shorter period
 /// along the same line compares.
+///
 /// The clauses come in this order: fixed cells, names, symmetry, period, transitions, bounds, differing generations, exact
-/// period. Those of
-/// the transitions are by the form: for each place, the clauses of the cubes that the form takes of the rule's forbidden rows.
+/// period, listed patterns. Those of the transitions are by the form: for each place, the clauses of the cubes that the form
+/// takes of the rule's forbidden rows.
 pub fn encode(alloc: Global, problem: &Problem, form: Form) -> Result<Formula, Memory>
     ensures formula { IfOk result (λ formula. formula ≡ formula_of problem.now form) }
     ensures few { IfOk result (λ formula. length formula.clauses < CLAUSES_BELOW) }

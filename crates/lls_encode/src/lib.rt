@@ -11,6 +11,7 @@ mod equal;
 mod exact;
 mod formula;
 mod generation;
+mod listed;
 mod outer;
 mod period;
 mod place;

@@ -38,9 +38,8 @@ pub fn push_before(alloc: Global, formula: &mut Formula, problem: &Problem) -> R
     append(formula, &front)
 }
 
-/// Appends the clauses of bounds on live cells, of generations that differ and of an exact period, and their variables,
-/// behind those so far.
-/// They are made apart first, so that the formula is as before after `Memory`.
+/// Appends the clauses of bounds on live cells, of generations that differ, of an exact period and of listed patterns, and
+/// their variables, behind those so far. They are made apart first, so that the formula is as before after `Memory`.
 pub fn push_after(alloc: Global, formula: &mut Formula, problem: &Problem) -> Result<(), Memory>
     requires cells { length problem.now.posed.cells ≤ formula.old.vars }
     requires vars { formula.old.vars + after_vars problem.now ≤ Var.MOST }
@@ -51,7 +50,8 @@ pub fn push_after(alloc: Global, formula: &mut Formula, problem: &Problem) -> Re
     }) }
     ensures err { OnErr result (formula.new ≡ formula.old) }
 
-    // The cells of an assignment that satisfies them keep the bounds, differ, and have an exact period, as asked.
+    // The cells of an assignment that satisfies them keep the bounds, differ, have an exact period, and are no listed pattern,
+    // as asked.
     ensures sound { (values : List Bool) → length problem.now.posed.cells ≤ length values
         → satisfies values (after_part problem.now formula.old.vars) ≡ true → MeetsAfter problem.now (history_of problem.now values) }
 

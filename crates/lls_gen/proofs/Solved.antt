@@ -67,6 +67,7 @@ IsSolution-made table size numbers history count sizes high wide begins goes_on 
       populated = λ k bound none. absurd (omega (arith, none));
       differ = λ pair none. cc;
       exact = λ on period none. cc;
+      unlisted = λ k pattern none. absurd (omega (arith, none));
     }
 
 -- nothing of an open edge alone can fail to fit a file

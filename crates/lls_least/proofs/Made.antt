@@ -89,6 +89,7 @@ fitting-bounded p bound kept fitting room within = record {
   counters = omega (arith, sum_by-append (counter_vars size) p.demands.bounds (bound ∷ []), mul-le-mul_left size counted, room);
   shorter = fitting.shorter;
   named = fitting.named;
+  listed = fitting.listed;
 } where
   size : ℕ
   size = grid_size p.posed

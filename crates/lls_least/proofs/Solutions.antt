@@ -43,6 +43,7 @@ solution-bounded p bound h solution = record {
   populated = (bounds_kept p bound h solution).0;
   differ = differs_alike (bounded p bound) p.demands h refl solution.differ;
   exact = solution.exact;
+  unlisted = solution.unlisted;
 }
 
 pub bounded-solution : (p : PosedProblem) (bound : Bound) (h : History) → IsSolution p h → IsKept h bound → IsSolution (bounded p bound) h
@@ -55,6 +56,7 @@ bounded-solution p bound h solution kept = record {
   populated = All-push (IsKept h) p.demands.bounds bound solution.populated kept;
   differ = differs_alike p (bounded p bound).demands h refl solution.differ;
   exact = solution.exact;
+  unlisted = solution.unlisted;
 }
 
 -- a solution has no more live cells than its generation has cells

@@ -2,6 +2,7 @@
 ghost use Rattle.std.specs.Prelude.{◌≡◌, [], ◌∷◌, ◌++◌, IfOk};
 
 use lls_base::{Memory, Name};
+use lls_grid::{Pattern, Patterns};
 use lls_problem::{Bound, Bounds, Demands};
 use lls_search_file::{Cells, Names, Posed};
 use std::alloc::Global;
@@ -30,6 +31,17 @@ fn copies_of(alloc: Global, names: &[Name]) -> Result<Names, Memory>
     Ok(Names::new(copies))
 }
 
+// A copy of patterns in order.
+fn copies_of_patterns(alloc: Global, patterns: &[Pattern]) -> Result<Patterns, Memory>
+    ensures { IfOk result (λ copies. copies ≡ patterns.now) }
+{
+    let mut copies = Vec::with_capacity(alloc, patterns.len())?;
+    for pattern in patterns {
+        copies.push(Pattern::new(Vec::from_slice(alloc, pattern.cells())?))?;
+    }
+    Ok(Patterns::new(copies))
+}
+
 /// The same demands, with one bound more behind the others.
 pub(crate) fn with_bound(alloc: Global, demands: &Demands, bound: Bound) -> Result<Demands, Memory>
     ensures { IfOk result (λ more. more ≡ record demands.now { bounds = demands.now.bounds ++ bound ∷ [] }) }
@@ -43,5 +55,6 @@ pub(crate) fn with_bound(alloc: Global, demands: &Demands, bound: Bound) -> Resu
         exact: demands.exact,
         bounds: Bounds::new(bounds),
         differ: demands.differ,
+        listed: copies_of_patterns(alloc, demands.listed.items())?,
     })
 }

@@ -93,7 +93,7 @@ HasOpenAssignment-values_of p form high kept fitting ends history rule found =
     let has : HasCells p before history = HasCells-append p history cells marks (HasCells-cells_of p history kept solution.sizes) (omega (arith, count)) in
     let same = same_backgrounds p.rule high rule ends found.between in
     let meets_before = MeetsBefore-same p p.rule rule history (turned_round rule p.rule same) (record { cells = solution.cells; symmetric = solution.symmetric; moved = solution.moved }) in
-    let meets_after = MeetsAfter-same p p.rule rule history (turned_round rule p.rule same) (record { populated = solution.populated; differ = solution.differ; exact = solution.exact }) in
+    let meets_after = MeetsAfter-same p p.rule rule history (turned_round rule p.rule same) (record { populated = solution.populated; differ = solution.differ; exact = solution.exact; unlisted = solution.unlisted }) in
     let after : HasExtension p before = has_extension p history before kept fitting has (omega (arith, len)) meets_after in
     let values : List Bool = before ++ after.more in
     let has_all : HasCells p values history = HasCells-append p history before after.more has (omega (arith, len)) in

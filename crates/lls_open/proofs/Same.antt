@@ -72,4 +72,5 @@ MeetsAfter-same p rule other h same meets = record {
       let part : Period = part_of period q in
       meets.exact on period is q prime divides (λ y x.
       sym (at-same rule other h part.length (y +ℤ part.dy) (x +ℤ part.dx) same) ∙ there y x ∙ at-same rule other h 0 y x same);
+  unlisted = meets.unlisted;
 }

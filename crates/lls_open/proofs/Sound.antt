@@ -149,6 +149,7 @@ IsOpenSolution-by_clauses p form high values kept fitting ends enough satisfied 
         populated = after.populated;
         differ = after.differ;
         exact = after.exact;
+        unlisted = after.unlisted;
       };
     }
 

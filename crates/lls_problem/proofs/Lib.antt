@@ -5,6 +5,7 @@ pub mod Order
 pub mod Found
 pub mod Populated
 pub mod Fitting
+pub mod FirstListed
 pub mod OneJudgement
 pub mod FirstOf
 pub mod Lost

@@ -7,7 +7,7 @@ use Rattle.lls_grid.specs.History.{History, cells_of}
 use Rattle.lls_search_file.specs.Posed.{IsPosed, sizes_of}
 use Rattle.lls_grid.specs.Sizes.{index_of}
 use Rattle.lls_problem.specs.declared.judgement.Judgement.{Judgement}
-use Rattle.lls_problem.specs.declared.judgement.Judgement.TheVariants.{Meets, Size, Cell, Name, Symmetry, Background, Moved, Rule, Population, Same, Shorter}
+use Rattle.lls_problem.specs.declared.judgement.Judgement.TheVariants.{Meets, Size, Cell, Name, Symmetry, Background, Moved, Rule, Population, Same, Shorter, Listed}
 use Rattle.lls_problem.specs.declared.losses.Loss.{Loss}
 use Rattle.lls_problem.specs.declared.losses.Loss.TheVariants.{OfBackground, OfPlace}
 use Rattle.lls_problem.specs.declared.population.Count.{Count}
@@ -18,7 +18,7 @@ use Rattle.lls_problem.specs.Firsts.{Place, first}
 use Rattle.lls_problem.specs.Unlike.{unlike_cells}
 use Rattle.lls_problem.specs.Losses.{losses}
 use Rattle.lls_problem.specs.Exact.{shorter_lengths}
-use Rattle.lls_problem.specs.Judgement.{Demand, size, cell, name, symmetry, period, rule, population, same, exact, rank, Keeps, KeepsBefore, IsFirstCell, IsJudgement, judgement_of}
+use Rattle.lls_problem.specs.Judgement.{Demand, size, cell, name, symmetry, period, rule, population, same, exact, unlisted, rank, Keeps, KeepsBefore, IsFirstCell, IsJudgement, judgement_of}
 use Rattle.lls_problem.proofs.Places.{index_of-lt}
 use Rattle.lls_problem.proofs.Sides.{Succeeds-by_obeys}
 use Rattle.lls_problem.proofs.NameValues.{MeetsCells-by_firsts}
@@ -27,6 +27,7 @@ use Rattle.lls_problem.proofs.Symmetric.{unlike_cells-symmetric}
 use Rattle.lls_problem.proofs.Returned.{losses-returned}
 use Rattle.lls_problem.proofs.Shorter.{shorter_lengths-exact}
 use Rattle.lls_problem.proofs.Populated.{first_outside-populated}
+use Rattle.lls_problem.proofs.FirstListed.{first_listed_broken, first_listed-one}
 use Rattle.lls_problem.proofs.Plane.{plane_law}
 
 -- the demand at a place of the order
@@ -39,7 +40,8 @@ demand_at (suc (suc (suc (suc zero)))) = period
 demand_at (suc (suc (suc (suc (suc zero))))) = rule
 demand_at (suc (suc (suc (suc (suc (suc zero)))))) = population
 demand_at (suc (suc (suc (suc (suc (suc (suc zero))))))) = same
-demand_at (suc (suc (suc (suc (suc (suc (suc (suc n)))))))) = exact
+demand_at (suc (suc (suc (suc (suc (suc (suc (suc zero)))))))) = exact
+demand_at (suc (suc (suc (suc (suc (suc (suc (suc (suc n))))))))) = unlisted
 
 demand_at-rank : (demand : Demand) → demand_at (rank demand) ≡ demand
 unfolding demand_at
@@ -52,6 +54,7 @@ demand_at-rank rule = refl
 demand_at-rank population = refl
 demand_at-rank same = refl
 demand_at-rank exact = refl
+demand_at-rank unlisted = refl
 
 -- nothing comes before the sizes
 pub KeepsBefore-size : (p : PosedProblem) (h : History) → KeepsBefore p h size
@@ -78,10 +81,11 @@ Keeps-by_solution p h solution rule = solution.rule
 Keeps-by_solution p h solution population = solution.populated
 Keeps-by_solution p h solution same = solution.differ
 Keeps-by_solution p h solution exact = solution.exact
+Keeps-by_solution p h solution unlisted = solution.unlisted
 
 -- and what keeps them all is a solution
-pub IsSolution-by_demands : (p : PosedProblem) (h : History) → KeepsBefore p h exact → Keeps p h exact → IsSolution p h
-IsSolution-by_demands p h before is_exact = record {
+pub IsSolution-by_demands : (p : PosedProblem) (h : History) → KeepsBefore p h unlisted → Keeps p h unlisted → IsSolution p h
+IsSolution-by_demands p h before is_unlisted = record {
   sizes = before size (lit< tt);
   cells = MeetsCells-by_firsts p.posed.cells (cells_of h) (before cell (lit< tt)) (before name (lit< tt));
   symmetric = before symmetry (lit< tt);
@@ -89,7 +93,8 @@ IsSolution-by_demands p h before is_exact = record {
   rule = before rule (lit< tt);
   populated = before population (lit< tt);
   differ = before same (lit< tt);
-  exact = is_exact;
+  exact = before exact (lit< tt);
+  unlisted = is_unlisted;
 }
 
 -- the place of the demand that a judgement says is broken; no demand has the last
@@ -98,15 +103,16 @@ broken_at Size = rank size
 broken_at (Cell t y x) = rank cell
 broken_at (Name t y x) = rank name
 broken_at (Rule t y x) = rank rule
-broken_at Meets = rank exact + 1
+broken_at Meets = rank unlisted + 1
 broken_at (Symmetry t y x) = rank symmetry
 broken_at (Background t) = rank period
 broken_at (Moved t y x) = rank period
 broken_at (Population t n) = rank population
 broken_at Same = rank same
 broken_at (Shorter d) = rank exact
+broken_at (Listed n) = rank unlisted
 
-broken_at-le : (j : Judgement) → broken_at j ≤ rank exact + 1
+broken_at-le : (j : Judgement) → broken_at j ≤ rank unlisted + 1
 unfolding broken_at
 broken_at-le Meets = lit≤ tt
 broken_at-le Size = lit≤ tt
@@ -119,6 +125,7 @@ broken_at-le (Rule t y x) = lit≤ tt
 broken_at-le (Population t n) = lit≤ tt
 broken_at-le Same = lit≤ tt
 broken_at-le (Shorter d) = lit≤ tt
+broken_at-le (Listed n) = lit≤ tt
 
 -- the demands before it are kept
 kept_before : (p : PosedProblem) (h : History) (j : Judgement) → IsJudgement p h j → (demand : Demand) → rank demand < broken_at j → Keeps p h demand
@@ -134,6 +141,7 @@ kept_before p h (Moved t y x) fits demand less = fits.kept demand less
 kept_before p h (Population t n) fits demand less = fits.kept demand less
 kept_before p h Same fits demand less = fits.kept demand less
 kept_before p h (Shorter d) fits demand less = fits.kept demand less
+kept_before p h (Listed n) fits demand less = fits.kept demand less
 
 -- it is not kept
 first_cell_broken : (p : PosedProblem) (KeepsOne : ℕ → Type 0) (t y x : ℕ) → IsPosed p.posed → IsFirstCell p.posed KeepsOne (record { t = t; y = y; x = x })
@@ -162,6 +170,7 @@ not_earlier p h (Rule t y x) k posed fitting fits other less =
 not_earlier p h Same k posed fitting fits other less = fits.first (kept_before p h k other same less)
 not_earlier p h (Shorter d) k posed fitting fits other less =
     nothing_found (shorter_lengths p h) _ fits.first (shorter_lengths-exact p h (fits.kept size (lit< tt)) fitting (kept_before p h k other exact less))
+not_earlier p h (Listed n) k posed fitting fits other less = first_listed_broken p.demands.listed _ n fits.first (kept_before p h k other unlisted less)
 not_earlier p h Meets k posed fitting fits other less = omega (arith, less, broken_at-le k)
 not_earlier p h (Population t n) k posed fitting fits other less = first_outside-populated p h _ fits.first (kept_before p h k other population less)
 
@@ -185,6 +194,7 @@ same_demand p h (Population t n) (Population t' n') fits other one =
     ap (λ found. option_map_or (λ (c : Count). Population c.t c.live) found Meets) (sym fits.first ∙ other.first)
 same_demand p h Same Same fits other one = refl
 same_demand p h (Shorter d) (Shorter e) fits other one = ap (λ found. option_map_or Shorter found Meets) (sym fits.first ∙ other.first)
+same_demand p h (Listed n) (Listed m) fits other one = ap Listed (first_listed-one p.demands.listed _ n m fits.first other.first)
 same_demand p h j k fits other one = absurd (omega (arith, one))
 
 -- exactly one judgement fits

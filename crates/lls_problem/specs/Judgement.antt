@@ -1,15 +1,15 @@
 -- What each answer of judging says: which demand is the first that is broken, and at which place.
-use Rattle.std.specs.Prelude.{◌≡◌, ◌<◌, ℕ, ◌-◌, Bool, false, List, Some, length, slice_index_or}
+use Rattle.std.specs.Prelude.{◌≡◌, ◌≢◌, ◌<◌, ℕ, [], ◌-◌, Bool, false, List, Some, length, slice_index_or}
 use Rattle.lls_rule.specs.Rule.{successor}
 use Rattle.lls_grid.specs.declared.sizes.GridPlace.{GridPlace}
 use Rattle.lls_grid.specs.Sizes.{IsInside, index_of}
-use Rattle.lls_grid.specs.History.{History, HasSizes, at, nine, cells_of}
+use Rattle.lls_grid.specs.History.{History, HasSizes, at, nine, cells_of, cells_of_rows, rows_at}
 use Rattle.lls_search_file.specs.declared.cell.Cell.{Cell}
 use Rattle.lls_search_file.specs.Posed.{PosedFile, sizes_of, name_of}
 use Rattle.lls_problem.specs.declared.judgement.Judgement.{Judgement}
 use Rattle.lls_problem.specs.declared.judgement.Judgement.TheVariants as judgement
-use Rattle.lls_problem.specs.Problem.{PosedProblem}
-use Rattle.lls_problem.specs.Solution.{cell_number, HasItsBit, AreTied, IsFramed, is_marked, AreSymmetric, Returns, Obeys, IsPopulated, Differs, IsExact, IsSolution}
+use Rattle.lls_problem.specs.Problem.{Pattern, PosedProblem}
+use Rattle.lls_problem.specs.Solution.{cell_number, HasItsBit, AreTied, IsFramed, is_marked, AreSymmetric, Returns, Obeys, IsPopulated, Differs, IsExact, IsUnlisted, IsSolution}
 use Rattle.lls_symmetry.specs.Moved.{spot}
 use Rattle.lls_problem.specs.declared.losses.Loss.{Loss}
 use Rattle.lls_problem.specs.declared.losses.Loss.TheVariants.{OfBackground, OfPlace}
@@ -79,6 +79,7 @@ pub data Demand : Type 0 where
   population : Demand
   same : Demand
   exact : Demand
+  unlisted : Demand
 
 abbrev pub rank : Demand → ℕ
 rank size = 0
@@ -90,6 +91,7 @@ rank rule = 5
 rank population = 6
 rank same = 7
 rank exact = 8
+rank unlisted = 9
 
 abbrev pub Keeps : PosedProblem → History → Demand → Type 0
 Keeps problem history size = HasItsSizes problem history
@@ -101,6 +103,7 @@ Keeps problem history rule = Obeys problem history
 Keeps problem history population = IsPopulated problem history
 Keeps problem history same = Differs problem history
 Keeps problem history exact = IsExact problem history
+Keeps problem history unlisted = IsUnlisted problem history
 
 -- every demand before that one is kept
 abbrev pub KeepsBefore : PosedProblem → History → Demand → Type 0
@@ -116,6 +119,12 @@ abbrev pub judgement_of : Loss → Judgement
 judgement_of (OfBackground t) = judgement.Background t
 judgement_of (OfPlace spot) = judgement.Moved spot.t spot.y spot.x
 
+-- of patterns, the first that has those cells
+pub record IsFirstListed (patterns : List Pattern) (cells : List Bool) (n : ℕ) : Type 0 where
+  pub within : n < length patterns
+  pub same : slice_index_or patterns n [] ≡ cells
+  pub before : (m : ℕ) → m < n → slice_index_or patterns m [] ≢ cells
+
 -- the history is a solution, or this is its first fault
 abbrev pub IsJudgement : PosedProblem → History → Judgement → Type 0
 IsJudgement p h judgement.Meets = IsSolution p h
@@ -129,3 +138,4 @@ IsJudgement p h (judgement.Rule t y x) = IsFault p h rule (IsFirstTransition p h
 IsJudgement p h (judgement.Population t n) = IsFault p h population (first_outside p h ≡ Some (record { t = t; live = n }))
 IsJudgement p h judgement.Same = IsFault p h same (Differs p h → ⊥)
 IsJudgement p h (judgement.Shorter d) = IsFault p h exact (first (shorter_lengths p h) ≡ Some d)
+IsJudgement p h (judgement.Listed n) = IsFault p h unlisted (IsFirstListed p.demands.listed (cells_of_rows (rows_at h 0)) n)

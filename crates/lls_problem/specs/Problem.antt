@@ -1,7 +1,8 @@
 -- A problem: a posed file, a rule and demands that fit the file.
-use Rattle.std.specs.Prelude.{◌≡◌, ◌<◌, ◌≤◌, ℕ, ◌/◌, pos, int_div, true, false, nat_lt, nat_le, Bool, List, [], ◌∷◌, ◌++◌, map, find, All, Option, None, Some, option_map, Result, Ok, Err, if◌then◌else◌}
+use Rattle.std.specs.Prelude.{◌≡◌, ◌<◌, ◌≤◌, ℕ, length, ◌/◌, pos, int_div, true, false, nat_lt, nat_le, Bool, List, [], ◌∷◌, ◌++◌, map, find, All, Option, None, Some, option_map, Result, Ok, Err, if◌then◌else◌}
 use Rattle.std.specs.Option.{ForSome, option_map_or}
 use Rattle.lls_grid.specs.Place.{IsWithin}
+use Rattle.lls_grid.specs.declared.patterns.TheConstants.Patterns.{MOST}
 use Rattle.lls_search_file.specs.Posed.{PosedFile}
 use Rattle.lls_symmetry.specs.declared.moved.TheConstants.{MOST_SHIFT, MOST_PERIOD}
 use Rattle.lls_symmetry.specs.declared.symmetry.Symmetry.TheVariants.{C1}
@@ -13,6 +14,10 @@ use Rattle.lls_problem.specs.declared.demands.DemandError.{DemandError}
 use Rattle.lls_problem.specs.declared.demands.DemandError.TheVariants.{NotSquare, NoGeneration, BoundsCross, PeriodTooLong, Counters}
 use Rattle.lls_problem.specs.Bounds.{HasEnds, most_counters, grid_size, top_end, crosses, all_counter_vars}
 
+-- a pattern is its cells in the order row, column
+abbrev pub Pattern : Type 0
+Pattern = List Bool
+
 -- the rule is its table of 512 answers
 pub record PosedProblem : Type 0 where
   pub posed : PosedFile
@@ -21,13 +26,25 @@ pub record PosedProblem : Type 0 where
 
 -- an edge, and nothing else
 abbrev pub edge_alone : Edge → Demands
-edge_alone edge = record { edge = edge; symmetry = C1; period = None; exact = false; bounds = []; differ = None }
+edge_alone edge = record { edge = edge; symmetry = C1; period = None; exact = false; bounds = []; differ = None; listed = [] }
 
 -- a period within the limits
 pub record IsPeriod (period : Period) : Type 0 where
   pub length : (1 ≤ period.length) × (period.length ≤ MOST_PERIOD)
   pub columns : IsWithin MOST_SHIFT period.dx
   pub rows : IsWithin MOST_SHIFT period.dy
+
+-- patterns of a file's sizes, and not too many
+pub record AreOfSize (posed : PosedFile) (patterns : List Pattern) : Type 0 where
+  pub sized : All (λ pattern. length pattern ≡ grid_size posed) patterns
+  pub few : length patterns ≤ MOST
+
+-- the demands with these patterns in place of those that generation 0 mustn't be
+abbrev pub with_listed : Demands → List Pattern → Demands
+with_listed demands patterns = record demands { listed = patterns }
+
+abbrev pub but : PosedProblem → List Pattern → PosedProblem
+but problem patterns = record problem { demands = with_listed problem.demands patterns }
 
 -- the period of which q make that one
 abbrev pub part_of : Period → ℕ → Period
@@ -92,3 +109,4 @@ pub record AreFitting (posed : PosedFile) (demands : Demands) : Type 0 where
   pub counters : all_counter_vars (grid_size posed) demands.bounds ≤ most_counters
   pub shorter : ForSome demands.period (λ period. period.length < posed.generations)
   pub named : ForSome demands.differ (λ pair. (pair.0 < posed.generations) × (pair.1 < posed.generations))
+  pub listed : AreOfSize posed demands.listed

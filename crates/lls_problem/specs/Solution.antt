@@ -4,7 +4,7 @@ use Rattle.std.specs.Option.{ForSome}
 use Rattle.lls_rule.specs.Rule.{successor}
 use Rattle.lls_grid.specs.Sizes.{index_of}
 use Rattle.lls_grid.specs.Place.{inside}
-use Rattle.lls_grid.specs.History.{History, HasSizes, at, nine, cells_of}
+use Rattle.lls_grid.specs.History.{History, HasSizes, at, nine, cells_of, cells_of_rows, rows_at}
 use Rattle.lls_grid.specs.Changes.{population}
 use Rattle.lls_search_file.specs.declared.cell.Cell.{Cell}
 use Rattle.lls_search_file.specs.declared.cell.Kind.{Kind}
@@ -113,6 +113,10 @@ IsExact problem history = problem.demands.exact ≡ true → ForSome problem.dem
 abbrev pub IsPopulated : PosedProblem → History → Type 0
 IsPopulated problem history = All (λ bound. Allows bound (population history bound.generation)) problem.demands.bounds
 
+-- generation 0 is none of the listed patterns
+abbrev pub IsUnlisted : PosedProblem → History → Type 0
+IsUnlisted problem history = All (λ pattern. cells_of_rows (rows_at history 0) ≢ pattern) problem.demands.listed
+
 -- the history meets the file and every demand
 pub record IsSolution (problem : PosedProblem) (history : History) : Type 0 where
   pub sizes : HasSizes problem.posed.generations problem.posed.height problem.posed.width history
@@ -123,6 +127,7 @@ pub record IsSolution (problem : PosedProblem) (history : History) : Type 0 wher
   pub populated : IsPopulated problem history
   pub differ : Differs problem history
   pub exact : IsExact problem history
+  pub unlisted : IsUnlisted problem history
 
 -- no history is a solution
 abbrev pub IsAbsent : PosedProblem → Type 0

@@ -2,7 +2,7 @@
 use Rattle.std.specs.Prelude.{ℕ, ◌++◌, List, codes, decimal}
 use Rattle.std.specs.Fmt.{signed_decimal}
 use Rattle.lls_problem.specs.declared.judgement.Judgement.{Judgement}
-use Rattle.lls_problem.specs.declared.judgement.Judgement.TheVariants.{Meets, Size, Cell, Name, Symmetry, Background, Moved, Rule, Population, Same, Shorter}
+use Rattle.lls_problem.specs.declared.judgement.Judgement.TheVariants.{Meets, Size, Cell, Name, Symmetry, Background, Moved, Rule, Population, Same, Shorter, Listed}
 use Rattle.lls_problem.specs.declared.demands.DemandError.{DemandError}
 use Rattle.lls_problem.specs.declared.demands.DemandError.TheVariants.{NotSquare, NoGeneration, BoundsCross, PeriodTooLong, Counters}
 
@@ -18,6 +18,7 @@ judgement_text (Rule t y x) = codes "Rule " ++ decimal t ++ codes " " ++ signed_
 judgement_text (Population t n) = codes "Population " ++ decimal t ++ codes " " ++ decimal n
 judgement_text Same = codes "Same"
 judgement_text (Shorter d) = codes "Shorter " ++ decimal d
+judgement_text (Listed n) = codes "Listed " ++ decimal n
 
 abbrev pub demand_error_text : DemandError → List ℕ
 demand_error_text (NotSquare height width) = codes "NotSquare " ++ decimal height ++ codes " " ++ decimal width

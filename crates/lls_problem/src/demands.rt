@@ -3,6 +3,7 @@ ghost use Rattle.std.specs.Prelude.{◌≡◌};
 ghost use Rattle.lls_problem.specs.Problem.{edge_alone};
 
 use crate::Bounds;
+use lls_grid::Patterns;
 use lls_symmetry::Symmetry;
 use std::alloc::Global;
 use std::error::Error;
@@ -37,6 +38,8 @@ pub struct Demands {
     pub bounds: Bounds,
     /// Two generations that have to differ in some cell.
     pub differ: Option<(u32, u32)>,
+    /// Generation 0 is none of them.
+    pub listed: Patterns,
 }
 
 impl Demands {
@@ -51,6 +54,7 @@ impl Demands {
             exact: false,
             bounds: Bounds::new(Vec::new(alloc)),
             differ: None,
+            listed: Patterns::new(Vec::new(alloc)),
         }
     }
 }

@@ -30,6 +30,8 @@ pub enum Judgement {
     Same,
     /// The period isn't exact: so many generations after the first it's there again, moved along the same line.
     Shorter(u32),
+    /// Generation 0 is the pattern at this place of the list, counted from 0; the first that it is.
+    Listed(u64),
 }
 
 impl fmt::Display for Judgement {
@@ -51,6 +53,7 @@ impl fmt::Display for Judgement {
             Judgement::Population(t, n) => write!(f, "Population {t} {n}"),
             Judgement::Same => write!(f, "Same"),
             Judgement::Shorter(d) => write!(f, "Shorter {d}"),
+            Judgement::Listed(n) => write!(f, "Listed {n}"),
         }
     }
 }

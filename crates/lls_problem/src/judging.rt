@@ -9,6 +9,7 @@ ghost use Rattle.lls_problem.specs.declared.judgement.Judgement.{Judgement};
 use crate::cells::{first_disagreement, first_misfit};
 use crate::differences::differs;
 use crate::exact::first_shorter;
+use crate::listed::first_listed;
 use crate::losses::first_loss;
 use crate::population::first_outside;
 use crate::transitions::first_transition;
@@ -61,6 +62,9 @@ pub fn judge(problem: &Problem, history: &History) -> Judgement
     }
     if let Some(length) = first_shorter(problem, history) {
         return Judgement::Shorter(length);
+    }
+    if let Some(n) = first_listed(problem, history) {
+        return Judgement::Listed(n);
     }
     Judgement::Meets
 }

@@ -9,6 +9,7 @@ mod exact;
 mod form;
 mod judgement;
 mod judging;
+mod listed;
 mod losses;
 mod population;
 mod problem;

@@ -149,7 +149,7 @@ fn course_of(period: Period, t: u32) -> Course
     }
 }
 
-// The first loss of a generation.
+/// The first loss of a generation.
 pub fn first_at(problem: &Problem, history: &History, period: Period, t: u32) -> Option<Loss>
     requires sizes { HasItsSizes problem.now history.now }
     requires period { IsPeriod period }

@@ -3,12 +3,12 @@ ghost use Rattle.std.specs.Prelude.{◌≡◌, ◌<◌, ◌≤◌, ◌*◌, [], 
 ghost use Rattle.std.specs.Option.{ForSome, option_map_or};
 ghost use Rattle.lls_grid.specs.Sizes.{IsInside};
 ghost use Rattle.lls_search_file.specs.Posed.{IsPosed, sizes_of};
-ghost use Rattle.lls_problem.specs.Problem.{problem_made, missing_generation, crossing, too_long, too_many, IsPeriod, AreFitting};
+ghost use Rattle.lls_problem.specs.Problem.{problem_made, missing_generation, crossing, too_long, too_many, but, AreOfSize, IsPeriod, AreFitting};
 ghost use Rattle.lls_problem.specs.Bounds.{HasEnds, grid_size, all_counter_vars};
 ghost use Rattle.lls_problem.specs.Solution.{is_marked, place_of};
 
 use crate::{Bound, Bounds, DemandError, Demands, Edge};
-use lls_grid::{GridPlace, History, index_within};
+use lls_grid::{GridPlace, History, Patterns, index_within};
 use lls_rule::Rule;
 use lls_search_file::Posed;
 use lls_symmetry::fits;
@@ -37,6 +37,7 @@ impl Model for Problem {
 pub fn make_problem(posed: Posed, rule: Rule, demands: Demands) -> Result<Problem, DemandError>
     requires period { ForSome demands.period IsPeriod }
     requires bounds { All HasEnds demands.bounds }
+    requires listed { AreOfSize posed demands.listed }
     ensures { result ≡ problem_made posed rule demands }
 {
     if !fits(demands.symmetry, posed.height, posed.width) {
@@ -184,6 +185,24 @@ impl Problem {
         match (index_within(y, posed.height), index_within(x, posed.width)) {
             (Some(y), Some(x)) => posed.cells.items()[self.cell_index(GridPlace { t, y, x })].mark,
             _ => false,
+        }
+    }
+
+    /// The problem with these patterns in place of those that generation 0 mustn't be.
+    pub fn but(self, patterns: Patterns) -> Problem
+        requires { AreOfSize self.posed patterns }
+        ensures { result ≡ but self patterns }
+    {
+        let Problem {
+            posed,
+            rule,
+            mut demands,
+        } = self;
+        demands.listed = patterns;
+        Problem {
+            posed,
+            rule,
+            demands,
         }
     }
 

@@ -1,5 +1,5 @@
 // The parts of a formula around its transitions, put behind variables that aren't the problem's, and what a transition reads.
-ghost use Rattle.std.specs.Prelude.{◌↔◌, All, IfOk, IsTrue};
+ghost use Rattle.std.specs.Prelude.{◌≡◌, ◌↔◌, [], All, IfOk, IsTrue};
 ghost use Rattle.std.specs.Option.{ForSome};
 ghost use Rattle.lls_problem.specs.Bounds.{HasEnds};
 ghost use Rattle.lls_problem.specs.Problem.{IsPeriod};
@@ -47,6 +47,7 @@ fn bounded(alloc: Global, edge: Edge, first: Bound, second: Bound) -> Result<Dem
     requires second { HasEnds second }
     ensures period { IfOk result (λ demands. ForSome demands.period IsPeriod) }
     ensures bounds { IfOk result (λ demands. All HasEnds demands.bounds) }
+    ensures listed { IfOk result (λ demands. demands.listed ≡ []) }
 {
     let mut bounds = Vec::new(alloc);
     bounds.push(first)?;

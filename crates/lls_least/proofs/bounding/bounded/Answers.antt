@@ -4,7 +4,7 @@ use Rattle.std.specs.Option.{ForSome}
 use Rattle.lls_search_file.specs.Posed.{PosedFile}
 use Rattle.lls_problem.specs.declared.demands.Demands.{Demands}
 use Rattle.lls_problem.specs.Bounds.{HasEnds}
-use Rattle.lls_problem.specs.Problem.{IsPeriod, problem_made}
+use Rattle.lls_problem.specs.Problem.{AreOfSize, IsPeriod, problem_made}
 use Rattle.lls_least.specs.Bounded.{bounded, on_first}
 use Rattle.lls_least.proofs.Made.{fitting-bounded, made-bounded}
 use Rattle.lls_least.proofs.bounding.bounded.Goals as goal
@@ -24,6 +24,8 @@ make_problem-requires c =
     record {
       period = subst (λ (d : Demands). ForSome d.period IsPeriod) (sym demands) fitting.period;
       bounds = subst (λ (d : Demands). All HasEnds d.bounds) (sym demands) fitting.bounds;
+      listed = subst (λ (d : Demands). AreOfSize c.in_ok-posed.posed d.listed) (sym demands)
+          (subst (λ (f : PosedFile). AreOfSize f p.demands.listed) (sym (c.in_ok-posed.ensures ∙ c.posed.ensures.value)) fitting.listed);
     }
 
 pub unreachable-requires : goal.unreachable-requires

@@ -1,6 +1,6 @@
 use Rattle.std.proofs.Common.{◌≡◌, lit<, w32, to_z, of_z, to_z-of_z, refl, sym, subst, rules, FitsSigned}
-use Rattle.lls_problem.specs.declared.judgement.Judgement.TheVariants.{Meets, Cell, Name, Symmetry, Rule, Population, Same, Shorter}
-use Rattle.lls_problem.specs.Judgement.{size, cell, name, symmetry, period, rule, population, same, exact, KeepsBefore, judgement_of}
+use Rattle.lls_problem.specs.declared.judgement.Judgement.TheVariants.{Meets, Cell, Name, Symmetry, Rule, Population, Same, Shorter, Listed}
+use Rattle.lls_problem.specs.Judgement.{size, cell, name, symmetry, period, rule, population, same, exact, unlisted, KeepsBefore, judgement_of}
 use Rattle.lls_problem.proofs.FirstOf.{nothing_first}
 use Rattle.lls_problem.proofs.Populated.{IsPopulated-by_none}
 use Rattle.lls_problem.proofs.Symmetric.{AreSymmetric-by_cells}
@@ -8,7 +8,7 @@ use Rattle.lls_problem.proofs.Returned.{Returns-by_losses}
 use Rattle.lls_problem.proofs.Shorter.{IsExact-by_none}
 use Rattle.lls_problem.proofs.OneJudgement.{Judged, judged, judgement_of-fits, KeepsBefore-size, KeepsBefore-next, IsSolution-by_demands}
 use Rattle.lls_problem.proofs.judging.judge.Goals as goal
-use Rattle.lls_problem.proofs.judging.judge.Goals.{Else-not-has_its_sizes, In_default, In_default-first_disagreement, In_default-first_unlike, In_default-first_loss, In_default-first_transition, In_default-first_outside, Else-not-differs}
+use Rattle.lls_problem.proofs.judging.judge.Goals.{Else-not-has_its_sizes, In_default, In_default-first_disagreement, In_default-first_unlike, In_default-first_loss, In_default-first_transition, In_default-first_outside, Else-not-differs, In_default-first_shorter}
 
 -- the demands that are kept so far
 sizes_kept : (c : Else-not-has_its_sizes) → KeepsBefore c.args.problem.now c.args.history.now cell
@@ -40,6 +40,11 @@ population_kept c before =
 
 difference_kept : (c : Else-not-differs) → KeepsBefore c.args.problem.now c.args.history.now same → KeepsBefore c.args.problem.now c.args.history.now exact
 difference_kept c before = KeepsBefore-next c.args.problem.now c.args.history.now same exact refl before c.if-not-differs.ensures
+
+exact_kept : (c : In_default-first_shorter) → KeepsBefore c.args.problem.now c.args.history.now exact → KeepsBefore c.args.problem.now c.args.history.now unlisted
+exact_kept c before =
+    KeepsBefore-next c.args.problem.now c.args.history.now exact unlisted refl before
+    (IsExact-by_none c.args.problem.now c.args.history.now (before size (lit< tt)) c.demands-demands.ensures.kept (nothing_first _ c.in_default-first_shorter.ensures))
 
 pub returns-in-Some : goal.returns-in-Some
 returns-in-Some c =
@@ -107,11 +112,17 @@ returns-in-Some-first_shorter c =
     let it = judged c.args.problem.now c.args.history.now (Shorter c.in-Some-first_shorter.length) c.posed.ensures.kept c.demands-demands.ensures.kept (record { kept = before; first = sym c.in-Some-first_shorter.ensures }) in
     record { judgement = it.judgement; unique = it.unique; meets = it.meets; broken = it.broken; plane = it.plane }
 
+pub returns-in-Some-first_listed : goal.returns-in-Some-first_listed
+returns-in-Some-first_listed c =
+    let at = goal.at.returns-in-Some-first_listed c in
+    let before = exact_kept at.In_default-first_shorter (difference_kept at.Else-not-differs (population_kept at.In_default-first_outside (rule_kept at.In_default-first_transition (period_kept at.In_default-first_loss (symmetry_kept at.In_default-first_unlike (names_kept at.In_default-first_disagreement (cells_kept at.In_default (sizes_kept at.Else-not-has_its_sizes)))))))) in
+    let it = judged c.args.problem.now c.args.history.now (Listed c.in-Some-first_listed.n) c.posed.ensures.kept c.demands-demands.ensures.kept (record { kept = before; first = c.in-Some-first_listed.ensures.found }) in
+    record { judgement = it.judgement; unique = it.unique; meets = it.meets; broken = it.broken; plane = it.plane }
+
 pub returns : goal.returns
 returns c =
     let at = goal.at.returns c in
-    let before = difference_kept at.Else-not-differs (population_kept at.In_default-first_outside (rule_kept at.In_default-first_transition (period_kept at.In_default-first_loss (symmetry_kept at.In_default-first_unlike (names_kept at.In_default-first_disagreement (cells_kept at.In_default (sizes_kept at.Else-not-has_its_sizes))))))) in
+    let before = exact_kept at.In_default-first_shorter (difference_kept at.Else-not-differs (population_kept at.In_default-first_outside (rule_kept at.In_default-first_transition (period_kept at.In_default-first_loss (symmetry_kept at.In_default-first_unlike (names_kept at.In_default-first_disagreement (cells_kept at.In_default (sizes_kept at.Else-not-has_its_sizes)))))))) in
     let it = judged c.args.problem.now c.args.history.now Meets c.posed.ensures.kept c.demands-demands.ensures.kept
-    (IsSolution-by_demands c.args.problem.now c.args.history.now before
-    (IsExact-by_none c.args.problem.now c.args.history.now (before size (lit< tt)) c.demands-demands.ensures.kept (nothing_first _ c.in_default-first_shorter.ensures))) in
+    (IsSolution-by_demands c.args.problem.now c.args.history.now before c.in_default-first_listed.ensures.none) in
     record { judgement = it.judgement; unique = it.unique; meets = it.meets; broken = it.broken; plane = it.plane }

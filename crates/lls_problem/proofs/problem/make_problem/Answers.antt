@@ -12,4 +12,5 @@ invariant_of-result c = record {
   counters = counters-by_none c.args.posed c.args.demands (sym c.in_default-too_many.is ∙ c.too_many.ensures);
   shorter = shorter-by_none c.args.posed c.args.demands (sym c.in_default-too_long.is ∙ c.too_long.ensures);
   named = named-by_none c.args.posed c.args.demands (sym c.in_default.is ∙ c.missing_generation.ensures);
+  listed = c.requires.listed;
 }
