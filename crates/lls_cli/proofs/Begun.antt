@@ -37,6 +37,8 @@ begun_some (faults.Demands error) file before after part = absurd part
 begun_some (faults.Dimacs error) file before after part = absurd part
 begun_some (faults.NotPlain t y x) file before after part = absurd part
 begun_some (faults.Rle error) file before after part = absurd part
+begun_some (faults.List error) file before after part = absurd part
+begun_some (faults.Pictures error) file before after part = absurd part
 begun_some (faults.TooLong limit) file before after part = absurd part
 begun_some faults.Memory file before after part = absurd part
 

@@ -66,5 +66,7 @@ part_changes (faults.Demands error) file before after part = absurd part
 part_changes (faults.Dimacs error) file before after part = absurd part
 part_changes (faults.NotPlain t y x) file before after part = absurd part
 part_changes (faults.Rle error) file before after part = absurd part
+part_changes (faults.List error) file before after part = absurd part
+part_changes (faults.Pictures error) file before after part = absurd part
 part_changes (faults.TooLong limit) file before after part = absurd part
 part_changes faults.Memory file before after part = absurd part

@@ -8,6 +8,10 @@ use Rattle.lls_search_file.specs.declared.posed_fault.PosedFault.{PosedFault}
 use Rattle.lls_search_file.specs.declared.posed_fault.PosedFault.TheVariants as posed
 use Rattle.lls_cnf.specs.declared.dimacs_fault.DimacsFault.{DimacsFault}
 use Rattle.lls_cnf.specs.declared.dimacs_fault.DimacsFault.TheVariants as dimacs
+use Rattle.lls_search_file.specs.declared.list_fault.ListFault.{ListFault}
+use Rattle.lls_search_file.specs.declared.list_fault.ListFault.TheVariants as lists
+use Rattle.lls_rle.specs.declared.pictures_fault.PicturesFault.{PicturesFault}
+use Rattle.lls_rle.specs.declared.pictures_fault.PicturesFault.TheVariants as pictures
 use Rattle.lls_problem.specs.declared.demands.DemandError.{DemandError}
 use Rattle.lls_problem.specs.declared.demands.DemandError.TheVariants as demands
 use Rattle.lls_words.specs.declared.error.WordsError.{WordsError}
@@ -21,9 +25,10 @@ use Rattle.lls_cli.specs.declared.fault.Fault.TheVariants as faults
 use Rattle.lls_cli.specs.declared.fault.OutsideFault.TheVariants as outside
 use Rattle.lls_answers.specs.declared.status.Status.{Status}
 use Rattle.lls_answers.specs.declared.status.Status.TheVariants as statuses
-use Rattle.lls_cli.specs.Fault.{status_of, words_status, posed_status, demand_status, dimacs_status}
+use Rattle.lls_cli.specs.Fault.{status_of, words_status, posed_status, demand_status, dimacs_status, list_status, pictures_status}
 use Rattle.lls_answers.specs.Answer.{IsAnswer, Holds, ahead_of}
-use Rattle.lls_cli.specs.Question.{Asking, of_none, of_one, of_two, asking_of, question_by, question_of, AsksBy, Asks, input_of}
+use Rattle.lls_cli.specs.Question.{asking_of, question_of, Asks}
+use Rattle.lls_cli.proofs.Asked.{came_to-asked}
 use Rattle.lls_outside.specs.Moment.{ShelfMoment, SinkMoment, Moment, files_at}
 use Rattle.lls_cli.specs.Ends.{FileFailed, IsDecided, End, refused, lacked, input_failed, ahead_failed, answered, file_failed, output_failed, IsEndBehind, Ends, IsEnd}
 use Rattle.lls_answers.specs.Standing.{IsCurrent, KeepsOutput, WroteFile}
@@ -97,6 +102,17 @@ dimacs_status-is (dimacs.ClauseCount expected found) = tt
 dimacs_status-is (dimacs.TooManyVariables n) = tt
 dimacs_status-is (dimacs.Percent line) = tt
 
+list_status-is : (fault : ListFault) → IsPosedStatus (list_status fault)
+list_status-is (lists.Text fault) = tt
+list_status-is (lists.Width line width found) = tt
+list_status-is (lists.Height line height found) = tt
+list_status-is (lists.NotPlain line cell) = tt
+list_status-is (lists.TooMany n) = tt
+
+pictures_status-is : (fault : PicturesFault) → IsPosedStatus (pictures_status fault)
+pictures_status-is (pictures.Picture n fault) = tt
+pictures_status-is (pictures.TooMany n) = tt
+
 posed_fault : (status : Status) → IsPosedStatus status → IsFaultStatus status
 posed_fault statuses.Content is = tt
 posed_fault statuses.Memory is = absurd is
@@ -116,6 +132,8 @@ status_of-is (faults.Demands error) = posed_fault (demand_status error) (demand_
 status_of-is (faults.Dimacs fault) = posed_fault (dimacs_status fault) (dimacs_status-is fault)
 status_of-is (faults.NotPlain t y x) = tt
 status_of-is (faults.Rle fault) = tt
+status_of-is (faults.List fault) = posed_fault (list_status fault) (list_status-is fault)
+status_of-is (faults.Pictures fault) = posed_fault (pictures_status fault) (pictures_status-is fault)
 status_of-is (faults.Outside fault) = tt
 status_of-is (faults.TooLong limit) = tt
 status_of-is faults.Memory = tt
@@ -142,6 +160,8 @@ decided_words (faults.Demands error) decided is = subst IsPosedStatus is (demand
 decided_words (faults.Dimacs error) decided is = subst IsPosedStatus is (dimacs_status-is error)
 decided_words (faults.NotPlain t y x) decided is = cc
 decided_words (faults.Rle fault) decided is = cc
+decided_words (faults.List fault) decided is = subst IsPosedStatus is (list_status-is fault)
+decided_words (faults.Pictures fault) decided is = subst IsPosedStatus is (pictures_status-is fault)
 decided_words (faults.Outside fault) decided is = cc
 decided_words (faults.TooLong limit) decided is = cc
 
@@ -154,6 +174,8 @@ decided_outside (faults.Demands error) decided is = absurd (subst IsPosedStatus 
 decided_outside (faults.Dimacs error) decided is = absurd (subst IsPosedStatus is (dimacs_status-is error))
 decided_outside (faults.NotPlain t y x) decided is = absurd cc
 decided_outside (faults.Rle fault) decided is = absurd cc
+decided_outside (faults.List fault) decided is = absurd (subst IsPosedStatus is (list_status-is fault))
+decided_outside (faults.Pictures fault) decided is = absurd (subst IsPosedStatus is (pictures_status-is fault))
 decided_outside (faults.TooLong limit) decided is = absurd cc
 decided_outside (faults.Outside outside.NoFile) decided is = refl
 decided_outside (faults.Outside outside.OpenFailed) decided is = absurd decided
@@ -219,13 +241,8 @@ stays_silent (Err error) before after status (answered answer, ended) silent = a
 stays_silent (Err error) before after status (file_failed answer fault, ended) silent = absurd ended
 stays_silent (Err error) before after status (output_failed answer, ended) silent = absurd ended
 
-asks-question_by : (files : Files) (asking : Asking) (question : Result Question Fault) → AsksBy (Some files) asking question → question_by (input_of files) asking ≡ question
-asks-question_by files (of_none known) question asked = sym asked
-asks-question_by files (of_one name limit make) question asked = rw (← asked.input_is) (sym asked.made)
-asks-question_by files (of_two one one_limit two two_limit make) question asked = rw (← asked.first_is, ← asked.second_is) (sym asked.made)
-
 pub asks-question_of : (task : Task) (files : Files) (question : Result Question Fault) → Asks task (Some files) question → question_of task files ≡ question
-asks-question_of task files question asked = asks-question_by files (asking_of task) question asked
+asks-question_of task files question asked = came_to-asked files (asking_of task) question asked
 
 misses : (task : Task) (files : Option Files) (fault : Fault) → Asks task files (Err fault) → fault ≡ faults.Outside outside.NoFile → MissesFile (Ok task) files
 misses task None fault asked is = tt

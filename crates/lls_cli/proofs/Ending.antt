@@ -17,7 +17,10 @@ use Rattle.lls_answers.specs.declared.status.Status.{Status}
 use Rattle.lls_answers.specs.declared.status.Status.TheVariants as statuses
 use Rattle.lls_cli.specs.Fault.{fault_line, words_fault}
 use Rattle.lls_answers.specs.Answer.{IsAnswer, ahead_of}
-use Rattle.lls_cli.specs.Question.{Asking, of_none, of_one, of_two, asking_of, Asks}
+use Rattle.lls_cli.specs.Question.{Asking, come_to, reading, and_ask, subject_asked, asking_of, Asks}
+use Rattle.lls_cli.specs.declared.task.Source.{Source}
+use Rattle.lls_cli.specs.declared.task.Source.TheVariants as sources
+use Rattle.lls_answers.specs.Subject.{Subject}
 use Rattle.lls_outside.specs.Moment.{ShelfMoment, SinkMoment, Moment, moment, files_at}
 use Rattle.lls_outside.specs.Grown.{GrewBy}
 use Rattle.lls_outside.specs.Kept.{KeepsFiles, KeepsInput}
@@ -58,10 +61,9 @@ words_refused error shelf out err_before err_after status fits (inl said) =
     (refused (faults.Words error), (refl, refl, record { status_is = said.0; shelf = KeepsFiles-refl shelf; shelf_faults = refl; out = refl; err = said.1 }))
 words_refused error shelf out err_before err_after status fits (inr said) = (lacked, (refl, lacks shelf out err_before err_after status fits said.1 said.2))
 
-LeavesInput-refl : (asking : Asking) (shelf : ShelfMoment) → LeavesInput asking shelf shelf
-LeavesInput-refl (of_none question) shelf = KeepsInput-refl shelf
-LeavesInput-refl (of_one name limit make) shelf = tt
-LeavesInput-refl (of_two one one_limit two two_limit make) shelf = tt
+LeavesInput-refl : (asking : Asking Question) (shelf : ShelfMoment) → LeavesInput asking shelf shelf
+LeavesInput-refl (come_to result) shelf = KeepsInput-refl shelf
+LeavesInput-refl (reading name limit more) shelf = tt
 
 -- want of memory while the words are read
 words_lack : (task : Result Task WordsError) (shelf : ShelfMoment) (out err_before err_after : SinkMoment) (status : Status) → shelf.faults < 2 ^ 64
@@ -143,6 +145,10 @@ stopped task (faults.NotPlain t y x) before after out err_before err_after statu
     stopped_refused task (faults.NotPlain t y x) before after out err_before err_after status tt leaves kept counts stops said
 stopped task (faults.Rle error) before after out err_before err_after status leaves kept counts inputs stops said =
     stopped_refused task (faults.Rle error) before after out err_before err_after status tt leaves kept counts stops said
+stopped task (faults.List error) before after out err_before err_after status leaves kept counts inputs stops said =
+    stopped_refused task (faults.List error) before after out err_before err_after status tt leaves kept counts stops said
+stopped task (faults.Pictures error) before after out err_before err_after status leaves kept counts inputs stops said =
+    stopped_refused task (faults.Pictures error) before after out err_before err_after status tt leaves kept counts stops said
 stopped task (faults.TooLong limit) before after out err_before err_after status leaves kept counts inputs stops said =
     stopped_refused task (faults.TooLong limit) before after out err_before err_after status tt leaves kept counts stops said
 
@@ -166,10 +172,9 @@ words_ended (words.RulesCross nine) task shelf out err_before err_after status f
 words_ended (words.LooseBackground nine) task shelf out err_before err_after status fits read said = rw (read (λ is. cc)) (words_refused (words.LooseBackground nine) shelf out err_before err_after status fits said)
 
 -- the shelf's input is left alone twice
-leaves_both : (asking : Asking) (before mid after : ShelfMoment) → LeavesInput asking before mid → LeavesInput asking mid after → LeavesInput asking before after
-leaves_both (of_none question) before mid after first second = KeepsInput-trans first second
-leaves_both (of_one name limit make) before mid after first second = tt
-leaves_both (of_two one one_limit two two_limit make) before mid after first second = tt
+leaves_both : (asking : Asking Question) (before mid after : ShelfMoment) → LeavesInput asking before mid → LeavesInput asking mid after → LeavesInput asking before after
+leaves_both (come_to result) before mid after first second = KeepsInput-trans first second
+leaves_both (reading name limit more) before mid after first second = tt
 
 WroteFile-after : (file : Option AnswerFile) (before mid after : ShelfMoment) → KeepsFiles before mid → mid.faults ≡ before.faults → WroteFile file mid after → WroteFile file before after
 WroteFile-after None before mid after kept same wrote = record {
@@ -306,10 +311,15 @@ behind_file file question before mid after out_before out_after err_before err_a
 behind_file file question before mid after out_before out_after err_before err_after status wrote (input_failed fault, ended) = absurd ended
 behind_file file question before mid after out_before out_after err_before err_after status wrote (ahead_failed fault, ended) = absurd ended
 
-leaves_input : (asking : Asking) (before after : ShelfMoment) → ReadsInputs asking → LeavesInput asking before after
-leaves_input (of_none question) before after inputs = absurd inputs
-leaves_input (of_one name limit make) before after inputs = tt
-leaves_input (of_two one one_limit two two_limit make) before after inputs = tt
+-- what a check or a search is about is read
+pub reads_subject : (source : Source) (next : Subject → Asking Question) → ReadsInputs (and_ask (subject_asked source) next)
+reads_subject (sources.Problem source form) next = tt
+reads_subject (sources.Rules source high form) next = tt
+reads_subject (sources.Formula name) next = tt
+
+pub leaves_input : (asking : Asking Question) (before after : ShelfMoment) → ReadsInputs asking → LeavesInput asking before after
+leaves_input (come_to result) before after inputs = absurd inputs
+leaves_input (reading name limit more) before after inputs = tt
 
 -- the inputs of a task came to an answer, and it was given
 pub read_answered : (task : Task) (answer : Answer) (before mid after : ShelfMoment) (out_before out_after err_before err_after : SinkMoment) (status : Status) → HasInputs task

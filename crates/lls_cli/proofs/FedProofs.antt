@@ -14,21 +14,19 @@ use Rattle.lls_lrat.specs.Feeding.{Feeding, FeedState, begun, fed, piece_answer}
 use Rattle.lls_lrat.proofs.Feedings.{fed_fed}
 use Rattle.lls_answers.specs.Answer.{IsAnswer}
 use Rattle.lls_answers.specs.declared.answer.Answer.{Answer}
-use Rattle.lls_base.specs.Faults.{Counts}
-use Rattle.lls_base.specs.Results.{and_then}
 use Rattle.lls_answers.specs.Questions.{Question}
 use Rattle.lls_answers.specs.Questions as questions
 use Rattle.lls_answers.specs.Subject.{Subject}
 use Rattle.lls_cli.specs.declared.task.Source.{Source}
 use Rattle.lls_cli.specs.declared.task.Task.TheVariants as tasks
-use Rattle.lls_outside.specs.Kept.{KeepsFiles}
 use Rattle.lls_cli.specs.declared.fault.Fault.{Fault}
 use Rattle.lls_cli.specs.declared.fault.Fault.TheVariants as faults
 use Rattle.lls_cli.specs.Fed.{FedRest, IsFed, ProofComesTo}
 use Rattle.lls_answers.specs.Checks.{fed_with}
 use Rattle.lls_outside.specs.Moment.{ShelfMoment, files_at}
-use Rattle.lls_cli.specs.Question.{IsInput, MadeOfOne, input_from, proof_limit, source_file, source_limit, subject_from}
+use Rattle.lls_cli.specs.Question.{Asking, AsksBy, IsInput, input_from, made_of, proof_limit, subject_asked}
 use Rattle.lls_cli.specs.Steps.{ComesTo, Reads}
+use Rattle.lls_cli.proofs.Asked.{AsksBy-then, Reads-behind}
 use Rattle.lls_cli.proofs.Stopped.{Stops-along, Stops-from}
 
 -- one more piece has come
@@ -106,10 +104,6 @@ not_fed before opened after name formula feed fault told there output faults rea
       (Stops-along fault _ _ opened after (λ long. too_long before.told name feed fault there (rw told at long)) read.err);
 }
 
-KeepsFiles-both : (before mid after : ShelfMoment) → KeepsFiles before mid → KeepsFiles mid after → KeepsFiles before after
-KeepsFiles-both before mid after first second =
-    record { files = second.files ∙ first.files; target = second.target ∙ first.target; has_output = second.has_output ∙ first.has_output }
-
 -- an answer to what some bytes ask that is one to what they ask otherwise
 pub comes_along : (asks others : List ℕ → Question) (files : Option Files) (name : List ℕ) → ((bytes : List ℕ) (answer : Answer) → IsAnswer (asks bytes) answer → IsAnswer (others bytes) answer)
     → (read : Result Answer Fault) → ProofComesTo asks files name read → ProofComesTo others files name read
@@ -118,42 +112,16 @@ comes_along asks others files name along (Err fault) comes = comes
 
 -- what a check is about was read, and then its proof
 pub check_comes : (source : Source) (proof : List ℕ) (subject : Subject) (result : Result Answer Fault) (before mid after : ShelfMoment)
-    → Reads (MadeOfOne (files_at before) (source_file source) (source_limit source) (subject_from source)) (Ok subject) before mid
+    → Reads (AsksBy (files_at before) (subject_asked source)) (Ok subject) before mid
     → Reads (ProofComesTo (questions.Check subject) (files_at mid) proof) result mid after → Reads (ComesTo (tasks.Check source proof) (files_at before)) result before after
-check_comes source proof subject (Ok answer) before mid after first second =
-    let made = first.ok.0 in
-    let (bytes, input, right) = second.ok.0 in
-    record {
-      kept = KeepsFiles-both before mid after first.kept second.kept;
-      counts = subst (λ n. Counts n after.faults) first.ok.1 second.counts;
-      ok = (
-        (
-          questions.Check subject bytes,
-          record {
-            first = made.input;
-            second = Ok bytes;
-            first_is = made.input_is;
-            second_is = subst (λ files. IsInput files proof proof_limit (Ok bytes)) first.kept.files input;
-            made = ap (λ part. and_then part (λ s. Ok (questions.Check s bytes))) made.made;
-          },
-          refl,
-          right,
-        ),
-        second.ok.1 ∙ first.ok.1,
-      );
-      err = tt;
-    }
-check_comes source proof subject (Err fault) before mid after first second =
-    let made = first.ok.0 in
-    record {
-      kept = KeepsFiles-both before mid after first.kept second.kept;
-      counts = subst (λ n. Counts n after.faults) first.ok.1 second.counts;
-      ok = tt;
-      err = Stops-from fault _ before mid after first.ok.1 (Stops-along fault _ _ mid after (λ input. record {
-        first = made.input;
-        second = Err fault;
-        first_is = made.input_is;
-        second_is = subst (λ files. IsInput files proof proof_limit (Err fault)) first.kept.files input;
-        made = ap (λ part. and_then part (λ s. and_then (Err fault) (λ bytes. Ok (questions.Check s bytes)))) made.made;
-      }) second.err);
-    }
+check_comes source proof subject result before mid after first second =
+    Reads-behind (AsksBy (files_at before) (subject_asked source)) (ProofComesTo (questions.Check subject) (files_at mid) proof) (ComesTo (tasks.Check source proof) (files_at before)) subject result before mid after
+    (λ r one two. comes r one (subst (λ files. ProofComesTo (questions.Check subject) files proof r) first.kept.files two)) first second
+  where
+    next : Subject → Asking Question
+    next s = made_of proof proof_limit (λ bytes. Ok (questions.Check s bytes))
+
+    comes : (r : Result Answer Fault) → AsksBy (files_at before) (subject_asked source) (Ok subject) → ProofComesTo (questions.Check subject) (files_at before) proof r → ComesTo (tasks.Check source proof) (files_at before) r
+    comes (Ok answer) one (bytes, input, right) =
+        (questions.Check subject bytes, AsksBy-then (files_at before) (subject_asked source) next subject (Ok (questions.Check subject bytes)) one (Ok bytes, input, refl), refl, right)
+    comes (Err fault) one input = AsksBy-then (files_at before) (subject_asked source) next subject (Err fault) one (Err fault, input, refl)

@@ -14,6 +14,7 @@ pub mod Stands
 pub mod Complete
 pub mod Deliveries
 pub mod Apart
+pub mod Asked
 pub mod Published
 pub mod Limits
 pub mod Why

@@ -5,9 +5,9 @@ use Rattle.lls_gen.specs.Made as made
 use Rattle.lls_open.specs.declared.transition.TheConstants.{MOST_OPEN_CELLS}
 use Rattle.lls_solver.specs.declared.solving.TheConstants as solving
 use Rattle.lls_words.specs.Values.{most_budget, most_size}
-use Rattle.lls_cli.specs.declared.input.TheConstants.{SEARCH_LIMIT, PROOF_LIMIT}
+use Rattle.lls_cli.specs.declared.input.TheConstants.{SEARCH_LIMIT, PROOF_LIMIT, LIST_LIMIT}
 use Rattle.lls_cli.specs.Limits.{AreLimits}
-use Rattle.lls_cli.specs.Question.{search_limit, proof_limit, formula_limit}
+use Rattle.lls_cli.specs.Question.{search_limit, proof_limit, formula_limit, list_limit}
 use Rattle.lls_answers.specs.Subject.{most_open_cells}
 
 pub search_limit-is : SEARCH_LIMIT ≡ search_limit
@@ -18,6 +18,9 @@ proof_limit-is = refl
 
 pub formula_limit-is : MOST_DIMACS_BYTES ≡ formula_limit
 formula_limit-is = refl
+
+pub list_limit-is : LIST_LIMIT ≡ list_limit
+list_limit-is = refl
 
 pub most_open_cells-is : MOST_OPEN_CELLS ≡ most_open_cells
 most_open_cells-is = refl
@@ -50,5 +53,7 @@ limits = record {
   search_file = refl;
   proof = refl;
   formula = refl;
+  list = refl;
+  patterns = refl;
   rle_header = λ line. refl;
 }

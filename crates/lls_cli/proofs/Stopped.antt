@@ -1,13 +1,9 @@
 -- Readings that stop at an input.
-use Rattle.std.proofs.Common.{ℕ, List, [], Option, None, Some, Result, Ok, Err, ◌≡◌, ◌∙◌, refl, ap, arith}
-use Rattle.lls_base.specs.Results.{and_then}
-use Rattle.lls_base.specs.Shelf.{Files}
-use Rattle.lls_answers.specs.Questions.{Question}
+use Rattle.std.proofs.Common.{Result, Ok, Err, ◌≡◌, ◌≢◌, ◌∙◌}
 use Rattle.lls_cli.specs.declared.fault.Fault.{Fault}
 use Rattle.lls_cli.specs.declared.fault.Fault.TheVariants as faults
 use Rattle.lls_cli.specs.declared.fault.OutsideFault.TheVariants as outside
 use Rattle.lls_outside.specs.Moment.{ShelfMoment}
-use Rattle.lls_cli.specs.Question.{IsInput, MadeOfOne, MadeOf, input_of}
 use Rattle.lls_cli.specs.Steps.{Reads, Stops}
 
 pub Stops-along : (fault : Fault) (One Two : Fault → Type 0) (before after : ShelfMoment) → (One fault → Two fault) → Stops fault One before after → Stops fault Two before after
@@ -24,6 +20,8 @@ Stops-along (faults.Demands error) One Two before after along stops = (along sto
 Stops-along (faults.Dimacs error) One Two before after along stops = (along stops.0, stops.1)
 Stops-along (faults.NotPlain t y x) One Two before after along stops = (along stops.0, stops.1)
 Stops-along (faults.Rle error) One Two before after along stops = (along stops.0, stops.1)
+Stops-along (faults.List error) One Two before after along stops = (along stops.0, stops.1)
+Stops-along (faults.Pictures error) One Two before after along stops = (along stops.0, stops.1)
 Stops-along (faults.TooLong limit) One Two before after along stops = (along stops.0, stops.1)
 
 -- what one reading says another says too
@@ -47,57 +45,42 @@ Stops-from (faults.Demands error) Says before opened after same stops = (stops.0
 Stops-from (faults.Dimacs error) Says before opened after same stops = (stops.0, stops.1 ∙ same)
 Stops-from (faults.NotPlain t y x) Says before opened after same stops = (stops.0, stops.1 ∙ same)
 Stops-from (faults.Rle error) Says before opened after same stops = (stops.0, stops.1 ∙ same)
+Stops-from (faults.List error) Says before opened after same stops = (stops.0, stops.1 ∙ same)
+Stops-from (faults.Pictures error) Says before opened after same stops = (stops.0, stops.1 ∙ same)
 Stops-from (faults.TooLong limit) Says before opened after same stops = (stops.0, stops.1 ∙ same)
 
--- an input that isn't read has some bytes or some refusal
-some_input : (files : Option Files) (name : List ℕ) (limit : ℕ) → (read : Result (List ℕ) Fault) × IsInput files name limit read
-some_input None name limit = (Ok [], omega arith)
-some_input (Some files) name limit = (input_of files name limit, refl)
+-- a fault that the bytes of an input decide
+abbrev pub IsContent : Fault → Type 0
+IsContent faults.Memory = ⊥
+IsContent (faults.Outside fault) = ⊥
+IsContent (faults.Words error) = ⊥
+IsContent fault = Unit {0}
 
--- a refusal of the first of two inputs is that of both
-first_refused : {Y : Type 0} (files : Option Files) (one two : List ℕ) (one_limit two_limit : ℕ)
-    (make : Result (List ℕ) Fault → Result Y Fault) (more : Result (List ℕ) Fault → Y → Result Question Fault) (fault : Fault)
-    → MadeOfOne files one one_limit make (Err fault) → MadeOf files one one_limit two two_limit (λ first second. and_then (make first) (more second)) (Err fault)
-first_refused files one two one_limit two_limit make more fault refused =
-    let other = some_input files two two_limit in
-    record {
-      first = refused.input;
-      second = other.0;
-      first_is = refused.input_is;
-      second_is = other.1;
-      made = ap (λ part. and_then part (more other.0)) refused.made;
-    }
+-- a reading that stops for such a fault, where no call failed since
+pub Stops-content : (fault : Fault) (Says : Fault → Type 0) (before after : ShelfMoment) → after.faults ≡ before.faults → IsContent fault → Says fault → Stops fault Says before after
+Stops-content faults.Memory Says before after same content said = absurd content
+Stops-content (faults.Outside error) Says before after same content said = absurd content
+Stops-content (faults.Words error) Says before after same content said = absurd content
+Stops-content (faults.Posed error) Says before after same content said = (said, same)
+Stops-content (faults.Demands error) Says before after same content said = (said, same)
+Stops-content (faults.Dimacs error) Says before after same content said = (said, same)
+Stops-content (faults.NotPlain t y x) Says before after same content said = (said, same)
+Stops-content (faults.Rle error) Says before after same content said = (said, same)
+Stops-content (faults.List error) Says before after same content said = (said, same)
+Stops-content (faults.Pictures error) Says before after same content said = (said, same)
+Stops-content (faults.TooLong limit) Says before after same content said = (said, same)
 
--- what the only input makes asks the question
-pub only_made : {Y : Type 0} (files : Option Files) (one : List ℕ) (limit : ℕ) (make : Result (List ℕ) Fault → Result Y Fault) (more : Y → Result Question Fault) (part : Y)
-    → MadeOfOne files one limit make (Ok part) → MadeOfOne files one limit (λ input. and_then (make input) more) (more part)
-only_made files one limit make more part made = record { input = made.input; input_is = made.input_is; made = ap (λ read. and_then read more) made.made }
-
--- and a refusal of the only input is the question's
-only_refused : {Y : Type 0} (files : Option Files) (one : List ℕ) (limit : ℕ) (make : Result (List ℕ) Fault → Result Y Fault) (more : Y → Result Question Fault) (fault : Fault)
-    → MadeOfOne files one limit make (Err fault) → MadeOfOne files one limit (λ input. and_then (make input) more) (Err fault)
-only_refused files one limit make more fault refused =
-    record { input = refused.input; input_is = refused.input_is; made = ap (λ part. and_then part more) refused.made }
-
--- a reading that stops at the first of two inputs
-pub first_stopped : {Y : Type 0} (files : Option Files) (one two : List ℕ) (one_limit two_limit : ℕ)
-    (make : Result (List ℕ) Fault → Result Y Fault) (more : Result (List ℕ) Fault → Y → Result Question Fault) (fault : Fault) (before after : ShelfMoment)
-    → Reads (MadeOfOne files one one_limit make) (Err fault) before after
-    → Reads (MadeOf files one one_limit two two_limit (λ first second. and_then (make first) (more second))) (Err fault) before after
-first_stopped files one two one_limit two_limit make more fault before after read = record {
-  kept = read.kept;
-  counts = read.counts;
-  ok = tt;
-  err = Stops-along fault _ _ before after (first_refused files one two one_limit two_limit make more fault) read.err;
-}
-
--- and at the only one
-pub only_stopped : {Y : Type 0} (files : Option Files) (one : List ℕ) (limit : ℕ) (make : Result (List ℕ) Fault → Result Y Fault) (more : Y → Result Question Fault)
-    (fault : Fault) (before after : ShelfMoment) → Reads (MadeOfOne files one limit make) (Err fault) before after
-    → Reads (MadeOfOne files one limit (λ input. and_then (make input) more)) (Err fault) before after
-only_stopped files one limit make more fault before after read = record {
-  kept = read.kept;
-  counts = read.counts;
-  ok = tt;
-  err = Stops-along fault _ _ before after (only_refused files one limit make more fault) read.err;
-}
+-- what a call gave that may lack memory, where a fault of what is defined is such a one
+pub Stops-given : {X : Type 0} (fault : Fault) (Says : Fault → Type 0) (defined : Result X Fault) (before after : ShelfMoment) → after.faults ≡ before.faults
+    → (fault ≢ faults.Memory → defined ≡ Err fault) → ((f : Fault) → defined ≡ Err f → IsContent f × Says f) → Stops fault Says before after
+Stops-given faults.Memory Says defined before after same gives said = same
+Stops-given (faults.Outside error) Says defined before after same gives said = absurd (said (faults.Outside error) (gives (λ is. cc))).0
+Stops-given (faults.Words error) Says defined before after same gives said = absurd (said (faults.Words error) (gives (λ is. cc))).0
+Stops-given (faults.Posed error) Says defined before after same gives said = ((said (faults.Posed error) (gives (λ is. cc))).1, same)
+Stops-given (faults.Demands error) Says defined before after same gives said = ((said (faults.Demands error) (gives (λ is. cc))).1, same)
+Stops-given (faults.Dimacs error) Says defined before after same gives said = ((said (faults.Dimacs error) (gives (λ is. cc))).1, same)
+Stops-given (faults.NotPlain t y x) Says defined before after same gives said = ((said (faults.NotPlain t y x) (gives (λ is. cc))).1, same)
+Stops-given (faults.Rle error) Says defined before after same gives said = ((said (faults.Rle error) (gives (λ is. cc))).1, same)
+Stops-given (faults.List error) Says defined before after same gives said = ((said (faults.List error) (gives (λ is. cc))).1, same)
+Stops-given (faults.Pictures error) Says defined before after same gives said = ((said (faults.Pictures error) (gives (λ is. cc))).1, same)
+Stops-given (faults.TooLong limit) Says defined before after same gives said = ((said (faults.TooLong limit) (gives (λ is. cc))).1, same)

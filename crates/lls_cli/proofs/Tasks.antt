@@ -11,12 +11,17 @@ use Rattle.lls_cli.specs.declared.task.Task.TheVariants as tasks
 use Rattle.lls_answers.specs.Subject.{Subject, asked_with}
 use Rattle.lls_answers.specs.Questions.{Question}
 use Rattle.lls_answers.specs.Questions as questions
-use Rattle.lls_cli.specs.Question.{problem_in, roomy_problem_in, formula_in, pattern_in, subject_from, Asks}
+use Rattle.lls_cli.specs.declared.fault.Fault.{Fault}
+use Rattle.lls_cli.specs.Question.{come_to, and_ask, made_of, formula_in, formula_limit, pattern_in, problem_asked, proof_limit, search_limit, subject_asked, with_room, Asks}
+use Rattle.lls_cli.proofs.Asked.{AsksBy-parts}
 
--- a result of two parts is Ok by both
-pub and_then-both : {A B E : Type 0} (part : Result A E) (more : A → Result B E) (value : B) → Ok value ≡ and_then part more → (x : A) × (Ok value ≡ more x)
-and_then-both (Ok x) more value is = (x, is)
-and_then-both (Err fault) more value is = absurd cc
+same_question : {one two : Question} → ◌≡◌ {A = Result Question Fault} (Ok one) (Ok two) → one ≡ two
+same_question is = cc
+
+-- a question that bytes make which were read
+some_bytes : (input : Result (List ℕ) Fault) (make : List ℕ → Question) (question : Question) → Ok question ≡ and_then input (λ bytes. Ok (make bytes)) → (bytes : List ℕ) × (question ≡ make bytes)
+some_bytes (Ok bytes) make question is = (bytes, same_question is)
+some_bytes (Err fault) make question is = absurd cc
 
 -- the questions of a task
 abbrev pub IsOf : Task → Question → Type 0
@@ -31,31 +36,25 @@ IsOf (tasks.Trim formula proof output) question = (cnf : Cnf) × (bytes : List �
 
 pub is_of : (task : Task) (files : Option Files) (question : Question) → Asks task files (Ok question) → IsOf task question
 is_of (tasks.Check source proof) files question asked =
-    let first = and_then-both (subject_from source asked.first) (λ subject. and_then asked.second (λ bytes. Ok (questions.Check subject bytes))) question asked.made in
-    let second = and_then-both asked.second (λ bytes. Ok (questions.Check first.0 bytes)) question first.1 in
-    let is : question ≡ questions.Check first.0 second.0 = cc in
-    (first.0, second.0, is)
+    let parts = AsksBy-parts files (subject_asked source) (λ subject. made_of proof proof_limit (λ bytes. Ok (questions.Check subject bytes))) question asked in
+    let bytes = some_bytes parts.2.0 (λ bytes. questions.Check parts.0 bytes) question parts.2.2 in
+    (parts.0, bytes.0, bytes.1)
 is_of (tasks.Search source effort further) files question asked =
-    let first = and_then-both (subject_from source asked.input) (λ subject. Ok (questions.Search subject effort further.rle)) question asked.made in
-    let is : question ≡ questions.Search first.0 effort further.rle = cc in
-    (first.0, is)
+    let parts = AsksBy-parts files (subject_asked source) (λ subject. come_to (Ok (questions.Search subject effort further.rle))) question asked in
+    (parts.0, same_question parts.2)
 is_of (tasks.Judge source pattern rle) files question asked =
-    let first = and_then-both (and_then asked.first (problem_in source.rule source.demands)) (λ problem. and_then (and_then asked.second (pattern_in rle problem)) (λ history. Ok (questions.Judge problem history))) question asked.made in
-    let second = and_then-both (and_then asked.second (pattern_in rle first.0)) (λ history. Ok (questions.Judge first.0 history)) question first.1 in
-    let is : question ≡ questions.Judge first.0 second.0 = cc in
-    (first.0, second.0, is)
+    let parts = AsksBy-parts files (problem_asked Ok source) (λ problem. and_ask (made_of pattern search_limit (pattern_in rle problem)) (λ history. come_to (Ok (questions.Judge problem history)))) question asked in
+    let rest = AsksBy-parts files (made_of pattern search_limit (pattern_in rle parts.0)) (λ history. come_to (Ok (questions.Judge parts.0 history))) question parts.2 in
+    (parts.0, rest.0, same_question rest.2)
 is_of (tasks.Encode source) files question asked =
-    let first = and_then-both (subject_from source asked.input) (λ subject. Ok (questions.Encode subject)) question asked.made in
-    let is : question ≡ questions.Encode first.0 = cc in
-    (first.0, is)
-is_of (tasks.Print rule) files question asked = cc
-is_of (tasks.Make seed size file effort) files question asked = cc
+    let parts = AsksBy-parts files (subject_asked source) (λ subject. come_to (Ok (questions.Encode subject))) question asked in
+    (parts.0, same_question parts.2)
+is_of (tasks.Print rule) files question asked = same_question asked
+is_of (tasks.Make seed size file effort) files question asked = same_question asked
 is_of (tasks.Extremal extreme source form effort further) files question asked =
-    let first = and_then-both (and_then asked.input (roomy_problem_in source.rule source.demands)) (λ problem. Ok (questions.Extremal extreme (asked_with form problem) effort further.rle)) question asked.made in
-    let is : question ≡ questions.Extremal extreme (asked_with form first.0) effort further.rle = cc in
-    (asked_with form first.0, is)
+    let parts = AsksBy-parts files (problem_asked with_room source) (λ problem. come_to (Ok (questions.Extremal extreme (asked_with form problem) effort further.rle))) question asked in
+    (asked_with form parts.0, same_question parts.2)
 is_of (tasks.Trim formula proof output) files question asked =
-    let first = and_then-both (and_then asked.first formula_in) (λ cnf. and_then asked.second (λ bytes. Ok (questions.Trim cnf bytes output))) question asked.made in
-    let second = and_then-both asked.second (λ bytes. Ok (questions.Trim first.0 bytes output)) question first.1 in
-    let is : question ≡ questions.Trim first.0 second.0 output = cc in
-    (first.0, second.0, is)
+    let parts = AsksBy-parts files (made_of formula formula_limit formula_in) (λ cnf. made_of proof proof_limit (λ bytes. Ok (questions.Trim cnf bytes output))) question asked in
+    let bytes = some_bytes parts.2.0 (λ bytes. questions.Trim parts.0 bytes output) question parts.2.2 in
+    (parts.0, bytes.0, bytes.1)

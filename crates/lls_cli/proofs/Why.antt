@@ -25,6 +25,8 @@ input_status (faults.Demands error) after is = absurd is
 input_status (faults.Dimacs error) after is = absurd is
 input_status (faults.NotPlain t y x) after is = absurd is
 input_status (faults.Rle error) after is = absurd is
+input_status (faults.List error) after is = absurd is
+input_status (faults.Pictures error) after is = absurd is
 input_status (faults.TooLong limit) after is = absurd is
 input_status faults.Memory after is = absurd is
 
@@ -37,6 +39,8 @@ part_status (faults.Demands error) file before after part = absurd part
 part_status (faults.Dimacs error) file before after part = absurd part
 part_status (faults.NotPlain t y x) file before after part = absurd part
 part_status (faults.Rle error) file before after part = absurd part
+part_status (faults.List error) file before after part = absurd part
+part_status (faults.Pictures error) file before after part = absurd part
 part_status (faults.TooLong limit) file before after part = absurd part
 part_status faults.Memory file before after part = absurd part
 

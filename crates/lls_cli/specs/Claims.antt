@@ -10,7 +10,7 @@ use Rattle.lls_problem.specs.declared.bounds.Bound.{Bound}
 use Rattle.lls_problem.specs.declared.demands.Demands.{Demands}
 use Rattle.lls_grid.specs.History.{History}
 use Rattle.lls_least.specs.Extremal.{beyond_it}
-use Rattle.lls_cli.specs.declared.task.ProblemSource.{ProblemSource}
+use Rattle.lls_words.specs.declared.problem_source.ProblemSource.{ProblemSource}
 use Rattle.lls_cli.specs.declared.task.Source.TheVariants as sources
 use Rattle.lls_cli.specs.declared.task.Task.{Task}
 use Rattle.lls_cli.specs.declared.task.Task.TheVariants as tasks

@@ -16,7 +16,7 @@ use Rattle.lls_cli.specs.declared.fault.OutsideFault.TheVariants as outside
 use Rattle.lls_answers.specs.declared.status.Status.{Status}
 use Rattle.lls_answers.specs.declared.status.Status.TheVariants as statuses
 use Rattle.lls_cli.specs.Fault.{fault_line, status_of}
-use Rattle.lls_cli.specs.Question.{Asking, of_none, asking_of, Asks}
+use Rattle.lls_cli.specs.Question.{Asking, come_to, reading, asking_of, Asks}
 use Rattle.lls_answers.specs.Answer.{IsAnswer, ahead_of}
 use Rattle.lls_outside.specs.Moment.{ShelfMoment, Moment, with_shelf, files_at}
 use Rattle.lls_outside.specs.Grown.{GrewBy}
@@ -134,17 +134,17 @@ abbrev pub Ends : Question → Moment → Moment → Status → End → Type 0
 Ends question before after status end = IsEndBehind (ahead_of question) question before after status end
 
 -- a task that reads files
-abbrev pub ReadsInputs : Asking → Type 0
-ReadsInputs (of_none question) = ⊥
-ReadsInputs asking = Unit {0}
+abbrev pub ReadsInputs : Asking Question → Type 0
+ReadsInputs (come_to result) = ⊥
+ReadsInputs (reading name limit more) = Unit {0}
 
 abbrev pub HasInputs : Task → Type 0
 HasInputs task = ReadsInputs (asking_of task)
 
 -- a task that reads none leaves the shelf's input alone
-abbrev pub LeavesInput : Asking → ShelfMoment → ShelfMoment → Type 0
-LeavesInput (of_none question) before after = KeepsInput before after
-LeavesInput asking before after = Unit {0}
+abbrev pub LeavesInput : Asking Question → ShelfMoment → ShelfMoment → Type 0
+LeavesInput (come_to result) before after = KeepsInput before after
+LeavesInput (reading name limit more) before after = Unit {0}
 
 -- how a task ends
 abbrev pub IsEndOfTask : Task → Moment → Moment → Status → End → Type 0

@@ -6,13 +6,14 @@ use Rattle.lls_cnf.specs.declared.read.TheConstants.{MOST_DIMACS_BYTES}
 use Rattle.lls_prooflog.specs.declared.step.TheConstants.Step.{MOST_ID}
 use Rattle.lls_solver.specs.declared.solving.TheConstants.{MOST_BUDGET}
 use Rattle.lls_grid.specs.declared.history.TheConstants.History.{MOST_GENERATIONS, MOST_HEIGHT, MOST_WIDTH, MOST_CELLS}
+use Rattle.lls_grid.specs.declared.patterns.TheConstants.Patterns as patterns
 use Rattle.lls_search_file.specs.declared.posed.TheConstants.Names as names
 use Rattle.lls_symmetry.specs.declared.moved.TheConstants.{MOST_SHIFT, MOST_PERIOD}
 use Rattle.lls_problem.specs.declared.bounds.TheConstants.Bound as bounds
 use Rattle.lls_problem.specs.declared.bounds.TheConstants.Bounds.{MOST_COUNTERS}
 use Rattle.lls_cnf.specs.Number.{natural_number}
 use Rattle.lls_rle.specs.Header.{behind_blanks, behind_sign, digits, has_tail, is_header}
-use Rattle.lls_cli.specs.declared.input.TheConstants.{SEARCH_LIMIT, PROOF_LIMIT}
+use Rattle.lls_cli.specs.declared.input.TheConstants.{SEARCH_LIMIT, PROOF_LIMIT, LIST_LIMIT}
 
 -- what stands behind a number of 1 to 6 digits
 abbrev pub behind_number : List ℕ → Option (List ℕ)
@@ -50,4 +51,6 @@ pub record AreLimits : Type 0 where
   pub search_file : SEARCH_LIMIT ≡ 1048576
   pub proof : PROOF_LIMIT ≡ 1073741824
   pub formula : MOST_DIMACS_BYTES ≡ 536870912
+  pub list : LIST_LIMIT ≡ 16777216
+  pub patterns : patterns.MOST ≡ 1000000
   pub rle_header : (line : List ℕ) → is_header line ≡ has_tail (behind_header line)

@@ -1,5 +1,6 @@
 -- What a task asks, once its inputs are read, and the first refusal where they ask nothing. This file alone knows the
--- order of refusals: the first input, its length, its grammar and its demands; then the second, its length and its grammar.
+-- order of refusals: the first input, its length, its grammar and its demands; then the list of a problem, its length and its grammar; then the
+-- last input, its length and its grammar.
 use Rattle.std.specs.Prelude.{◌≡◌, ◌≤◌, ℕ, nat_lt, Bool, true, false, List, length, Option, None, Some, Result, Ok, Err, if◌then◌else◌}
 use Rattle.std.specs.FinMap as map
 use Rattle.lls_base.specs.Results.{and_then}
@@ -11,6 +12,8 @@ use Rattle.lls_grid.specs.History.{History}
 use Rattle.lls_grid.specs.Evolution.{evolution}
 use Rattle.lls_rle.specs.declared.rle_fault.RleFault.{RleFault}
 use Rattle.lls_rle.specs.Reading.{rle_of}
+use Rattle.lls_rle.specs.declared.pictures_fault.PicturesFault.{PicturesFault}
+use Rattle.lls_rle.specs.Pictures.{pictures_of}
 use Rattle.lls_search_file.specs.declared.posed_fault.PosedFault.{PosedFault}
 use Rattle.lls_search_file.specs.declared.posed_fault.PosedFault.TheVariants.{TooManyCells}
 use Rattle.lls_search_file.specs.declared.history_fault.HistoryFault.{HistoryFault}
@@ -22,10 +25,14 @@ use Rattle.lls_problem.specs.declared.demands.Demands.{Demands}
 use Rattle.lls_problem.specs.declared.demands.DemandError.{DemandError}
 use Rattle.lls_problem.specs.declared.demands.DemandError.TheVariants.{Counters}
 use Rattle.lls_problem.specs.Bounds.{most_counters}
-use Rattle.lls_problem.specs.Problem.{PosedProblem, problem_made}
+use Rattle.lls_problem.specs.Problem.{Pattern, PosedProblem, but, problem_made}
 use Rattle.lls_least.specs.Bounded.{counters_with_one_more}
 use Rattle.lls_answers.specs.Subject.{Subject, asked_with, opened_with, most_open_cells}
 use Rattle.lls_answers.specs.Subject as subjects
+use Rattle.lls_search_file.specs.declared.list_fault.ListFault.{ListFault}
+use Rattle.lls_search_file.specs.Listing.{list_of}
+use Rattle.lls_words.specs.declared.problem_source.ListSource.{ListSource}
+use Rattle.lls_words.specs.declared.problem_source.ProblemSource.{ProblemSource}
 use Rattle.lls_cli.specs.declared.task.Source.{Source}
 use Rattle.lls_cli.specs.declared.task.Source.TheVariants as sources
 use Rattle.lls_cli.specs.declared.task.Task.{Task}
@@ -36,7 +43,7 @@ use Rattle.lls_cli.specs.declared.fault.Fault.{Fault}
 use Rattle.lls_cli.specs.declared.fault.Fault.TheVariants as faults
 use Rattle.lls_cli.specs.declared.fault.OutsideFault.TheVariants as outside
 
--- how many bytes an input has at most: a search file or a pattern; a proof; a formula
+-- how many bytes an input has at most: a search file or a pattern; a proof; a formula; a list of patterns
 abbrev pub search_limit : ℕ
 search_limit = 1048576
 
@@ -45,6 +52,9 @@ proof_limit = 1073741824
 
 abbrev pub formula_limit : ℕ
 formula_limit = 536870912
+
+abbrev pub list_limit : ℕ
+list_limit = 16777216
 
 -- the bytes of an input of at most `limit` bytes
 abbrev pub input_from : ℕ → Option (List ℕ) → Result (List ℕ) Fault
@@ -73,16 +83,10 @@ abbrev pub with_room : PosedProblem → Result PosedProblem Fault
 with_room problem =
     if nat_lt most_counters (counters_with_one_more problem) then Err (faults.Demands (Counters (counters_with_one_more problem))) else Ok problem
 
-abbrev pub roomy_problem_in : List Bool → Demands → List ℕ → Result PosedProblem Fault
-roomy_problem_in rule demands bytes = and_then (problem_in rule demands bytes) with_room
-
 -- the problem, where it has no more
 abbrev pub with_few_cells : PosedProblem → Result PosedProblem Fault
 with_few_cells problem =
     if nat_lt most_open_cells (length problem.posed.cells) then Err (faults.Posed (TooManyCells (length problem.posed.cells))) else Ok problem
-
-abbrev pub small_problem_in : List Bool → Demands → List ℕ → Result PosedProblem Fault
-small_problem_in rule demands bytes = and_then (problem_in rule demands bytes) with_few_cells
 
 -- the history of a pattern's bytes
 abbrev pub plain_in : Result History HistoryFault → Result History Fault
@@ -116,56 +120,75 @@ formula_read (Err fault) = Err (faults.Dimacs fault)
 abbrev pub formula_in : List ℕ → Result Cnf Fault
 formula_in bytes = formula_read (dimacs bytes)
 
--- what a check or a search is about, by what was read of its file
-abbrev pub source_file : Source → List ℕ
-source_file (sources.Problem source form) = source.file
-source_file (sources.Rules source high form) = source.file
-source_file (sources.Formula name) = name
+-- the patterns that a list says by rows, or by pictures
+abbrev pub list_read : Result (List Pattern) ListFault → Result (List Pattern) Fault
+list_read (Ok patterns) = Ok patterns
+list_read (Err fault) = Err (faults.List fault)
 
-abbrev pub source_limit : Source → ℕ
-source_limit (sources.Problem source form) = search_limit
-source_limit (sources.Rules source high form) = search_limit
-source_limit (sources.Formula name) = formula_limit
+abbrev pub pictures_read : Result (List Pattern) PicturesFault → Result (List Pattern) Fault
+pictures_read (Ok patterns) = Ok patterns
+pictures_read (Err fault) = Err (faults.Pictures fault)
 
-abbrev pub subject_from : Source → Result (List ℕ) Fault → Result Subject Fault
-subject_from (sources.Problem source form) input =
-    and_then (and_then input (problem_in source.rule source.demands)) (λ problem. Ok (subjects.Problem (asked_with form problem)))
-subject_from (sources.Rules source high form) input =
-    and_then (and_then input (small_problem_in source.rule source.demands)) (λ problem. Ok (subjects.Rules (opened_with high form problem)))
-subject_from (sources.Formula name) input = and_then (and_then input formula_in) (λ formula. Ok (subjects.Formula formula))
+-- the patterns of a list's bytes, each of the problem's rows and columns
+abbrev pub list_in : Bool → PosedProblem → List ℕ → Result (List Pattern) Fault
+list_in true problem bytes = pictures_read (pictures_of problem.posed.height problem.posed.width bytes)
+list_in false problem bytes = list_read (list_of problem.posed.height problem.posed.width bytes)
 
--- what a task asks of its inputs: of none, of one or of two, each by its name and with at most so many bytes, and the question that
--- what was read of them makes
-pub data Asking : Type 0 where
-  of_none : Question → Asking
-  of_one : List ℕ → ℕ → (Result (List ℕ) Fault → Result Question Fault) → Asking
-  of_two : List ℕ → ℕ → List ℕ → ℕ → (Result (List ℕ) Fault → Result (List ℕ) Fault → Result Question Fault) → Asking
+-- what is asked of inputs that are read one after another: what they came to; or one more input, by its name and with at most so many bytes, and
+-- what is asked then by what was read of it
+pub data Asking (X : Type 0) : Type 0 where
+  come_to : Result X Fault → Asking X
+  reading : List ℕ → ℕ → (Result (List ℕ) Fault → Asking X) → Asking X
 
-abbrev pub asking_of : Task → Asking
-asking_of (tasks.Check source proof) = of_two (source_file source) (source_limit source) proof proof_limit
-    (λ first second. and_then (subject_from source first) (λ subject. and_then second (λ bytes. Ok (questions.Check subject bytes))))
-asking_of (tasks.Search source effort further) = of_one (source_file source) (source_limit source)
-    (λ input. and_then (subject_from source input) (λ subject. Ok (questions.Search subject effort further.rle)))
-asking_of (tasks.Judge source pattern rle) = of_two source.file search_limit pattern search_limit
-    (λ first second. and_then (and_then first (problem_in source.rule source.demands)) (λ problem. and_then (and_then second (pattern_in rle problem)) (λ history. Ok (questions.Judge problem history))))
-asking_of (tasks.Encode source) = of_one (source_file source) (source_limit source)
-    (λ input. and_then (subject_from source input) (λ subject. Ok (questions.Encode subject)))
-asking_of (tasks.Print rule) = of_none (questions.Print rule)
-asking_of (tasks.Make seed size file effort) = of_none (questions.Make seed size file effort)
-asking_of (tasks.Extremal extreme source form effort further) = of_one source.file search_limit
-    (λ input. and_then (and_then input (roomy_problem_in source.rule source.demands)) (λ problem. Ok (questions.Extremal extreme (asked_with form problem) effort further.rle)))
-asking_of (tasks.Trim formula proof output) = of_two formula formula_limit proof proof_limit
-    (λ first second. and_then (and_then first formula_in) (λ cnf. and_then second (λ bytes. Ok (questions.Trim cnf bytes output))))
+-- what is asked behind what others came to
+abbrev pub and_ask : {X Y : Type 0} → Asking X → (X → Asking Y) → Asking Y
+and_ask (come_to (Ok x)) next = next x
+and_ask (come_to (Err fault)) next = come_to (Err fault)
+and_ask (reading name limit more) next = reading name limit (λ input. and_ask (more input) next)
 
--- the question, or the first refusal, where each input is read so, by its name and its limit
-abbrev pub question_by : (List ℕ → ℕ → Result (List ℕ) Fault) → Asking → Result Question Fault
-question_by read (of_none question) = Ok question
-question_by read (of_one name limit make) = make (read name limit)
-question_by read (of_two one one_limit two two_limit make) = make (read one one_limit) (read two two_limit)
+-- one input, and what its bytes make
+abbrev pub made_of : {X : Type 0} → List ℕ → ℕ → (List ℕ → Result X Fault) → Asking X
+made_of name limit make = reading name limit (λ input. come_to (and_then input make))
+
+-- the problem, with the patterns of its list where it has one
+abbrev pub listed_by : Option ListSource → PosedProblem → Asking PosedProblem
+listed_by None problem = come_to (Ok problem)
+listed_by (Some list) problem = made_of list.file list_limit (λ bytes. and_then (list_in list.rle problem bytes) (λ patterns. Ok (but problem patterns)))
+
+-- the problem of a search file, where it passes a test; behind that its list is read
+abbrev pub bare_problem : ProblemSource → Asking PosedProblem
+bare_problem source = made_of source.file search_limit (problem_in source.rule source.demands)
+
+abbrev pub problem_asked : (PosedProblem → Result PosedProblem Fault) → ProblemSource → Asking PosedProblem
+problem_asked test source = and_ask (bare_problem source) (λ problem. and_ask (come_to (test problem)) (listed_by source.but))
+
+-- what a check or a search is about
+abbrev pub subject_asked : Source → Asking Subject
+subject_asked (sources.Problem source form) = and_ask (problem_asked Ok source) (λ problem. come_to (Ok (subjects.Problem (asked_with form problem))))
+subject_asked (sources.Rules source high form) = and_ask (problem_asked with_few_cells source) (λ problem. come_to (Ok (subjects.Rules (opened_with high form problem))))
+subject_asked (sources.Formula name) = and_ask (made_of name formula_limit formula_in) (λ formula. come_to (Ok (subjects.Formula formula)))
+
+-- what a task asks
+abbrev pub asking_of : Task → Asking Question
+asking_of (tasks.Check source proof) = and_ask (subject_asked source) (λ subject. made_of proof proof_limit (λ bytes. Ok (questions.Check subject bytes)))
+asking_of (tasks.Search source effort further) = and_ask (subject_asked source) (λ subject. come_to (Ok (questions.Search subject effort further.rle)))
+asking_of (tasks.Judge source pattern rle) =
+    and_ask (problem_asked Ok source) (λ problem. and_ask (made_of pattern search_limit (pattern_in rle problem)) (λ history. come_to (Ok (questions.Judge problem history))))
+asking_of (tasks.Encode source) = and_ask (subject_asked source) (λ subject. come_to (Ok (questions.Encode subject)))
+asking_of (tasks.Print rule) = come_to (Ok (questions.Print rule))
+asking_of (tasks.Make seed size file effort) = come_to (Ok (questions.Make seed size file effort))
+asking_of (tasks.Extremal extreme source form effort further) =
+    and_ask (problem_asked with_room source) (λ problem. come_to (Ok (questions.Extremal extreme (asked_with form problem) effort further.rle)))
+asking_of (tasks.Trim formula proof output) = and_ask (made_of formula formula_limit formula_in) (λ cnf. made_of proof proof_limit (λ bytes. Ok (questions.Trim cnf bytes output)))
+
+-- what inputs come to, where each is read so, by its name and its limit
+abbrev pub came_to : {X : Type 0} → (List ℕ → ℕ → Result (List ℕ) Fault) → Asking X → Result X Fault
+came_to read (come_to result) = result
+came_to read (reading name limit more) = came_to read (more (read name limit))
 
 -- what a task asks of these files, or the first refusal
 abbrev pub question_of : Task → Files → Result Question Fault
-question_of task files = question_by (input_of files) (asking_of task)
+question_of task files = came_to (input_of files) (asking_of task)
 
 -- what an input can be read as, whatever its file says
 abbrev pub CanBeRead : ℕ → Result (List ℕ) Fault → Type 0
@@ -179,25 +202,10 @@ abbrev pub IsInput : Option Files → List ℕ → ℕ → Result (List ℕ) Fau
 IsInput None name limit read = CanBeRead limit read
 IsInput (Some files) name limit read = read ≡ input_of files name limit
 
--- one input, and what it makes
-pub record MadeOfOne {Y : Type 0} (files : Option Files) (name : List ℕ) (limit : ℕ) (make : Result (List ℕ) Fault → Result Y Fault) (value : Result Y Fault) : Type 0 where
-  pub input : Result (List ℕ) Fault
-  pub input_is : IsInput files name limit input
-  pub made : value ≡ make input
-
--- two inputs, and what they ask
-pub record MadeOf (files : Option Files) (one : List ℕ) (one_limit : ℕ) (two : List ℕ) (two_limit : ℕ) (make : Result (List ℕ) Fault → Result (List ℕ) Fault → Result Question Fault) (question : Result Question Fault) : Type 0 where
-  pub first : Result (List ℕ) Fault
-  pub second : Result (List ℕ) Fault
-  pub first_is : IsInput files one one_limit first
-  pub second_is : IsInput files two two_limit second
-  pub made : question ≡ make first second
-
--- what is asked by inputs that are those of the files, where the shelf tells them
-abbrev pub AsksBy : Option Files → Asking → Result Question Fault → Type 0
-AsksBy files (of_none asked) question = question ≡ Ok asked
-AsksBy files (of_one name limit make) question = MadeOfOne files name limit make question
-AsksBy files (of_two one one_limit two two_limit make) question = MadeOf files one one_limit two two_limit make question
+-- what inputs come to that are those of the files, where the shelf tells them
+abbrev pub AsksBy : {X : Type 0} → Option Files → Asking X → Result X Fault → Type 0
+AsksBy files (come_to result) value = value ≡ result
+AsksBy files (reading name limit more) value = (input : Result (List ℕ) Fault) × IsInput files name limit input × AsksBy files (more input) value
 
 abbrev pub Asks : Task → Option Files → Result Question Fault → Type 0
 Asks task files question = AsksBy files (asking_of task) question

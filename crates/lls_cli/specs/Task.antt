@@ -2,7 +2,6 @@
 use Rattle.std.specs.Prelude.{◌≤◌, ℕ, Bool, false, List, Option, None, Result, Ok, Err}
 use Rattle.std.specs.Option.{ForSome, option_map}
 use Rattle.lls_hensel.specs.Isotropy.{IsIsotropic}
-use Rattle.lls_problem.specs.declared.demands.Demands.{Demands}
 use Rattle.lls_words.specs.Job.{AreAllowed, AreOpen, AreWithinLimits}
 use Rattle.lls_words.specs.Values.{default_budget, most_budget, most_size}
 use Rattle.lls_words.specs.declared.crew_plan.CrewPlan as said_crews
@@ -19,14 +18,10 @@ use Rattle.lls_words.specs.declared.job.Job.{Job}
 use Rattle.lls_words.specs.declared.job.Job.TheVariants as jobs
 use Rattle.lls_words.specs.declared.error.WordsError.{WordsError}
 use Rattle.lls_answers.specs.declared.effort.Effort.{Effort}
-use Rattle.lls_cli.specs.declared.task.ProblemSource.{ProblemSource}
 use Rattle.lls_cli.specs.declared.task.Source.{Source}
 use Rattle.lls_cli.specs.declared.task.Source.TheVariants as sources
 use Rattle.lls_cli.specs.declared.task.Task.{Task}
 use Rattle.lls_cli.specs.declared.task.Task.TheVariants as tasks
-
-abbrev pub problem_by : List ℕ → List Bool → Demands → ProblemSource
-problem_by file rule demands = record { file = file; rule = rule; demands = demands }
 
 abbrev pub effort_of : ℕ → Bool → List ℕ → Effort
 effort_of budget keep_all proof = record { budget = budget; keep_all = keep_all; proof = proof }
@@ -45,22 +40,22 @@ further_of rle crew manner = record { rle = rle; crew = option_map crew_said cre
 
 -- the task of a job: a check, a search or another
 abbrev pub task_of : Job → Task
-task_of (jobs.Check file proof rule demands form) = tasks.Check (sources.Problem (problem_by file rule demands) form) proof
-task_of (jobs.LooseCheck file proof low high demands form) = tasks.Check (sources.Rules (problem_by file low demands) high form) proof
+task_of (jobs.Check problem proof form) = tasks.Check (sources.Problem problem form) proof
+task_of (jobs.LooseCheck problem high proof form) = tasks.Check (sources.Rules problem high form) proof
 task_of (jobs.Lrat formula proof) = tasks.Check (sources.Formula formula) proof
-task_of (jobs.Search file proof rule demands form budget keep_all rle crew further) =
-    tasks.Search (sources.Problem (problem_by file rule demands) form) (effort_of budget keep_all proof) (further_of rle crew further.manner)
-task_of (jobs.Loose file proof low high demands form budget keep_all rle further) =
-    tasks.Search (sources.Rules (problem_by file low demands) high form) (effort_of budget keep_all proof) (further_of rle None further.manner)
+task_of (jobs.Search problem proof form budget keep_all rle crew further) =
+    tasks.Search (sources.Problem problem form) (effort_of budget keep_all proof) (further_of rle crew further.manner)
+task_of (jobs.Loose problem high proof form budget keep_all rle further) =
+    tasks.Search (sources.Rules problem high form) (effort_of budget keep_all proof) (further_of rle None further.manner)
 task_of (jobs.Sat formula proof budget keep_all further) = tasks.Search (sources.Formula formula) (effort_of budget keep_all proof) (further_of false None further.manner)
-task_of (jobs.Judge file pattern rule demands rle) = tasks.Judge (problem_by file rule demands) pattern rle
-task_of (jobs.Cnf file rule demands form) = tasks.Encode (sources.Problem (problem_by file rule demands) form)
+task_of (jobs.Judge problem pattern rle) = tasks.Judge problem pattern rle
+task_of (jobs.Cnf problem form) = tasks.Encode (sources.Problem problem form)
 task_of (jobs.Rule rule) = tasks.Print rule
 task_of (jobs.Make seed size file proof) = tasks.Make seed size file (effort_of default_budget false proof)
-task_of (jobs.Least file proof rule demands form budget keep_all rle further) =
-    tasks.Extremal extremes.Fewest (problem_by file rule demands) form (effort_of budget keep_all proof) (further_of rle None further.manner)
-task_of (jobs.Most file proof rule demands form budget keep_all rle further) =
-    tasks.Extremal extremes.Most (problem_by file rule demands) form (effort_of budget keep_all proof) (further_of rle None further.manner)
+task_of (jobs.Least problem proof form budget keep_all rle further) =
+    tasks.Extremal extremes.Fewest problem form (effort_of budget keep_all proof) (further_of rle None further.manner)
+task_of (jobs.Most problem proof form budget keep_all rle further) =
+    tasks.Extremal extremes.Most problem form (effort_of budget keep_all proof) (further_of rle None further.manner)
 task_of (jobs.Trim formula proof output) = tasks.Trim formula proof output
 
 abbrev pub tasked : Result Job WordsError → Result Task WordsError

@@ -10,12 +10,13 @@ use crate::fault::Fault;
 use crate::input::{
     PROOF_LIMIT, read_formula, read_input, read_pattern, read_problem, read_subject,
 };
-use crate::task::{ProblemSource, Source};
+use crate::task::Source;
 use lls_answers::Answer;
 use lls_answers::judge::judge;
 use lls_answers::print::print_formula;
 use lls_answers::trim::trim;
 use lls_base::{Name, Shelf};
+use lls_words::ProblemSource;
 use std::alloc::Global;
 
 /// The answer to a check: what it is about is read, and then the proof.

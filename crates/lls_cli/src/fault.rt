@@ -6,8 +6,8 @@ use lls_answers::Status;
 use lls_base::Memory;
 use lls_cnf::DimacsFault;
 use lls_problem::DemandError;
-use lls_rle::RleFault;
-use lls_search_file::PosedFault;
+use lls_rle::{PicturesFault, RleFault};
+use lls_search_file::{ListFault, PosedFault};
 use lls_words::WordsError;
 use std::alloc::{AllocError, AllocFailed, Global};
 use std::error::Error;
@@ -83,6 +83,10 @@ pub enum Fault {
     NotPlain(u64, u64, u64),
     /// The picture isn't in its grammar, or doesn't fit the grid.
     Rle(RleFault),
+    /// The list of patterns isn't in its grammar, or its patterns aren't of the grid's size, or there are too many.
+    List(ListFault),
+    /// The list of pictures isn't in its grammar, or a picture doesn't fit the grid, or there are too many.
+    Pictures(PicturesFault),
     Outside(OutsideFault),
     /// An input has more bytes than this limit.
     TooLong(u64),
@@ -122,6 +126,20 @@ impl fmt::Display for Fault {
             }
             Fault::NotPlain(t, y, x) => write!(f, "content: NotPlain {t} {y} {x}"),
             Fault::Rle(fault) => write!(f, "content: {fault}"),
+            Fault::List(fault) => {
+                if let ListFault::TooMany(_) = fault {
+                    write!(f, "limit: List{fault}")
+                } else {
+                    write!(f, "content: List{fault}")
+                }
+            }
+            Fault::Pictures(fault) => {
+                if let PicturesFault::TooMany(_) = fault {
+                    write!(f, "limit: List{fault}")
+                } else {
+                    write!(f, "content: List{fault}")
+                }
+            }
             Fault::Outside(fault) => write!(f, "outside: {fault}"),
             Fault::TooLong(limit) => write!(f, "limit: TooLong {limit}"),
             Fault::Memory => write!(f, "memory"),
@@ -151,6 +169,10 @@ impl Fault {
             Fault::Dimacs(_) => Status::Content,
             Fault::NotPlain(_, _, _) => Status::Content,
             Fault::Rle(_) => Status::Content,
+            Fault::List(ListFault::TooMany(_)) => Status::Limit,
+            Fault::List(_) => Status::Content,
+            Fault::Pictures(PicturesFault::TooMany(_)) => Status::Limit,
+            Fault::Pictures(_) => Status::Content,
             Fault::Outside(_) => Status::Outside,
             Fault::TooLong(_) => Status::Limit,
             Fault::Memory => Status::Memory,

@@ -1,29 +1,32 @@
 // The inputs of a job.
-ghost use Rattle.std.specs.Prelude.{◌≡◌, ◌≤◌, length, IfOk};
+ghost use Rattle.std.specs.Prelude.{◌≡◌, ◌≤◌, length, Ok, IfOk};
 ghost use Rattle.lls_base.specs.Results.{and_then, Gives};
+ghost use Rattle.lls_problem.specs.Problem.{but, AreOfSize};
 ghost use Rattle.lls_search_file.specs.Reading.{posed_of};
 ghost use Rattle.lls_least.specs.Bounded.{LeavesRoom};
 ghost use Rattle.lls_words.specs.Job.{AreWithinLimits};
 ghost use Rattle.lls_outside.specs.Moment.{files_of, shelf_at};
-ghost use Rattle.lls_cli.specs.Question.{IsInput, MadeOfOne, posed_in, problem_in, roomy_problem_in, small_problem_in, formula_in, history_in, pattern_in, pictured_in, source_file, source_limit, subject_from};
+ghost use Rattle.lls_cli.specs.Question.{AsksBy, IsInput, posed_in, problem_in, with_room, with_few_cells, formula_in, history_in, list_in, listed_by, made_of, pattern_in, pictured_in, problem_asked, subject_asked};
 ghost use Rattle.lls_answers.specs.Subject.{most_open_cells, CanBePrinted};
 ghost use Rattle.lls_cli.specs.Steps.{Reads, input_fault};
 ghost use Rattle.lls_cli.specs.Task.{IsPrintable, KeepsSource};
 
 use crate::fault::{Fault, OutsideFault};
-use crate::task::{ProblemSource, Source};
+use crate::task::Source;
 use lls_answers::{Bytes, Subject};
 use lls_base::{Name, ReadError, Shelf, read_all};
 use lls_cnf::{DimacsError, Formula, MOST_DIMACS_BYTES, read_dimacs};
-use lls_grid::History;
+use lls_grid::{History, Patterns};
 use lls_least::counters_with_one_more;
 use lls_open::MOST_OPEN_CELLS;
 use lls_problem::{Bounds, DemandError, Demands, Problem, make_problem};
-use lls_rle::{MOST_BYTES, RleError, read_rle};
+use lls_rle::{MOST_BYTES, PicturesError, RleError, read_pictures, read_rle};
 use lls_rule::Rule;
 use lls_search_file::{
-    HistoryError, HistoryFault, Posed, PosedError, PosedFault, read_history, read_posed,
+    HistoryError, HistoryFault, ListError, Posed, PosedError, PosedFault, read_history, read_list,
+    read_posed,
 };
+use lls_words::{ListSource, ProblemSource};
 use std::alloc::Global;
 
 /// The longest search file, and the longest pattern file, in bytes.
@@ -31,6 +34,9 @@ pub const SEARCH_LIMIT: u64 = MOST_BYTES as u64;
 
 /// The longest proof in bytes.
 pub const PROOF_LIMIT: u64 = 1_073_741_824;
+
+/// The longest list of patterns in bytes.
+pub const LIST_LIMIT: u64 = 16_777_216;
 
 // The fault of an input that wasn't read.
 fn input_fault(error: ReadError) -> Fault
@@ -88,19 +94,94 @@ fn problem_input(
     Ok(make_problem(posed, rule, demands)?)
 }
 
-/// The problem of a search file.
+// The problem of a search file, without the patterns of its list.
+fn read_bare_problem<S: Shelf>(
+    alloc: Global,
+    shelf: &mut S,
+    file: &Name,
+    rule: Rule,
+    demands: Demands,
+) -> Result<Problem, Fault>
+    requires { AreWithinLimits demands }
+    ensures read { Reads (AsksBy (files_of S.Shelf shelf.old) (made_of file.now SEARCH_LIMIT (problem_in rule demands)))
+        result (shelf_at S.Shelf shelf.old) (shelf_at S.Shelf shelf.new) }
+    ensures rule { IfOk result (λ problem. problem.rule ≡ rule) }
+{
+    let bytes = read_input(alloc, shelf, file, SEARCH_LIMIT)?;
+    problem_input(alloc, bytes.items(), rule, demands)
+}
+
+// The patterns of a list's bytes, each of the problem's rows and columns.
+fn list_input(alloc: Global, bytes: &[u8], rle: bool, problem: &Problem) -> Result<Patterns, Fault>
+    requires { length bytes.now ≤ LIST_LIMIT }
+    ensures list { Gives Fault.Memory (λ patterns. patterns) result (list_in rle problem.now bytes.now) }
+    ensures sized { IfOk result (AreOfSize problem.now.posed) }
+{
+    let posed = problem.posed();
+    if rle {
+        return match read_pictures(alloc, bytes, posed.height, posed.width) {
+            Ok(patterns) => Ok(patterns),
+            Err(PicturesError::Fault(fault)) => Err(Fault::Pictures(fault)),
+            Err(PicturesError::Memory) => Err(Fault::Memory),
+        };
+    }
+    match read_list(alloc, bytes, posed.height, posed.width) {
+        Ok(patterns) => Ok(patterns),
+        Err(ListError::Fault(fault)) => Err(Fault::List(fault)),
+        Err(ListError::Memory) => Err(Fault::Memory),
+    }
+}
+
+// The problem with the patterns of a list's bytes.
+fn but_input(alloc: Global, bytes: &[u8], rle: bool, problem: Problem) -> Result<Problem, Fault>
+    requires { length bytes.now ≤ LIST_LIMIT }
+    ensures problem { Gives Fault.Memory (λ problem. problem) result (and_then (list_in rle problem bytes.now) (λ patterns. Ok (but problem patterns))) }
+    ensures rule { IfOk result (λ all. all.rule ≡ problem.rule) }
+    ensures room { IfOk result (λ all. LeavesRoom problem → LeavesRoom all) }
+    ensures cells { IfOk result (λ all. all.posed ≡ problem.posed) }
+{
+    let patterns = list_input(alloc, bytes, rle, &problem)?;
+    Ok(problem.but(patterns))
+}
+
+// The problem with the patterns of its list, where it has one.
+fn read_listed<S: Shelf>(
+    alloc: Global,
+    shelf: &mut S,
+    list: &Option<ListSource>,
+    problem: Problem,
+) -> Result<Problem, Fault>
+    ensures read { Reads (AsksBy (files_of S.Shelf shelf.old) (listed_by list.now problem))
+        result (shelf_at S.Shelf shelf.old) (shelf_at S.Shelf shelf.new) }
+    ensures rule { IfOk result (λ all. all.rule ≡ problem.rule) }
+    ensures room { IfOk result (λ all. LeavesRoom problem → LeavesRoom all) }
+    ensures cells { IfOk result (λ all. all.posed ≡ problem.posed) }
+{
+    let Some(list) = list else {
+        return Ok(problem);
+    };
+    let bytes = read_input(alloc, shelf, &list.file, LIST_LIMIT)?;
+    but_input(alloc, bytes.items(), list.rle, problem)
+}
+
+/// The problem of a search file, and then the patterns of its list.
 pub fn read_problem<S: Shelf>(
     alloc: Global,
     shelf: &mut S,
     source: ProblemSource,
 ) -> Result<Problem, Fault>
     requires { AreWithinLimits source.demands }
-    ensures read { Reads (MadeOfOne (files_of S.Shelf shelf.old) source.file SEARCH_LIMIT
-        (λ first. and_then first (problem_in source.rule source.demands))) result (shelf_at S.Shelf shelf.old) (shelf_at S.Shelf shelf.new) }
+    ensures read { Reads (AsksBy (files_of S.Shelf shelf.old) (problem_asked Ok source)) result (shelf_at S.Shelf shelf.old) (shelf_at S.Shelf shelf.new) }
     ensures rule { IfOk result (λ problem. problem.rule ≡ source.rule) }
 {
-    let bytes = read_input(alloc, shelf, &source.file, SEARCH_LIMIT)?;
-    problem_input(alloc, bytes.items(), source.rule, source.demands)
+    let ProblemSource {
+        file,
+        rule,
+        demands,
+        but,
+    } = source;
+    let problem = read_bare_problem(alloc, shelf, &file, rule, demands)?;
+    read_listed(alloc, shelf, &but, problem)
 }
 
 /// The problem of a search file, where there is room for a counter of all cells of a generation besides those of its bounds.
@@ -110,17 +191,22 @@ pub fn read_roomy_problem<S: Shelf>(
     source: ProblemSource,
 ) -> Result<Problem, Fault>
     requires { AreWithinLimits source.demands }
-    ensures read { Reads (MadeOfOne (files_of S.Shelf shelf.old) source.file SEARCH_LIMIT
-        (λ first. and_then first (roomy_problem_in source.rule source.demands))) result (shelf_at S.Shelf shelf.old) (shelf_at S.Shelf shelf.new) }
+    ensures read { Reads (AsksBy (files_of S.Shelf shelf.old) (problem_asked with_room source)) result (shelf_at S.Shelf shelf.old) (shelf_at S.Shelf shelf.new) }
     ensures rule { IfOk result (λ problem. problem.rule ≡ source.rule) }
     ensures room { IfOk result LeavesRoom }
 {
-    let problem = read_problem(alloc, shelf, source)?;
+    let ProblemSource {
+        file,
+        rule,
+        demands,
+        but,
+    } = source;
+    let problem = read_bare_problem(alloc, shelf, &file, rule, demands)?;
     let counters = counters_with_one_more(&problem);
     if counters > u64::from(Bounds::MOST_COUNTERS) {
         return Err(Fault::Demands(DemandError::Counters(u128::from(counters))));
     }
-    Ok(problem)
+    read_listed(alloc, shelf, &but, problem)
 }
 
 /// The problem of a search file, where it has few enough cells for a rule that is left open.
@@ -130,17 +216,22 @@ pub fn read_small_problem<S: Shelf>(
     source: ProblemSource,
 ) -> Result<Problem, Fault>
     requires { AreWithinLimits source.demands }
-    ensures read { Reads (MadeOfOne (files_of S.Shelf shelf.old) source.file SEARCH_LIMIT
-        (λ first. and_then first (small_problem_in source.rule source.demands))) result (shelf_at S.Shelf shelf.old) (shelf_at S.Shelf shelf.new) }
+    ensures read { Reads (AsksBy (files_of S.Shelf shelf.old) (problem_asked with_few_cells source)) result (shelf_at S.Shelf shelf.old) (shelf_at S.Shelf shelf.new) }
     ensures rule { IfOk result (λ problem. problem.rule ≡ source.rule) }
     ensures few { IfOk result (λ problem. length problem.posed.cells ≤ most_open_cells) }
 {
-    let problem = read_problem(alloc, shelf, source)?;
+    let ProblemSource {
+        file,
+        rule,
+        demands,
+        but,
+    } = source;
+    let problem = read_bare_problem(alloc, shelf, &file, rule, demands)?;
     let cells = problem.posed().cells.items().len();
     if cells > MOST_OPEN_CELLS {
         return Err(Fault::Posed(PosedFault::TooManyCells(cells as u64)));
     }
-    Ok(problem)
+    read_listed(alloc, shelf, &but, problem)
 }
 
 // The formula that the bytes of a formula's file write.
@@ -161,8 +252,8 @@ pub fn read_formula<S: Shelf>(
     shelf: &mut S,
     formula: &Name,
 ) -> Result<Formula, Fault>
-    ensures { Reads (MadeOfOne (files_of S.Shelf shelf.old) formula.now MOST_DIMACS_BYTES
-        (λ first. and_then first formula_in)) result (shelf_at S.Shelf shelf.old) (shelf_at S.Shelf shelf.new) }
+    ensures { Reads (AsksBy (files_of S.Shelf shelf.old) (made_of formula.now MOST_DIMACS_BYTES formula_in))
+        result (shelf_at S.Shelf shelf.old) (shelf_at S.Shelf shelf.new) }
 {
     let bytes = read_input(alloc, shelf, formula, MOST_DIMACS_BYTES as u64)?;
     formula_input(alloc, bytes.items())
@@ -175,8 +266,7 @@ pub fn read_subject<S: Shelf>(
     source: Source,
 ) -> Result<Subject, Fault>
     requires { KeepsSource source }
-    ensures read { Reads (MadeOfOne (files_of S.Shelf shelf.old) (source_file source) (source_limit source) (subject_from source))
-        result (shelf_at S.Shelf shelf.old) (shelf_at S.Shelf shelf.new) }
+    ensures read { Reads (AsksBy (files_of S.Shelf shelf.old) (subject_asked source)) result (shelf_at S.Shelf shelf.old) (shelf_at S.Shelf shelf.new) }
     ensures printable { IfOk result (λ subject. IsPrintable source → CanBePrinted subject) }
 {
     match source {
@@ -243,8 +333,8 @@ pub fn read_pattern<S: Shelf>(
     problem: &Problem,
     rle: bool,
 ) -> Result<History, Fault>
-    ensures { Reads (MadeOfOne (files_of S.Shelf shelf.old) pattern.now SEARCH_LIMIT
-        (λ second. and_then second (pattern_in rle problem.now))) result (shelf_at S.Shelf shelf.old) (shelf_at S.Shelf shelf.new) }
+    ensures { Reads (AsksBy (files_of S.Shelf shelf.old) (made_of pattern.now SEARCH_LIMIT (pattern_in rle problem.now)))
+        result (shelf_at S.Shelf shelf.old) (shelf_at S.Shelf shelf.new) }
 {
     let bytes = read_input(alloc, shelf, pattern, SEARCH_LIMIT)?;
     pattern_input(alloc, bytes.items(), problem, rle)

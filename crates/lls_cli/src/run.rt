@@ -20,7 +20,7 @@ use crate::extremal::give_extremal;
 use crate::fault::Fault;
 use crate::input::{read_roomy_problem, read_subject};
 use crate::making::give_making;
-use crate::task::{ProblemSource, Source, Task, task_of};
+use crate::task::{Source, Task, task_of};
 use lls_answers::print::print_rule;
 use lls_answers::search::search;
 use lls_answers::{Answer, Asked, Effort, Further, Status, manners_of};
@@ -29,7 +29,7 @@ use lls_least::Extreme;
 use lls_outside::Outside;
 use lls_problem::Form;
 use lls_rule::Rule;
-use lls_words::read_job;
+use lls_words::{ProblemSource, read_job};
 use std::alloc::Global;
 
 // Gives what the inputs of a task came to: the answer, or why there is none.

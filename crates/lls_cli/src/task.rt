@@ -6,31 +6,10 @@ ghost use Rattle.lls_cli.specs.Task.{KeepsTask, crew_said, further_of, manners_s
 use lls_answers::{CrewPlan, Effort, Further};
 use lls_base::Name;
 use lls_least::Extreme;
-use lls_problem::{Demands, Form};
+use lls_problem::Form;
 use lls_rule::Rule;
 use lls_solver::{Manner, Manners};
-use lls_words::{CrewPlan as SaidCrew, DEFAULT_BUDGET, Job, Manner as SaidManner};
-
-/// A problem, as words pose it.
-#[derive(Drop)]
-pub struct ProblemSource {
-    /// The search file.
-    pub file: Name,
-    pub rule: Rule,
-    pub demands: Demands,
-}
-
-impl ProblemSource {
-    fn new(file: Name, rule: Rule, demands: Demands) -> ProblemSource
-        ensures { result ≡ record { file = file; rule = rule; demands = demands } }
-    {
-        ProblemSource {
-            file,
-            rule,
-            demands,
-        }
-    }
-}
+use lls_words::{CrewPlan as SaidCrew, DEFAULT_BUDGET, Job, Manner as SaidManner, ProblemSource};
 
 /// What a check or a search is about, as words say it.
 #[derive(Drop)]
@@ -108,32 +87,20 @@ pub fn task_of(job: Job) -> Task
 {
     match job {
         Job::Check {
-            search,
+            problem,
             proof,
-            rule,
-            demands,
             form,
-        } => {
-            let problem = ProblemSource::new(search, rule, demands);
-            Task::Check(Source::Problem(problem, form), proof)
-        }
+        } => Task::Check(Source::Problem(problem, form), proof),
         Job::LooseCheck {
-            search,
-            proof,
-            low,
+            problem,
             high,
-            demands,
+            proof,
             form,
-        } => {
-            let problem = ProblemSource::new(search, low, demands);
-            Task::Check(Source::Rules(problem, high, form), proof)
-        }
+        } => Task::Check(Source::Rules(problem, high, form), proof),
         Job::Lrat { formula, proof } => Task::Check(Source::Formula(formula), proof),
         Job::Search {
-            search,
+            problem,
             proof,
-            rule,
-            demands,
             form,
             budget,
             keep_all,
@@ -141,24 +108,20 @@ pub fn task_of(job: Job) -> Task
             crew,
             further,
         } => {
-            let problem = ProblemSource::new(search, rule, demands);
             let effort = Effort::new(budget, keep_all, proof);
             let source = Source::Problem(problem, form);
             Task::Search(source, effort, further_of(rle, crew, further.manner))
         }
         Job::Loose {
-            search,
-            proof,
-            low,
+            problem,
             high,
-            demands,
+            proof,
             form,
             budget,
             keep_all,
             rle,
             further,
         } => {
-            let problem = ProblemSource::new(search, low, demands);
             let effort = Effort::new(budget, keep_all, proof);
             let source = Source::Rules(problem, high, form);
             Task::Search(source, effort, further_of(rle, None, further.manner))
@@ -175,21 +138,11 @@ pub fn task_of(job: Job) -> Task
             Task::Search(Source::Formula(formula), effort, further)
         }
         Job::Judge {
-            search,
+            problem,
             pattern,
-            rule,
-            demands,
             rle,
-        } => Task::Judge(ProblemSource::new(search, rule, demands), pattern, rle),
-        Job::Cnf {
-            search,
-            rule,
-            demands,
-            form,
-        } => {
-            let problem = ProblemSource::new(search, rule, demands);
-            Task::Encode(Source::Problem(problem, form))
-        }
+        } => Task::Judge(problem, pattern, rle),
+        Job::Cnf { problem, form } => Task::Encode(Source::Problem(problem, form)),
         Job::Rule { rule } => Task::Print(rule),
         Job::Make {
             seed,
@@ -201,33 +154,27 @@ pub fn task_of(job: Job) -> Task
             Task::Make(seed, size, search, effort)
         }
         Job::Least {
-            search,
+            problem,
             proof,
-            rule,
-            demands,
             form,
             budget,
             keep_all,
             rle,
             further,
         } => {
-            let problem = ProblemSource::new(search, rule, demands);
             let effort = Effort::new(budget, keep_all, proof);
             let further = further_of(rle, None, further.manner);
             Task::Extremal(Extreme::Fewest, problem, form, effort, further)
         }
         Job::Most {
-            search,
+            problem,
             proof,
-            rule,
-            demands,
             form,
             budget,
             keep_all,
             rle,
             further,
         } => {
-            let problem = ProblemSource::new(search, rule, demands);
             let effort = Effort::new(budget, keep_all, proof);
             let further = further_of(rle, None, further.manner);
             Task::Extremal(Extreme::Most, problem, form, effort, further)

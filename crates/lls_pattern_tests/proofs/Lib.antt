@@ -1,2 +1,3 @@
 pub mod WorkedPlane
 pub mod ExactPlane
+pub mod ListOfAll

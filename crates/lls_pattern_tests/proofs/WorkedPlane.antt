@@ -35,6 +35,7 @@ solved edge mark early late obeys = record {
   populated = λ k d none. absurd (omega (arith, none));
   differ = λ pair is. cc;
   exact = λ on period none. cc;
+  unlisted = λ k d none. absurd (omega (arith, none));
 }
 
 gone_obeys : Obeys open_problem gone

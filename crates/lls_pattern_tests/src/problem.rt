@@ -5,7 +5,7 @@ use std::test::Fail;
 #[test]
 fn judgements_and_faults_by_their_texts(rt: HostRuntime) -> Result<(), Fail> {
     let alloc = rt.alloc();
-    let judgements: [(Judgement, &str); 11] = [
+    let judgements: [(Judgement, &str); 12] = [
         (Judgement::Meets, "Meets"),
         (Judgement::Size, "Size"),
         (Judgement::Cell(0, 1, 2), "Cell 0 1 2"),
@@ -17,6 +17,7 @@ fn judgements_and_faults_by_their_texts(rt: HostRuntime) -> Result<(), Fail> {
         (Judgement::Population(0, 300), "Population 0 300"),
         (Judgement::Same, "Same"),
         (Judgement::Shorter(3), "Shorter 3"),
+        (Judgement::Listed(12), "Listed 12"),
     ];
     for (judgement, text) in judgements {
         assert!(rt; format!(in alloc; "{judgement}")?.as_str() == text);

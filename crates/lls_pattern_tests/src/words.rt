@@ -1,8 +1,8 @@
 // Command lines and the jobs that they are read as. Their faults are compared with worked rows over the program.
-use lls_problem::{Bound, Demands, Edge, Form, Period};
+use lls_problem::{Bound, Edge, Form, Period};
 use lls_rule::Rule;
 use lls_symmetry::Symmetry;
-use lls_words::{CrewPlan, Job, WordsError, read_job};
+use lls_words::{CrewPlan, Job, ProblemSource, WordsError, read_job};
 use std::alloc::{AllocError, Global};
 use std::test::Fail;
 
@@ -23,7 +23,7 @@ fn job_of(alloc: Global, line: &str) -> Result<Job, Fail> {
 
 // Options, each with a value that it may have.
 const OPTIONS: &str = "\
-formula=1 rule=B3/S23 low=B3/S2 high=B3/S23 edge=open symmetry=C2 period=2 exact=no live=0:1- differ=0,1 as=rle budget=7 keep=all manner=steady crew=3 turns=5 best=1";
+formula=1 rule=B3/S23 low=B3/S2 high=B3/S23 edge=open symmetry=C2 period=2 exact=no live=0:1- differ=0,1 but=l as=rle budget=7 keep=all manner=steady crew=3 turns=5 best=1";
 
 // Whether a command line takes an option that stands behind it, which is the only fault that it may have.
 fn takes(alloc: Global, line: &str, option: &str) -> Result<bool, Fail> {
@@ -63,19 +63,19 @@ fn each_command_takes_its_options_alone(rt: HostRuntime) -> Result<(), Fail> {
     let rows = [
         (
             "check f p",
-            "formula rule edge symmetry period exact live differ ",
+            "formula rule edge symmetry period exact live differ but as ",
         ),
         (
             "search f p",
-            "formula rule edge symmetry period exact live differ as budget keep manner crew turns ",
+            "formula rule edge symmetry period exact live differ but as budget keep manner crew turns ",
         ),
         (
             "judge f p",
-            "rule edge symmetry period exact live differ as ",
+            "rule edge symmetry period exact live differ but as ",
         ),
         (
             "cnf f",
-            "formula rule edge symmetry period exact live differ ",
+            "formula rule edge symmetry period exact live differ but as ",
         ),
         ("sat f p", "budget keep manner "),
         ("lrat f p", ""),
@@ -83,19 +83,19 @@ fn each_command_takes_its_options_alone(rt: HostRuntime) -> Result<(), Fail> {
         ("make 1 8 f p", ""),
         (
             "least f p",
-            "formula rule edge symmetry period exact live differ as budget keep manner ",
+            "formula rule edge symmetry period exact live differ but as budget keep manner ",
         ),
         (
             "most f p",
-            "formula rule edge symmetry period exact live differ as budget keep manner ",
+            "formula rule edge symmetry period exact live differ but as budget keep manner ",
         ),
         (
             "open f p",
-            "formula low high edge symmetry period exact live differ as budget keep manner ",
+            "formula low high edge symmetry period exact live differ but as budget keep manner ",
         ),
         (
             "opencheck f p",
-            "formula low high edge symmetry period exact live differ ",
+            "formula low high edge symmetry period exact live differ but as ",
         ),
         ("trim f p o", ""),
     ];
@@ -115,16 +115,15 @@ fn options_and_operands_stand_in_any_order(rt: HostRuntime) -> Result<(), Fail> 
         ("check f p --edge closed", Edge::Framed),
     ];
     for (line, want) in rows {
-        let Job::Check {
-            search,
-            proof,
-            demands,
-            ..
-        } = job_of(alloc, line)?
-        else {
+        let Job::Check { problem, proof, .. } = job_of(alloc, line)? else {
             return Err(Fail::from("a check"));
         };
-        let found = (line, search.text(), proof.text(), demands.edge);
+        let found = (
+            line,
+            problem.file.text(),
+            proof.text(),
+            problem.demands.edge,
+        );
         assert!(rt; found == (line, "f", "p", want));
     }
     Ok(())
@@ -325,18 +324,26 @@ fn forms_of_formulas(rt: HostRuntime) -> Result<(), Fail> {
     Ok(())
 }
 
-// The rule and the demands of a job that has some.
-fn problem_of(job: Job) -> Result<(Rule, Demands), Fail> {
+// The problem of a job that poses one.
+fn problem_of(job: Job) -> Result<ProblemSource, Fail> {
     match job {
-        Job::Check { rule, demands, .. } => Ok((rule, demands)),
-        Job::Search { rule, demands, .. } => Ok((rule, demands)),
-        Job::Judge { rule, demands, .. } => Ok((rule, demands)),
-        Job::Cnf { rule, demands, .. } => Ok((rule, demands)),
-        Job::Least { rule, demands, .. } => Ok((rule, demands)),
-        Job::Most { rule, demands, .. } => Ok((rule, demands)),
-        Job::Loose { low, demands, .. } => Ok((low, demands)),
-        Job::LooseCheck { low, demands, .. } => Ok((low, demands)),
-        _ => Err(Fail::from("a job with demands")),
+        Job::Check { problem, .. } => Ok(problem),
+        Job::Search { problem, .. } => Ok(problem),
+        Job::Judge { problem, .. } => Ok(problem),
+        Job::Cnf { problem, .. } => Ok(problem),
+        Job::Least { problem, .. } => Ok(problem),
+        Job::Most { problem, .. } => Ok(problem),
+        Job::Loose { problem, .. } => Ok(problem),
+        Job::LooseCheck { problem, .. } => Ok(problem),
+        _ => Err(Fail::from("a job that poses a problem")),
+    }
+}
+
+// The name of a problem's list, or no text, and whether the list is of pictures.
+fn list_of(problem: &ProblemSource) -> (&str, bool) {
+    match &problem.but {
+        Some(list) => (list.file.text(), list.rle),
+        None => ("", false),
     }
 }
 
@@ -344,13 +351,34 @@ fn problem_of(job: Job) -> Result<(Rule, Demands), Fail> {
 fn demands_of_a_problem(rt: HostRuntime) -> Result<(), Fail> {
     let alloc = rt.alloc();
     let rows = [
-        "judge f --symmetry D2/ --exact yes --period 07,-64,064 p --live 0:1-,063:-08192 --differ=63,0",
-        "check --live=000:0001-,63:0-8192 --differ 63,0 f --period=7,-64,64 --exact=yes --symmetry D2/ p",
-        "cnf --symmetry D2/ --differ 063,00 --live 0:1-,63:-8192 --period 7,-64,64 --exact yes f",
-        "least f p --symmetry D2/ --exact yes --differ 063,00 --live 0:1-,63:-8192 --period 7,-64,64",
-        "most --symmetry D2/ --exact yes f --differ 063,00 --live 0:1-,63:-8192 p --period 7,-64,64",
-        "open --symmetry D2/ --exact yes --high=B3/S23 f --differ 063,00 p --live 0:1-,63:-8192 --period 7,-64,64",
-        "opencheck f f --exact yes --symmetry D2/ --differ 063,00 --live 0:1-,63:-8192 --period 7,-64,64",
+        (
+            "judge --but l f --symmetry D2/ --exact yes --period 07,-64,064 p --live 0:1-,063:-08192 --differ=63,0",
+            false,
+        ),
+        (
+            "check --but=l --live=000:0001-,63:0-8192 --differ 63,0 f --period=7,-64,64 --exact=yes --symmetry D2/ p --as rle",
+            true,
+        ),
+        (
+            "cnf --symmetry D2/ --differ 063,00 --live 0:1-,63:-8192 --as=rle --period 7,-64,64 --exact yes f --but l",
+            true,
+        ),
+        (
+            "least f p --symmetry D2/ --exact yes --but l --differ 063,00 --live 0:1-,63:-8192 --period 7,-64,64 --as rle",
+            true,
+        ),
+        (
+            "most --symmetry D2/ --but=l --exact yes f --differ 063,00 --live 0:1-,63:-8192 p --period 7,-64,64",
+            false,
+        ),
+        (
+            "open --but l --symmetry D2/ --exact yes --high=B3/S23 f --differ 063,00 p --live 0:1-,63:-8192 --period 7,-64,64",
+            false,
+        ),
+        (
+            "opencheck f f --as rle --but l --exact yes --symmetry D2/ --differ 063,00 --live 0:1-,63:-8192 --period 7,-64,64",
+            true,
+        ),
     ];
     let period = Period {
         length: 7,
@@ -369,8 +397,10 @@ fn demands_of_a_problem(rt: HostRuntime) -> Result<(), Fail> {
             high: Some(8192),
         },
     ];
-    for line in rows {
-        let (_, demands) = problem_of(job_of(alloc, line)?)?;
+    for (line, rle) in rows {
+        let problem = problem_of(job_of(alloc, line)?)?;
+        assert!(rt; list_of(&problem) == ("l", rle), "at {line:?}");
+        let demands = &problem.demands;
         let found = (line, demands.symmetry, demands.period, demands.differ);
         assert!(rt; found == (line, Symmetry::D2Up, Some(period), Some((63, 0))));
         assert!(rt; demands.exact, "at {line:?}");
@@ -402,8 +432,14 @@ fn a_problem_without_options_is_of_life(rt: HostRuntime) -> Result<(), Fail> {
         "opencheck f p",
     ];
     for line in lines {
-        let (rule, demands) = problem_of(job_of(alloc, line)?)?;
-        let found = (counts_as_life(&rule), demands.edge, demands.symmetry);
+        let problem = problem_of(job_of(alloc, line)?)?;
+        assert!(rt; problem.but.is_none(), "at {line:?}");
+        let demands = &problem.demands;
+        let found = (
+            counts_as_life(&problem.rule),
+            demands.edge,
+            demands.symmetry,
+        );
         assert!(rt; (line, found) == (line, (true, Edge::Framed, Symmetry::C1)));
         assert!(rt; (line, demands.period, demands.differ) == (line, None, None));
         assert!(rt; !demands.exact, "at {line:?}");
@@ -424,8 +460,8 @@ fn answers_of(rule: &Rule) -> (bool, bool, bool) {
 // The low and the high rule of a job that leaves its rule open.
 fn rules_of(job: Job) -> Result<(Rule, Rule), Fail> {
     match job {
-        Job::Loose { low, high, .. } => Ok((low, high)),
-        Job::LooseCheck { low, high, .. } => Ok((low, high)),
+        Job::Loose { problem, high, .. } => Ok((problem.rule, high)),
+        Job::LooseCheck { problem, high, .. } => Ok((problem.rule, high)),
         _ => Err(Fail::from("a job with an open rule")),
     }
 }

@@ -25,12 +25,13 @@ by_table f g same settings.Period = ap (λ xs. get_or xs 6 (f settings.Rule)) sa
 by_table f g same settings.Exact = ap (λ xs. get_or xs 7 (f settings.Rule)) same
 by_table f g same settings.Live = ap (λ xs. get_or xs 8 (f settings.Rule)) same
 by_table f g same settings.Differ = ap (λ xs. get_or xs 9 (f settings.Rule)) same
-by_table f g same settings.As = ap (λ xs. get_or xs 10 (f settings.Rule)) same
-by_table f g same settings.Budget = ap (λ xs. get_or xs 11 (f settings.Rule)) same
-by_table f g same settings.Keep = ap (λ xs. get_or xs 12 (f settings.Rule)) same
-by_table f g same settings.Manner = ap (λ xs. get_or xs 13 (f settings.Rule)) same
-by_table f g same settings.Crew = ap (λ xs. get_or xs 14 (f settings.Rule)) same
-by_table f g same settings.Turns = ap (λ xs. get_or xs 15 (f settings.Rule)) same
+by_table f g same settings.But = ap (λ xs. get_or xs 10 (f settings.Rule)) same
+by_table f g same settings.As = ap (λ xs. get_or xs 11 (f settings.Rule)) same
+by_table f g same settings.Budget = ap (λ xs. get_or xs 12 (f settings.Rule)) same
+by_table f g same settings.Keep = ap (λ xs. get_or xs 13 (f settings.Rule)) same
+by_table f g same settings.Manner = ap (λ xs. get_or xs 14 (f settings.Rule)) same
+by_table f g same settings.Crew = ap (λ xs. get_or xs 15 (f settings.Rule)) same
+by_table f g same settings.Turns = ap (λ xs. get_or xs 16 (f settings.Rule)) same
 
 -- how an option's word is read
 pub long_of-option : (s : Setting) (value : List ℕ) → long_of (option_word s value) ≡ Some (option_name s, Some value)

@@ -63,7 +63,7 @@ formula_options = settings.Formula ∷ []
 
 -- the demands of a problem
 abbrev pub demand_options : List Setting
-demand_options = settings.Edge ∷ settings.Symmetry ∷ settings.Period ∷ settings.Exact ∷ settings.Live ∷ settings.Differ ∷ []
+demand_options = settings.Edge ∷ settings.Symmetry ∷ settings.Period ∷ settings.Exact ∷ settings.Live ∷ settings.Differ ∷ settings.But ∷ []
 
 -- what patterns are written in
 abbrev pub pattern_options : List Setting
@@ -79,10 +79,10 @@ crew_options = settings.Crew ∷ settings.Turns ∷ []
 
 -- the options of a check besides its rules, those of a search, and those of one by several searchers
 abbrev pub check_options : List Setting
-check_options = formula_options ++ demand_options
+check_options = formula_options ++ demand_options ++ pattern_options
 
 abbrev pub search_options : List Setting
-search_options = check_options ++ pattern_options ++ effort_options
+search_options = check_options ++ effort_options
 
 abbrev pub crewed_options : List Setting
 crewed_options = search_options ++ crew_options
@@ -138,6 +138,7 @@ option_name settings.Period = codes "period"
 option_name settings.Exact = codes "exact"
 option_name settings.Live = codes "live"
 option_name settings.Differ = codes "differ"
+option_name settings.But = codes "but"
 option_name settings.As = codes "as"
 option_name settings.Budget = codes "budget"
 option_name settings.Keep = codes "keep"

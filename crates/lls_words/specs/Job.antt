@@ -1,5 +1,5 @@
 -- The job of a command line, or its first fault.
-use Rattle.std.specs.Prelude.{ℕ, ◌≤◌, Bool, false, List, [], ◌∷◌, length, All, Option, None, Some, is_some, find, Result, Ok, Err, if◌then◌else◌}
+use Rattle.std.specs.Prelude.{◌≡◌, ℕ, ◌≤◌, Bool, false, List, [], ◌∷◌, length, All, Option, None, Some, is_some, find, Result, Ok, Err, if◌then◌else◌}
 use Rattle.std.specs.Str.{bytes_eq}
 use Rattle.std.specs.Option.{ForSome, option_map, option_map_or}
 use Rattle.lls_rule.specs.Rule.{table_of, by_counts}
@@ -20,6 +20,8 @@ use Rattle.lls_words.specs.declared.command.Setting.{Setting}
 use Rattle.lls_words.specs.declared.command.Setting.TheVariants as settings
 use Rattle.lls_words.specs.declared.settings.Settings.{Settings}
 use Rattle.lls_words.specs.declared.crew_plan.CrewPlan.{CrewPlan}
+use Rattle.lls_words.specs.declared.problem_source.ProblemSource.{ProblemSource}
+use Rattle.lls_words.specs.declared.settings.NamedFile.{NamedFile}
 use Rattle.lls_words.specs.declared.job.Job.{Job}
 use Rattle.lls_words.specs.declared.job.Job.TheVariants as jobs
 use Rattle.lls_words.specs.declared.error.WordsError.{WordsError}
@@ -65,6 +67,7 @@ setting_value s place text settings.Live =
     and_then (value_or place (bounds_in text)) (λ bounds. Ok (with_demands s (record s.demands { bounds = bounds })))
 setting_value s place text settings.Differ =
     and_then (value_or place (generations_in text)) (λ pair. Ok (with_demands s (record s.demands { differ = Some pair })))
+setting_value s place text settings.But = Ok (record s { but = Some (record { place = place; file = text }) })
 setting_value s place text settings.Budget = and_then (value_or place (budget_in text)) (λ budget. Ok (record s { budget = budget }))
 setting_value s place text settings.Keep = and_then (value_or place (keep_all_in text)) (λ keep_all. Ok (record s { keep_all = keep_all }))
 setting_value s place text settings.Manner =
@@ -101,11 +104,24 @@ life = table_of (by_counts 8 12)
 -- Life for each rule, under a closed edge, and nothing else demanded; half of the learnt clauses are kept, patterns are
 -- rows, and formulas are by cover; there is no crew, and turns would be drawn from 0; a search is restless
 abbrev pub defaults : Settings
-defaults = record { rule = life; low = life; high = life; demands = edge_alone Framed; budget = default_budget; keep_all = false; rle = false; form = Cover; crew = None; turns = 0; further = default_further }
+defaults = record { rule = life; low = life; high = life; demands = edge_alone Framed; but = None; budget = default_budget; keep_all = false; rle = false; form = Cover; crew = None; turns = 0; further = default_further }
 
 -- the names of a file and of one that is written later, which have to differ
 abbrev pub names_apart : Operand → Operand → Result (List ℕ × List ℕ) WordsError
 names_apart file written = if bytes_eq file.word written.word then Err (SameName written.place) else Ok (file.word, written.word)
+
+-- the file of patterns that generation 0 mustn't be isn't the one that is written
+abbrev pub list_apart : Option NamedFile → Operand → Result (Unit {0}) WordsError
+list_apart None written = Ok tt
+list_apart (Some list) written = if bytes_eq list.file written.word then Err (SameName list.place) else Ok tt
+
+-- the names of the files of a search, of which the second is written
+abbrev pub search_names : Operand → Operand → Option NamedFile → Result (List ℕ × List ℕ) WordsError
+search_names file written list = and_then (names_apart file written) (λ names. and_then (list_apart list written) (λ _. Ok names))
+
+-- a problem by its rule, and what the options demand
+abbrev pub source_by : List ℕ → List Bool → Settings → ProblemSource
+source_by file rule s = record { file = file; rule = rule; demands = s.demands; but = option_map (λ list. record { file = list.file; rle = s.rle }) s.but }
 
 -- no fault, or the one of a neighbourhood at which two rules cross, or else of a background at which they differ
 abbrev pub crossing_or : Option ℕ → Option ℕ → Result (Unit {0}) WordsError
@@ -124,17 +140,17 @@ crew_of s = option_map (λ searchers. record { searchers = searchers; seed = s.t
 -- the job of a command by its operands, whose number is the first test, and its options
 abbrev pub job_with : Command → List Operand → List Given → Result Job WordsError
 job_with commands.Check (search_file ∷ proof ∷ []) givens =
-    and_then (settled defaults givens) (λ s. Ok (jobs.Check search_file.word proof.word s.rule s.demands s.form))
+    and_then (settled defaults givens) (λ s. Ok (jobs.Check (source_by search_file.word s.rule s) proof.word s.form))
 job_with commands.Search (search_file ∷ proof ∷ []) givens =
     and_then (settled defaults givens) (λ s.
-    and_then (names_apart search_file proof) (λ names. Ok (jobs.Search names.0 names.1 s.rule s.demands s.form s.budget s.keep_all s.rle (crew_of s) s.further)))
+    and_then (search_names search_file proof s.but) (λ names. Ok (jobs.Search (source_by names.0 s.rule s) names.1 s.form s.budget s.keep_all s.rle (crew_of s) s.further)))
 job_with commands.Judge (search_file ∷ pattern ∷ []) givens =
-    and_then (settled defaults givens) (λ s. Ok (jobs.Judge search_file.word pattern.word s.rule s.demands s.rle))
+    and_then (settled defaults givens) (λ s. Ok (jobs.Judge (source_by search_file.word s.rule s) pattern.word s.rle))
 job_with commands.Cnf (search_file ∷ []) givens =
-    and_then (settled defaults givens) (λ s. Ok (jobs.Cnf search_file.word s.rule s.demands s.form))
+    and_then (settled defaults givens) (λ s. Ok (jobs.Cnf (source_by search_file.word s.rule s) s.form))
 job_with commands.Sat (formula ∷ proof ∷ []) givens =
     and_then (settled defaults givens) (λ s.
-    and_then (names_apart formula proof) (λ names. Ok (jobs.Sat names.0 names.1 s.budget s.keep_all s.further)))
+    and_then (search_names formula proof s.but) (λ names. Ok (jobs.Sat names.0 names.1 s.budget s.keep_all s.further)))
 job_with commands.Lrat (formula ∷ proof ∷ []) givens = Ok (jobs.Lrat formula.word proof.word)
 job_with commands.Rule (text ∷ []) givens = and_then (rule_at text.place text.word) (λ rule. Ok (jobs.Rule rule))
 job_with commands.Make (seed ∷ size ∷ search_file ∷ proof ∷ []) givens =
@@ -143,17 +159,17 @@ job_with commands.Make (seed ∷ size ∷ search_file ∷ proof ∷ []) givens =
     and_then (names_apart search_file proof) (λ names. Ok (jobs.Make number rows names.0 names.1))))
 job_with commands.Least (search_file ∷ proof ∷ []) givens =
     and_then (settled defaults givens) (λ s.
-    and_then (names_apart search_file proof) (λ names. Ok (jobs.Least names.0 names.1 s.rule s.demands s.form s.budget s.keep_all s.rle s.further)))
+    and_then (search_names search_file proof s.but) (λ names. Ok (jobs.Least (source_by names.0 s.rule s) names.1 s.form s.budget s.keep_all s.rle s.further)))
 job_with commands.Most (search_file ∷ proof ∷ []) givens =
     and_then (settled defaults givens) (λ s.
-    and_then (names_apart search_file proof) (λ names. Ok (jobs.Most names.0 names.1 s.rule s.demands s.form s.budget s.keep_all s.rle s.further)))
+    and_then (search_names search_file proof s.but) (λ names. Ok (jobs.Most (source_by names.0 s.rule s) names.1 s.form s.budget s.keep_all s.rle s.further)))
 job_with commands.Open (search_file ∷ proof ∷ []) givens =
     and_then (settled defaults givens) (λ s.
-    and_then (names_apart search_file proof) (λ names.
-    and_then (checked_ends s.low s.high) (λ _. Ok (jobs.Loose names.0 names.1 s.low s.high s.demands s.form s.budget s.keep_all s.rle s.further))))
+    and_then (search_names search_file proof s.but) (λ names.
+    and_then (checked_ends s.low s.high) (λ _. Ok (jobs.Loose (source_by names.0 s.low s) s.high names.1 s.form s.budget s.keep_all s.rle s.further))))
 job_with commands.OpenCheck (search_file ∷ proof ∷ []) givens =
     and_then (settled defaults givens) (λ s.
-    and_then (checked_ends s.low s.high) (λ _. Ok (jobs.LooseCheck search_file.word proof.word s.low s.high s.demands s.form)))
+    and_then (checked_ends s.low s.high) (λ _. Ok (jobs.LooseCheck (source_by search_file.word s.low s) s.high proof.word s.form)))
 job_with commands.Trim (formula ∷ proof ∷ output ∷ []) givens =
     and_then (names_apart formula output) (λ names.
     and_then (names_apart proof output) (λ others. Ok (jobs.Trim names.0 others.0 others.1)))
@@ -169,10 +185,11 @@ abbrev pub job_of : List (List ℕ) → Result Job WordsError
 job_of [] = Err NoCommand
 job_of (name ∷ words) = job_of_command (command_of name) words
 
--- a period and bounds within the limits
+-- a period and bounds within the limits, and no patterns: those stand in a file
 pub record AreWithinLimits (demands : Demands) : Type 0 where
   pub period : ForSome demands.period IsPeriod
   pub bounds : All HasEnds demands.bounds
+  pub unlisted : demands.listed ≡ []
 
 -- demands and a budget within the limits, and a rule that can be printed
 pub record AreAllowed (rule : List Bool) (demands : Demands) (budget : ℕ) : Type 0 where
@@ -202,16 +219,16 @@ pub record AreSettled (s : Settings) : Type 0 where
 -- what the words keep: demands, budgets, sizes and numbers of searchers are within the limits, a rule that is to be printed is isotropic, and two
 -- rules leave a question open
 abbrev pub KeepsLimits : Job → Type 0
-KeepsLimits (jobs.Check search_file proof rule demands form) = AreWithinLimits demands
-KeepsLimits (jobs.Search search_file proof rule demands form budget keep_all rle crew further) = AreAllowed rule demands budget × ForSome crew IsCrew
-KeepsLimits (jobs.Judge search_file pattern rule demands rle) = AreWithinLimits demands
-KeepsLimits (jobs.Cnf search_file rule demands form) = AreWithinLimits demands
+KeepsLimits (jobs.Check problem proof form) = AreWithinLimits problem.demands
+KeepsLimits (jobs.Search problem proof form budget keep_all rle crew further) = AreAllowed problem.rule problem.demands budget × ForSome crew IsCrew
+KeepsLimits (jobs.Judge problem pattern rle) = AreWithinLimits problem.demands
+KeepsLimits (jobs.Cnf problem form) = AreWithinLimits problem.demands
 KeepsLimits (jobs.Sat formula proof budget keep_all further) = budget ≤ most_budget
 KeepsLimits (jobs.Lrat formula proof) = Unit {0}
 KeepsLimits (jobs.Rule rule) = IsIsotropic rule
 KeepsLimits (jobs.Make seed size search_file proof) = (1 ≤ size) × (size ≤ most_size)
-KeepsLimits (jobs.Least search_file proof rule demands form budget keep_all rle further) = AreAllowed rule demands budget
-KeepsLimits (jobs.Most search_file proof rule demands form budget keep_all rle further) = AreAllowed rule demands budget
-KeepsLimits (jobs.Loose search_file proof low high demands form budget keep_all rle further) = AreOpen low high demands × (budget ≤ most_budget)
-KeepsLimits (jobs.LooseCheck search_file proof low high demands form) = AreOpen low high demands
+KeepsLimits (jobs.Least problem proof form budget keep_all rle further) = AreAllowed problem.rule problem.demands budget
+KeepsLimits (jobs.Most problem proof form budget keep_all rle further) = AreAllowed problem.rule problem.demands budget
+KeepsLimits (jobs.Loose problem high proof form budget keep_all rle further) = AreOpen problem.rule high problem.demands × (budget ≤ most_budget)
+KeepsLimits (jobs.LooseCheck problem high proof form) = AreOpen problem.rule high problem.demands
 KeepsLimits (jobs.Trim formula proof output) = Unit {0}

@@ -36,6 +36,7 @@ pub enum Setting {
     Exact,
     Live,
     Differ,
+    But,
     As,
     Budget,
     Keep,
@@ -154,7 +155,7 @@ impl Command {
                 &Setting::ALL[Setting::Formula as usize..=Setting::Manner as usize]
             }
             Command::Check | Command::Cnf | Command::OpenCheck => {
-                &Setting::ALL[Setting::Formula as usize..=Setting::Differ as usize]
+                &Setting::ALL[Setting::Formula as usize..=Setting::As as usize]
             }
             Command::Judge => &Setting::ALL[Setting::Edge as usize..=Setting::As as usize],
             Command::Sat => &Setting::ALL[Setting::Budget as usize..=Setting::Manner as usize],
@@ -179,7 +180,7 @@ fn is_among(options: &[Setting], setting: Setting) -> bool
 
 impl Setting {
     // The table of options.
-    const ALL: [Setting; 16] = [
+    const ALL: [Setting; 17] = [
         Setting::Rule,
         Setting::Low,
         Setting::High,
@@ -190,6 +191,7 @@ impl Setting {
         Setting::Exact,
         Setting::Live,
         Setting::Differ,
+        Setting::But,
         Setting::As,
         Setting::Budget,
         Setting::Keep,
@@ -213,6 +215,7 @@ impl Setting {
             Setting::Exact => "exact",
             Setting::Live => "live",
             Setting::Differ => "differ",
+            Setting::But => "but",
             Setting::As => "as",
             Setting::Budget => "budget",
             Setting::Keep => "keep",

@@ -1,8 +1,9 @@
 // What a command line asks for.
 use crate::crew_plan::CrewPlan;
 use crate::further::Further;
+use crate::problem_source::ProblemSource;
 use lls_base::Name;
-use lls_problem::{Demands, Form};
+use lls_problem::Form;
 use lls_rule::Rule;
 
 /// What a command line asks for.
@@ -10,19 +11,15 @@ use lls_rule::Rule;
 pub enum Job {
     /// Check a proof of absence against a search file.
     Check {
-        search: Name,
+        problem: ProblemSource,
         proof: Name,
-        rule: Rule,
-        demands: Demands,
         /// The form of the problem's formula, of which it is a proof.
         form: Form,
     },
     /// Look for a solution of a search file, or write a proof that there is none.
     Search {
-        search: Name,
+        problem: ProblemSource,
         proof: Name,
-        rule: Rule,
-        demands: Demands,
         /// The form of the problem's formula.
         form: Form,
         /// How many clauses may be learnt.
@@ -37,18 +34,14 @@ pub enum Job {
     },
     /// Judge a pattern against a search file.
     Judge {
-        search: Name,
+        problem: ProblemSource,
         pattern: Name,
-        rule: Rule,
-        demands: Demands,
         /// Whether the pattern is RLE, and not rows.
         rle: bool,
     },
     /// Print the formula of a search file.
     Cnf {
-        search: Name,
-        rule: Rule,
-        demands: Demands,
+        problem: ProblemSource,
         /// The form of the formula.
         form: Form,
     },
@@ -82,10 +75,8 @@ pub enum Job {
     },
     /// Look for a solution with the fewest live cells in generation 0 and write a proof that none has fewer, or that there is none.
     Least {
-        search: Name,
+        problem: ProblemSource,
         proof: Name,
-        rule: Rule,
-        demands: Demands,
         /// The form of the formulas.
         form: Form,
         /// How many clauses each look may learn.
@@ -98,10 +89,8 @@ pub enum Job {
     },
     /// Look for a solution with the most live cells in generation 0 and write a proof that none has more, or that there is none.
     Most {
-        search: Name,
+        problem: ProblemSource,
         proof: Name,
-        rule: Rule,
-        demands: Demands,
         /// The form of the formulas.
         form: Form,
         /// How many clauses each look may learn.
@@ -114,13 +103,11 @@ pub enum Job {
     },
     /// Look for a solution by some rule between two, or write a proof that there is none.
     Loose {
-        search: Name,
-        proof: Name,
-        /// The rules between give 1 wherever this one does.
-        low: Rule,
+        /// The problem by the low rule: the rules between give 1 wherever it does.
+        problem: ProblemSource,
         /// They give 0 wherever this one does.
         high: Rule,
-        demands: Demands,
+        proof: Name,
         /// The form of the problem's formula.
         form: Form,
         /// How many clauses may be learnt.
@@ -133,13 +120,11 @@ pub enum Job {
     },
     /// Check a proof of absence by each rule between two against a search file.
     LooseCheck {
-        search: Name,
-        proof: Name,
-        /// The rules between give 1 wherever this one does.
-        low: Rule,
+        /// The problem by the low rule: the rules between give 1 wherever it does.
+        problem: ProblemSource,
         /// They give 0 wherever this one does.
         high: Rule,
-        demands: Demands,
+        proof: Name,
         /// The form of the problem's formula, of which it is a proof.
         form: Form,
     },

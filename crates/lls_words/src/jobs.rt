@@ -4,7 +4,7 @@ ghost use Rattle.lls_base.specs.Results.{and_then, Gives};
 ghost use Rattle.lls_hensel.specs.Ends.{AreEnds};
 ghost use Rattle.lls_hensel.specs.Isotropy.{IsIsotropic};
 ghost use Rattle.std.specs.Option.{option_map, ForSome};
-ghost use Rattle.lls_words.specs.Job.{checked_ends, defaults, job_with, names_apart, settled, AreSearchers, AreSettled, IsCrew, KeepsLimits};
+ghost use Rattle.lls_words.specs.Job.{checked_ends, defaults, job_with, list_apart, names_apart, search_names, settled, AreSearchers, AreSettled, IsCrew, KeepsLimits};
 ghost use Rattle.lls_words.specs.Seen.{seen_given, seen_operand};
 
 use crate::command::Command;
@@ -12,8 +12,9 @@ use crate::crew_plan::CrewPlan;
 use crate::error::WordsError;
 use crate::item::Operand;
 use crate::job::Job;
+use crate::problem_source::{ListSource, ProblemSource};
 use crate::scan::Given;
-use crate::settings::{Settings, settle};
+use crate::settings::{NamedFile, Settings, settle};
 use crate::values::{seed_in, size_in};
 use lls_base::Name;
 use lls_hensel::{first_crossing, first_loose_background};
@@ -36,6 +37,44 @@ fn names_apart(alloc: Global, file: &Operand, written: &Operand) -> Result<(Name
         return Err(WordsError::SameName(written.place));
     }
     Ok((name_of(alloc, file)?, name_of(alloc, written)?))
+}
+
+// Tests whether the file of patterns that generation 0 mustn't be is another than the one that is written.
+fn list_apart(list: &Option<NamedFile>, written: &Operand) -> Result<(), WordsError>
+    ensures { result ≡ list_apart list.now (seen_operand written.now) }
+{
+    match list {
+        Some(list) if list.file.text() == written.word => Err(WordsError::SameName(list.place)),
+        _ => Ok(()),
+    }
+}
+
+// The names of the files of a search, of which the second is written.
+fn search_names(
+    alloc: Global,
+    file: &Operand,
+    written: &Operand,
+    list: &Option<NamedFile>,
+) -> Result<(Name, Name), WordsError>
+    ensures { Gives WordsError.Memory (λ names. names) result
+        (search_names (seen_operand file.now) (seen_operand written.now) list.now) }
+{
+    let names = names_apart(alloc, file, written)?;
+    list_apart(list, written)?;
+    Ok(names)
+}
+
+// The list of a file, of pictures or of rows.
+fn list_source(list: Option<NamedFile>, rle: bool) -> Option<ListSource>
+    ensures { result ≡ option_map (λ list. record { file = list.file; rle = rle }) list }
+{
+    match list {
+        Some(list) => Some(ListSource {
+            file: list.file,
+            rle,
+        }),
+        None => None,
+    }
 }
 
 // The names of two operands, and the values of the options.
@@ -62,11 +101,11 @@ fn searching(
 ) -> Result<(Name, Name, Settings), WordsError>
     ensures posed { Gives WordsError.Memory (λ posed. posed) result
         (and_then (settled defaults (map seen_given givens.now)) (λ settings.
-        and_then (names_apart (seen_operand file.now) (seen_operand written.now)) (λ names. Ok (names.0, names.1, settings)))) }
+        and_then (search_names (seen_operand file.now) (seen_operand written.now) settings.but) (λ names. Ok (names.0, names.1, settings)))) }
     ensures allowed { IfOk result (λ posed. AreSettled posed.2) }
 {
     let settings = settle(alloc, givens)?;
-    let (file, written) = names_apart(alloc, file, written)?;
+    let (file, written) = search_names(alloc, file, written, &settings.but)?;
     Ok((file, written, settings))
 }
 
@@ -93,14 +132,20 @@ pub fn check_job(
     let Settings {
         rule,
         demands,
+        but,
+        rle,
         form,
         ..
     } = settings;
-    Ok(Job::Check {
-        search,
-        proof,
+    let problem = ProblemSource {
+        file: search,
         rule,
         demands,
+        but: list_source(but, rle),
+    };
+    Ok(Job::Check {
+        problem,
+        proof,
         form,
     })
 }
@@ -120,6 +165,7 @@ pub fn search_job(
     let Settings {
         rule,
         demands,
+        but,
         budget,
         keep_all,
         rle,
@@ -129,11 +175,15 @@ pub fn search_job(
         further,
         ..
     } = settings;
-    Ok(Job::Search {
-        search,
-        proof,
+    let problem = ProblemSource {
+        file: search,
         rule,
         demands,
+        but: list_source(but, rle),
+    };
+    Ok(Job::Search {
+        problem,
+        proof,
         form,
         budget,
         keep_all,
@@ -158,14 +208,19 @@ pub fn judge_job(
     let Settings {
         rule,
         demands,
+        but,
         rle,
         ..
     } = settings;
-    Ok(Job::Judge {
-        search,
-        pattern,
+    let problem = ProblemSource {
+        file: search,
         rule,
         demands,
+        but: list_source(but, rle),
+    };
+    Ok(Job::Judge {
+        problem,
+        pattern,
         rle,
     })
 }
@@ -179,16 +234,18 @@ pub fn cnf_job(alloc: Global, search: &Operand, givens: &[Given]) -> Result<Job,
     let Settings {
         rule,
         demands,
+        but,
+        rle,
         form,
         ..
     } = settle(alloc, givens)?;
-    let search = name_of(alloc, search)?;
-    Ok(Job::Cnf {
-        search,
+    let problem = ProblemSource {
+        file: name_of(alloc, search)?,
         rule,
         demands,
-        form,
-    })
+        but: list_source(but, rle),
+    };
+    Ok(Job::Cnf { problem, form })
 }
 
 /// The job of `sat`.
@@ -257,6 +314,19 @@ fn check_ends(low: &Rule, high: &Rule) -> Result<(), WordsError>
     }
 }
 
+// The settings, where their two rules are the ends of rules between.
+fn with_ends(settings: Settings) -> Result<Settings, WordsError>
+    requires low_isotropic { IsIsotropic settings.low }
+    requires high_isotropic { IsIsotropic settings.high }
+    ensures exact { result ≡ and_then (checked_ends settings.low settings.high) (λ _. Ok settings) }
+    ensures ends { IfOk result (λ s. AreEnds s.low s.high) }
+{
+    match check_ends(&settings.low, &settings.high) {
+        Ok(()) => Ok(settings),
+        Err(error) => Err(error),
+    }
+}
+
 /// The job of `least`.
 pub fn least_job(
     alloc: Global,
@@ -272,6 +342,7 @@ pub fn least_job(
     let Settings {
         rule,
         demands,
+        but,
         budget,
         keep_all,
         rle,
@@ -279,11 +350,15 @@ pub fn least_job(
         further,
         ..
     } = settings;
-    Ok(Job::Least {
-        search,
-        proof,
+    let problem = ProblemSource {
+        file: search,
         rule,
         demands,
+        but: list_source(but, rle),
+    };
+    Ok(Job::Least {
+        problem,
+        proof,
         form,
         budget,
         keep_all,
@@ -307,6 +382,7 @@ pub fn most_job(
     let Settings {
         rule,
         demands,
+        but,
         budget,
         keep_all,
         rle,
@@ -314,11 +390,15 @@ pub fn most_job(
         further,
         ..
     } = settings;
-    Ok(Job::Most {
-        search,
-        proof,
+    let problem = ProblemSource {
+        file: search,
         rule,
         demands,
+        but: list_source(but, rle),
+    };
+    Ok(Job::Most {
+        problem,
+        proof,
         form,
         budget,
         keep_all,
@@ -339,24 +419,28 @@ pub fn open_job(
     ensures limits { IfOk result KeepsLimits }
 {
     let (search, proof, settings) = searching(alloc, search, proof, givens)?;
-    check_ends(&settings.low, &settings.high)?;
     let Settings {
         low,
         high,
         demands,
+        but,
         budget,
         keep_all,
         rle,
         form,
         further,
         ..
-    } = settings;
-    Ok(Job::Loose {
-        search,
-        proof,
-        low,
-        high,
+    } = with_ends(settings)?;
+    let problem = ProblemSource {
+        file: search,
+        rule: low,
         demands,
+        but: list_source(but, rle),
+    };
+    Ok(Job::Loose {
+        problem,
+        high,
+        proof,
         form,
         budget,
         keep_all,
@@ -377,20 +461,25 @@ pub fn open_check_job(
     ensures limits { IfOk result KeepsLimits }
 {
     let (search, proof, settings) = posing(alloc, search, proof, givens)?;
-    check_ends(&settings.low, &settings.high)?;
     let Settings {
         low,
         high,
         demands,
+        but,
+        rle,
         form,
         ..
-    } = settings;
-    Ok(Job::LooseCheck {
-        search,
-        proof,
-        low,
-        high,
+    } = with_ends(settings)?;
+    let problem = ProblemSource {
+        file: search,
+        rule: low,
         demands,
+        but: list_source(but, rle),
+    };
+    Ok(Job::LooseCheck {
+        problem,
+        high,
+        proof,
         form,
     })
 }

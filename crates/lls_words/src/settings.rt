@@ -18,11 +18,20 @@ use crate::values::{
     DEFAULT_BUDGET, MOST_BUDGET, MOST_SEARCHERS, bounds_in, budget_in, edge_in, exact_in, form_in,
     generations_in, keep_all_in, manner_in, period_in, rle_in, searchers_in, seed_in,
 };
+use lls_base::Name;
 use lls_hensel::read_rule;
 use lls_problem::{Bounds, Demands, Edge, Form, Period};
 use lls_rule::Rule;
 use lls_symmetry::read_symmetry;
-use std::alloc::Global;
+use std::alloc::{AllocError, Global};
+
+/// A file that an option names.
+#[derive(Drop)]
+pub struct NamedFile {
+    /// The place of the option's word, from 1.
+    pub place: u64,
+    pub file: Name,
+}
 
 /// The values of all options.
 #[derive(Drop)]
@@ -31,6 +40,8 @@ pub struct Settings {
     pub low: Rule,
     pub high: Rule,
     pub demands: Demands,
+    /// The file of patterns that generation 0 mustn't be, where there is one.
+    pub but: Option<NamedFile>,
     pub budget: u32,
     pub keep_all: bool,
     pub rle: bool,
@@ -55,6 +66,7 @@ impl Settings {
             low: life,
             high: life,
             demands: Demands::new(alloc, Edge::Framed),
+            but: None,
             budget: DEFAULT_BUDGET,
             keep_all: false,
             rle: false,
@@ -88,6 +100,13 @@ impl Settings {
             Setting::Differ => {
                 settings.demands.differ = Some(generations_in(value).ok_or(fault)?);
             }
+            Setting::But => {
+                let file = name_in(alloc, given.value)?;
+                settings.but = Some(NamedFile {
+                    place: given.place,
+                    file,
+                });
+            }
             Setting::Budget => settings.budget = budget_at(given.place, value)?,
             Setting::Keep => settings.keep_all = keep_all_in(value).ok_or(fault)?,
             Setting::Manner => settings.further.manner = Some(manner_in(value).ok_or(fault)?),
@@ -98,6 +117,13 @@ impl Settings {
         }
         Ok(settings)
     }
+}
+
+// The name of a file.
+fn name_in(alloc: Global, text: &str) -> Result<Name, AllocError>
+    ensures { IfOk result (λ name. name ≡ text.now) }
+{
+    Ok(Name::new(String::from_str(alloc, text)?))
 }
 
 /// The rule of a text; the place is its option's, or its own where it is an operand.

@@ -1,9 +1,10 @@
 use Rattle.lls_cli.specs.declared.task.Task.TheVariants as tasks
+use Rattle.lls_cli.proofs.Ending.{reads_subject}
 use Rattle.lls_cli.proofs.run.run_task.Goals as goal
 
 pub returns-in-Check-clause-end : goal.returns-in-Check-clause-end
 returns-in-Check-clause-end g c =
-    rw c.in-Check.is (c.give_read.ensures.end (tasks.Check c.in-Check.source c.in-Check.proof) _ tt c.answer_check-answer.ensures)
+    rw c.in-Check.is (c.give_read.ensures.end (tasks.Check c.in-Check.source c.in-Check.proof) _ (reads_subject c.in-Check.source _) c.answer_check-answer.ensures)
 
 pub returns-in-Judge-clause-end : goal.returns-in-Judge-clause-end
 returns-in-Judge-clause-end g c =
@@ -11,7 +12,7 @@ returns-in-Judge-clause-end g c =
 
 pub returns-in-Encode-clause-end : goal.returns-in-Encode-clause-end
 returns-in-Encode-clause-end g c =
-    rw c.in-Encode.is (c.give_read-in-Encode.ensures.end (tasks.Encode c.in-Encode.source) _ tt c.answer_encode-answer.ensures)
+    rw c.in-Encode.is (c.give_read-in-Encode.ensures.end (tasks.Encode c.in-Encode.source) _ (reads_subject c.in-Encode.source _) c.answer_encode-answer.ensures)
 
 pub returns-in-Trim-clause-end : goal.returns-in-Trim-clause-end
 returns-in-Trim-clause-end g c =

@@ -6,13 +6,13 @@ use Rattle.lls_cli.proofs.task.task_of.Goals as goal
 pub returns-in-Search-clause-kept : goal.returns-in-Search-clause-kept
 returns-in-Search-clause-kept c =
     let keeps = subst KeepsLimits c.in-Search.is c.requires in
-    rw (c.new-problem-in-Search.ensures, c.new-effort.ensures, c.further_of.ensures)
+    rw (c.new-effort.ensures, c.further_of.ensures)
     (record { limits = keeps.0.demanded; printable = keeps.0.isotropic; budget = keeps.0.budgeted; crew = crew_kept _ keeps.1 })
 
 pub returns-in-Loose-clause-kept : goal.returns-in-Loose-clause-kept
 returns-in-Loose-clause-kept c =
     let keeps = subst KeepsLimits c.in-Loose.is c.requires in
-    rw (c.new-problem-in-Loose.ensures, c.new-effort-in-Loose.ensures, c.further_of-in-Loose.ensures)
+    rw (c.new-effort-in-Loose.ensures, c.further_of-in-Loose.ensures)
     (record { limits = keeps.0; printable = tt; budget = keeps.1; crew = λ plan is. absurd cc })
 
 pub returns-in-Sat-clause-kept : goal.returns-in-Sat-clause-kept

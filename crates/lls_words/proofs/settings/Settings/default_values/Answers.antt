@@ -1,4 +1,4 @@
-use Rattle.std.proofs.Common.{sym, subst, arith}
+use Rattle.std.proofs.Common.{refl, sym, subst, arith}
 use Rattle.std.proofs.lemmas.Option.{none-some}
 use Rattle.lls_problem.specs.declared.demands.Edge.TheVariants.{Framed}
 use Rattle.lls_problem.specs.Problem.{edge_alone}
@@ -12,6 +12,7 @@ edge_alone-within : AreWithinLimits (edge_alone Framed)
 edge_alone-within = record {
   period = λ period same. absurd (none-some period same);
   bounds = λ k d inside. absurd (omega (arith, inside));
+  unlisted = refl;
 }
 
 pub returns-clause-allowed : goal.returns-clause-allowed
