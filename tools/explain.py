@@ -26,6 +26,7 @@ MEANINGS = {
     "period": "P or P,DX,DY without blanks, P from 1 to 63, DX and DY from -64 to 64",
     "live": "T:LOW-HIGH with commas between, T from 0 to 63, LOW and HIGH from 0 to 8192 or left out, as 0:1-,2:-7",
     "differ": "A,B, two generations from 0 to 63",
+    "but": "the name of a file of patterns",
 }
 CELL = re.compile(rb"(?:[01*]|-?[A-Za-z][A-Za-z0-9]{0,31})'?")
 # the most bytes of a file that are looked at for its kind and its rows; no search file has more
@@ -56,7 +57,8 @@ class Line:
 
     def files(self):
         """The files that are named, each as its kind and its name."""
-        return [(kind, word) for kind, (_, word) in zip(self.names, self.operands) if kind not in spoken.VALUES]
+        named = [(kind, word) for kind, (_, word) in zip(self.names, self.operands) if kind not in spoken.VALUES]
+        return named + ([("list", self.value("but"))] if self.value("but") else [])
 
     def outputs(self):
         return [(kind, name) for kind, name in self.files() if kind in spoken.OUTPUTS.get(self.command, [])]
@@ -484,6 +486,34 @@ def demand_fault(line, name, fault, numbers):
     return f"--live {line.value('live')} needs {numbers[0]} variables for counting, and 1000000 are the most; lower numbers need fewer"
 
 
+def list_fault(line, fault, numbers):
+    """Why a list of patterns isn't one of the grid's size."""
+    name = line.value("but")
+    at = f"{name}:{numbers[0]}"
+    if line.value("as") != "rle" and looks(head_of(name)) == "RLE":
+        return f"{name} looks like RLE, which is read with --as rle"
+    if fault == "Width":
+        return f"{at}: a row of the grid has {some(numbers[1], 'cell')}, and this one has {numbers[2]}"
+    if fault == "Height":
+        return f"{at}: a pattern has {some(numbers[1], 'row')}, and this one has {numbers[2]} before an empty line ends it"
+    if fault == "NotPlain":
+        return f"{at}: cell {numbers[1]} of the row, counted from 0, isn't 0 or 1: a pattern has no unknown cell, no name and no mark"
+    if fault == "TooMany":
+        return f"{name} has {numbers[0]} patterns or more, and {numbers[0] - 1} are the most"
+    return rows_fault(name, fault, numbers)
+
+
+def picture_fault(line, count, fault, numbers):
+    """Why a picture of a list isn't read."""
+    name = line.value("but")
+    if fault == "NoHeader":
+        if looks(head_of(name)) == "rows":
+            return f"{name} looks like rows of cells, which are read without --as rle"
+        return f"{name} has {some(count, 'picture')}, and then a line that is no comment and no header, as x = 3, y = 3"
+    why = rle_fault(name, fault, numbers)
+    return why if fault == "BadTag" else f"{why}: that is picture {count}, counted from 0"
+
+
 ROWS = ("NotAscii", "BadCell", "TooWide", "TooMany", "Ragged", "TooHigh", "Sizes", "TooManyCells", "Empty")
 DEMANDS = ("NotSquare", "NoGeneration", "BoundsCross", "PeriodTooLong", "Counters")
 
@@ -492,6 +522,8 @@ def of_content(line, fault, numbers, is_limit=False):
     (kind, name), (second, pattern) = (line.inputs() + [("", "")])[:2]
     if fault in DEMANDS:
         return demand_fault(line, name, fault, numbers)
+    if fault.startswith("List"):
+        return list_fault(line, fault.removeprefix("List"), numbers)
     if fault == "NotPlain":
         return not_plain(pattern, *numbers)
     is_rle = second == "pattern" and line.value("as") == "rle"
@@ -566,11 +598,15 @@ CLASSES = {2: ("words", of_words), 3: ("content", of_content), 4: ("outside", of
 def explanation(status, said, words):
     """The explanation of what the program said, or None where there is none."""
     name, explain = CLASSES.get(status, ("", None))
-    found = re.fullmatch(rf"lls: {name}: ([A-Za-z]+)((?: -?[0-9]+)*)", said)
+    found = re.fullmatch(rf"lls: {name}: (ListPicture [0-9]+ )?([A-Za-z]+)((?: -?[0-9]+)*)", said)
     if not explain or not found:
         return None
+    numbers = [int(number) for number in found.group(3).split()]
     try:
-        why = explain(Line(words), found.group(1), [int(number) for number in found.group(2).split()])
+        if found.group(1):
+            why = picture_fault(Line(words), int(found.group(1).split()[1]), found.group(2), numbers)
+        else:
+            why = explain(Line(words), found.group(2), numbers)
     except (AttributeError, IndexError, KeyError, OSError, TypeError, ValueError):
         # The file or the words aren't those that the program spoke of: there is nothing to add.
         return None

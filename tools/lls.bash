@@ -1,13 +1,13 @@
 # Completion of lls's words in bash: `. tools/lls.bash`, or a link to it in ~/.local/share/bash-completion/completions/lls.
 # It serves `lls` and `./lls`.
 
-_lls_demands='--edge --symmetry --period --exact --live --differ'
+_lls_demands='--edge --symmetry --period --exact --live --differ --but'
 
 # The options that a command takes.
 _lls_options() {
     case $1 in
-    check | cnf) echo "--rule $_lls_demands --formula" ;;
-    opencheck) echo "--low --high $_lls_demands --formula" ;;
+    check | cnf) echo "--rule $_lls_demands --as --formula" ;;
+    opencheck) echo "--low --high $_lls_demands --as --formula" ;;
     judge) echo "--rule $_lls_demands --as" ;;
     search) echo "--rule $_lls_demands --budget --keep --manner --as --formula --crew --turns" ;;
     least | most) echo "--rule $_lls_demands --budget --keep --manner --as --formula" ;;

@@ -5,7 +5,8 @@
 
 For each K below COUNT, FOLDER gets K.lls, a search file; K.words, the options of `lls`, one word a line; K.script, the
 words of formula.py behind the search file, one a line; K.form, the option that names a form of the formula, for both, or
-nothing; and K.crew, the options of a search by several searchers, or nothing. Rules are in B/S notation, and every demand fits its file.
+nothing; K.crew, the options of a search by several searchers, or nothing; and K.list, patterns of the grid's size, perhaps none, which both
+lists of words may name. Rules are in B/S notation, and every demand fits its file.
 """
 import os
 import random
@@ -73,6 +74,13 @@ def exact(choose):
     return choose.choice([[], ["--exact=yes"], ["--exact=yes"], ["--exact=no"]])
 
 
+def patterns(text, choose):
+    """A few patterns of a search file's size; drawn by itself too. None is named where there is no `--but`."""
+    rows = text.split("\n\n")[0].strip().split("\n")
+    pattern = lambda: "\n".join(" ".join(choose.choice("01") for _ in row.split()) for row in rows)
+    return "\n\n".join(pattern() for _ in range(choose.choice([0, 1, 1, 2, 5, 40])))
+
+
 def lines(words):
     return "".join(f"{word}\n" for word in words)
 
@@ -80,10 +88,15 @@ def lines(words):
 def main():
     seed, count, folder = ending.words(__doc__, "SEED", "COUNT", "FOLDER")
     random.seed(ending.number(seed, "SEED"))
-    choose, exactly = (random.Random(ending.number(seed, "SEED")) for _ in range(2))
+    choose, exactly, other = (random.Random(ending.number(seed, "SEED")) for _ in range(3))
     for k in range(ending.number(count, "COUNT")):
-        text, *lists = *problem(exact(exactly)), crew(choose)
-        for name, content in zip(("lls", "words", "script", "form", "crew"), (text, *map(lines, lists))):
+        text, words, script, form = problem(exact(exactly))
+        listed = patterns(text, other)
+        if listed:
+            path = os.path.join(folder, f"{k}.list")
+            words, script = [*words, f"--but={path}"], [*script, f"--but={path}"]
+        contents = text, *map(lines, (words, script, form, crew(choose))), listed + "\n"
+        for name, content in zip(("lls", "words", "script", "form", "crew", "list"), contents):
             with open(os.path.join(folder, f"{k}.{name}"), "w") as file:
                 file.write(content)
 

@@ -2,7 +2,7 @@
 """Makes the formula of a small search file and an LRAT proof of its absence, by plain splitting.
 
     refute.py SEARCH BIRTHS SURVIVALS closed|open [--symmetry NAME] [--period N] [--shift DX,DY] [--live T:LOW-HIGH,..]
-        [--differ A,B] [--exact yes|no] [--formula 1|2] [--define V,W]
+        [--differ A,B] [--exact yes|no] [--but LIST] [--formula 1|2] [--define V,W]
 
 BIRTHS and SURVIVALS are digits, or `-` for none. LOW and HIGH may be left out. Form 2 of the formula, by cover, is the default. With
 V and W the proof begins with a variable of its own, which is true just where both of these are, and splits on it first. The proof goes to the standard output, the sizes of the formula to the
@@ -100,7 +100,7 @@ def opposite(place):
 class Formula:
     """The clauses of a search file, in the order of docs/definitions.md."""
 
-    def __init__(self, generations, successor, closed, form=2, symmetry="C1", period=None, shift=(0, 0), live=(), differ=None, exact=False):
+    def __init__(self, generations, successor, closed, form=2, symmetry="C1", period=None, shift=(0, 0), live=(), differ=None, exact=False, listed=()):
         self.generations = generations
         self.height, self.width = len(generations[0]), len(generations[0][0])
         self.count = len(generations) * self.height * self.width
@@ -126,6 +126,8 @@ class Formula:
             for prime in primes(period):
                 if all(number % prime == 0 for number in (period, *shift)):
                     self.push_unseen(period // prime, *(number // prime for number in shift))
+        for pattern in listed:
+            self.clauses.append([-k if live else k for k, live in enumerate(pattern, 1)])
 
     def variable(self, t, y, x):
         return 1 + x + self.width * (y + self.height * t)
@@ -343,6 +345,12 @@ def bounds(text):
     return found
 
 
+def patterns_in(name):
+    """The patterns of a list, each its cells row by row."""
+    with open(name, encoding="ascii") as file:
+        return [[word == "1" for row in rows for word in row] for rows in read_search_file(file.read())]
+
+
 def parser_of(description):
     """What reads the words that name a search file and the demands on it."""
     parser = argparse.ArgumentParser(description=description, formatter_class=argparse.RawDescriptionHelpFormatter)
@@ -356,6 +364,7 @@ def parser_of(description):
     parser.add_argument("--live", type=bounds, default=())
     parser.add_argument("--differ", type=pair)
     parser.add_argument("--exact", choices=("yes", "no"), default="no")
+    parser.add_argument("--but", type=patterns_in, default=())
     parser.add_argument("--formula", type=int, choices=(1, 2), default=2)
     return parser
 
@@ -369,7 +378,7 @@ def formula_of(words):
 
     with open(words.search, encoding="ascii") as file:
         generations = read_search_file(file.read())
-    demands = (words.symmetry, words.period, words.shift, words.live, words.differ, words.exact == "yes")
+    demands = (words.symmetry, words.period, words.shift, words.live, words.differ, words.exact == "yes", words.but)
     return Formula(generations, successor, words.edge == "closed", words.formula, *demands)
 
 

@@ -1,10 +1,11 @@
 #!/usr/bin/env python3
 """Says whether a small search file has a solution, by trying all histories.
 
-    solutions.py SEARCH [--rule=B../S..] [--edge=..] [--symmetry=..] [--period=P,DX,DY] [--live=..] [--differ=A,B] [--exact=yes|no] [--least|--most]
+    solutions.py SEARCH [--rule=B../S..] [--edge=..] [--symmetry=..] [--period=P,DX,DY] [--live=..] [--differ=A,B] [--exact=yes|no] [--but=LIST]
+        [--least|--most|--all]
 
-Prints `yes` or `no`; with `--least` the fewest live cells that a solution has in generation 0, with `--most` the most, or `no`. It tries every first generation
-and every value of a marked cell; the other cells follow by the rule.
+Prints `yes` or `no`; with `--least` the fewest live cells that a solution has in generation 0, with `--most` the most, or `no`; with `--all` generation 0 of
+each, once, as rows with an empty line between. It tries every first generation and every value of a marked cell; the other cells follow by the rule.
 """
 import itertools
 
@@ -24,6 +25,12 @@ GENERATORS["D4x"] = GENERATORS["D2\\"] + GENERATORS["D2/"]
 GENERATORS["D8"] = GENERATORS["C4"] + GENERATORS["D2|"]
 
 
+def generations_in(text):
+    """The generations of a list, each its rows of 0 and 1."""
+    parts = [[row for row in part.split("\n") if row and not row.startswith("#")] for part in text.split("\n\n")]
+    return [[[int(word) for word in row.replace(",", " ").split()] for row in part] for part in parts if part]
+
+
 class Problem:
     def __init__(self, text, words):
         options = dict(word[2:].split("=", 1) for word in words)
@@ -35,6 +42,10 @@ class Problem:
         self.bounds = [bound.replace(":", "-").split("-") for bound in options["live"].split(",")] if "live" in options else []
         self.differ = [int(n) for n in options["differ"].split(",")] if "differ" in options else None
         self.exact = options.get("exact") == "yes"
+        self.listed = []
+        if "but" in options:
+            with open(options["but"], encoding="ascii") as file:
+                self.listed = generations_in(file.read())
         self.cells = [[row.replace(",", " ").split() for row in part.split("\n")] for part in text.strip().split("\n\n")]
         self.count, self.height, self.width = len(self.cells), len(self.cells[0]), len(self.cells[0][0])
         self.grounds = [0]
@@ -106,7 +117,9 @@ class Problem:
                 return False
         if self.differ and history[self.differ[0]] == history[self.differ[1]]:
             return False
-        return not (self.exact and any(self.is_there(history, part) for part in self.parts()))
+        if self.exact and any(self.is_there(history, part) for part in self.parts()):
+            return False
+        return [list(row) for row in history[0]] not in self.listed
 
     def parts(self):
         """The shorter periods along the same line, by each divisor that is a prime."""
@@ -125,11 +138,14 @@ class Problem:
 
 def main():
     name, *options = ending.words(__doc__, "SEARCH", "OPTION..")
-    ends = [option for option in options if option in ("--least", "--most")]
+    ends = [option for option in options if option in ("--least", "--most", "--all")]
     with open(name, encoding="utf-8") as file:
         problem = Problem(file.read(), [option for option in options if option not in ends])
     solutions = filter(problem.is_solution, problem.histories([]))
-    if ends:
+    if ends == ["--all"]:
+        found = dict.fromkeys(tuple(map(tuple, history[0])) for history in solutions)
+        print("\n\n".join("\n".join(" ".join(map(str, row)) for row in rows) for rows in found))
+    elif ends:
         end = min if ends == ["--least"] else max
         print(end((sum(map(sum, history[0])) for history in solutions), default="no"))
     else:

@@ -576,7 +576,7 @@ class Completion(unittest.TestCase):
         self.assertEqual(self.replies("op"), ["open", "opencheck"])
         self.assertEqual(self.replies("tr"), ["trim"])
         self.assertEqual(self.replies("opencheck", "a.lls", "--h"), ["--high"])
-        self.assertEqual(self.replies("opencheck", "a.lls", "--b"), [])
+        self.assertEqual(self.replies("opencheck", "a.lls", "--b"), ["--but"])
         self.assertEqual(self.replies("search", "a.lls", "--cr"), ["--crew"])
         self.assertEqual(self.replies("least", "a.lls", "--cr"), [])
         self.assertEqual(self.replies("open", "a.lls", "--low", "B36"), ["B36/S23", "B368/S245"])

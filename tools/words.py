@@ -17,7 +17,7 @@ import sys
 
 import ending
 
-DEMANDS = ["edge", "symmetry", "period", "exact", "live", "differ"]
+DEMANDS = ["edge", "symmetry", "period", "exact", "live", "differ", "but"]
 PROBLEM = ["rule"] + DEMANDS
 FORMED = PROBLEM + ["formula"]
 # a problem whose rule is left open between two
@@ -25,10 +25,10 @@ OPEN = ["low", "high"] + DEMANDS + ["formula"]
 EFFORT = ["budget", "keep", "manner"]
 CREW = ["crew", "turns"]
 COMMANDS = {
-    "check": (["search", "proof"], FORMED),
+    "check": (["search", "proof"], FORMED + ["as"]),
     "search": (["search", "proof"], FORMED + EFFORT + ["as"] + CREW),
     "judge": (["search", "pattern"], PROBLEM + ["as"]),
-    "cnf": (["search"], FORMED),
+    "cnf": (["search"], FORMED + ["as"]),
     "sat": (["formula", "proof"], EFFORT),
     "lrat": (["formula", "proof"], []),
     "rule": (["text"], []),
@@ -36,7 +36,7 @@ COMMANDS = {
     "least": (["search", "proof"], FORMED + EFFORT + ["as"]),
     "most": (["search", "proof"], FORMED + EFFORT + ["as"]),
     "open": (["search", "proof"], OPEN + EFFORT + ["as"]),
-    "opencheck": (["search", "proof"], OPEN),
+    "opencheck": (["search", "proof"], OPEN + ["as"]),
     "trim": (["formula", "proof", "output"], []),
 }
 # the operands that are written, none of which may have the name of a file before it
@@ -186,6 +186,8 @@ def between(low, high):
 
 def value(place, option, text):
     """What the value of an option or an operand says."""
+    if option == "but":
+        return text
     if option in RULES:
         fault = rule_fault(text)
         if fault:
@@ -254,6 +256,8 @@ def job(words):
         if name in OUTPUTS.get(words[0], []) and text in before:
             raise Fault(f"SameName {place}")
         before += [text] if name not in VALUES else []
+    if "but" in given and OUTPUTS.get(words[0]) and given["but"][1] == operands[-1][1]:
+        raise Fault(f"SameName {given['but'][0]}")
     if "low" in options:
         between(values.get("low", LIFE), values.get("high", LIFE))
     return words[0], values
@@ -277,6 +281,7 @@ GOOD = {
     "period": ["1", "63", "4,1,-1", "04,-64,64", "2,0,0", "00000000000000000007"],
     "live": ["0:1-2", "0:-", "63:-8192", "0:1-,2:-7", "1:3-2"],
     "differ": ["0,1", "63,0", "5,5"],
+    "but": ["no/a", "no/b", "no/list"],
     "budget": ["0", "10000000", "7", "00000000000000000100"],
     "crew": ["1", "16", "3", "00000000000000000016"],
     "turns": SEEDS,
@@ -303,6 +308,8 @@ BAD = {
     "manner": ["calm", "Both"],
     "as": ["RLE", "row"],
     "exact": ["Yes", "1", "yes,no"],
+    # any name of a file will do
+    "but": ["no/0", "no/-"],
 }
 ODD = ["", "-", "--", "-x", "-4", "---", "--best", "--best=1", "--=x", "--edge=", "--rule=-", "--help", "--edge", "--keep"]
 
