@@ -19,7 +19,7 @@ use Rattle.lls_solver.specs.Searching.{SearcherState, additions, ids_of, HasLear
 use Rattle.lls_solver.specs.Sharing.{AreLiveSteps, HoldsFirst, IsBehind}
 use Rattle.lls_analyse.specs.Spelled.{Spells}
 use Rattle.lls_solver.proofs.Clauses.{spells_ids}
-use Rattle.lls_solver.proofs.Start.{good_none}
+use Rattle.lls_solver.proofs.Unbegun.{good_none}
 use Rattle.lls_solver.proofs.Sharing.{behind_grown, behind_searching, first_grown, first_searching}
 use Rattle.lls_crew.specs.declared.stage.Stage.{Stage}
 use Rattle.lls_crew.specs.declared.stage.Stage.TheVariants.{Going, Ended, Failed}

@@ -5,7 +5,7 @@ ghost use Rattle.lls_solver.specs.Searching.{IsSearching};
 use crate::searchers::MOST_SEARCHERS;
 use lls_base::Memory;
 use lls_cnf::Formula;
-use lls_solver::{Manner, Searcher};
+use lls_solver::{Manner, Searcher, Start};
 use lls_watch::WatchStore;
 use std::alloc::Global;
 
@@ -33,7 +33,11 @@ fn searcher(alloc: Global, formula: &Formula, k: u32) -> Result<Searcher<WatchSt
     let vars = formula.vars();
     let phases = vec![in alloc; k / 2 % 2 != k % 2; vars as usize]?;
     let store = WatchStore::new(alloc, vars)?;
-    let mut searcher = Searcher::new(alloc, store, formula, &phases, manner(k))?;
+    let start = Start {
+        phases: &phases,
+        first: None,
+    };
+    let mut searcher = Searcher::new(alloc, store, formula, start, manner(k))?;
     searcher.begin_at(vars / MOST_SEARCHERS * (k % MOST_SEARCHERS));
     Ok(searcher)
 }

@@ -5,12 +5,15 @@ ghost use Rattle.lls_lit.specs.Formula.{is_literal_of, is_within};
 use lls_cnf::{Formula, MOST_DIMACS_BYTES, holds, read_dimacs};
 use lls_lit::{Lit, Var};
 use lls_prooflog::{Log, print_log};
-use lls_solver::{MOST_BUDGET, Manner, Manners, Outcome, solve_from};
+use lls_solver::{Approach, MOST_BUDGET, Manner, Manners, Outcome, solve_from};
 use std::alloc::Global;
 use std::process::Abort;
 use std::test::Fail;
 
-const RESTLESS: Manners = Manners::Alone(Manner::Restless);
+const RESTLESS: Approach = Approach {
+    manners: Manners::Alone(Manner::Restless),
+    first: None,
+};
 
 // A formula, the values that its variables begin with, the budget and whether all learnt clauses are kept; the values of the
 // assignment that is found, if there is one, and the log.

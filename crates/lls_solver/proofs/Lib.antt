@@ -10,7 +10,7 @@ pub mod Below
 pub mod Sharing
 mod Ids
 mod Unlearnt
-pub mod Start
+pub mod Unbegun
 pub mod Outcomes
 pub mod Forgotten
 pub mod ForgottenTogether

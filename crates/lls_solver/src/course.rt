@@ -1,8 +1,8 @@
 // What is decided next, and what is undone.
-ghost use Rattle.std.specs.Prelude.{◌≡◌, ◌<◌, ◌≤◌, [], length, replicate, true, false, EachIndex, IfOk, IfSome, IfNone, IsSome, IsTrue, nat_lt};
+ghost use Rattle.std.specs.Prelude.{◌≡◌, ◌<◌, ◌≤◌, [], length, true, false, IfOk, IfSome, IfNone, IsSome, IsTrue, nat_lt};
 ghost use Rattle.std.specs.Option.{option_map_or};
 ghost use Rattle.lls_lit.specs.Literal.{variable_of};
-ghost use Rattle.lls_lit.specs.Formula.{is_within, value_at};
+ghost use Rattle.lls_lit.specs.Formula.{is_within};
 ghost use Rattle.lls_store.specs.Trail.{IsTrail, entry_of, level_of};
 ghost use Rattle.lls_store.specs.Closed.{IsClosed};
 ghost use Rattle.lls_store.specs.Sound.{IsSound};
@@ -13,6 +13,7 @@ ghost use Rattle.lls_analyse.specs.Valued.{HaveValues};
 ghost use Rattle.lls_solver.specs.Course.{IsDecision, IsNext, IsOnCourse, AreWaiting, AllSet};
 
 use crate::manner::Manner;
+use crate::start::{Start, begin_at, order_of, phases_of};
 use lls_base::Memory;
 use lls_lit::{Lit, Var};
 use lls_order::EitherOrder;
@@ -49,11 +50,11 @@ impl Model for Course {
 }
 
 impl Course {
-    /// No variable has a value. The first decision of each gives it the value that stands here, by variable, and false past the end.
+    /// No variable has a value.
     pub(crate) fn new(
         alloc: Global,
         vars: u32,
-        phases: &[bool],
+        start: Start,
         manner: Manner,
     ) -> Result<Course, Memory>
         requires { vars ≤ Var.MOST }
@@ -64,8 +65,8 @@ impl Course {
         let _level = trail.current();
         Ok(Course {
             trail,
-            order: order_of(alloc, vars, manner)?,
-            phases: first_phases(alloc, vars, phases)?,
+            order: order_of(alloc, vars, manner, start.first)?,
+            phases: phases_of(alloc, vars, start)?,
             bumped: vec![in alloc; 0; vars as usize]?,
             conflict: 1,
             effort: 0,
@@ -148,11 +149,7 @@ impl Course {
     pub(crate) fn begin_at(&mut self, first: u32)
         ensures { self.new ≡ self.old }
     {
-        for n in (first..self.order.vars() + 1).rev() {
-            if let Some(var) = Var::from_number(n) {
-                self.order.bump(var);
-            }
-        }
+        begin_at(&mut self.order, first);
     }
 
     /// Goes back to where the next variable would be decided otherwise than it was: the levels stay whose decisions would be the
@@ -202,18 +199,6 @@ impl Course {
     }
 }
 
-// The order by which a searcher of this manner decides.
-fn order_of(alloc: Global, vars: u32, manner: Manner) -> Result<EitherOrder, Memory>
-    requires { vars ≤ Var.MOST }
-    ensures vars { IfOk result (λ order. order.order.vars ≡ vars) }
-    ensures inside { IfOk result (λ order. order.order.inside ≡ replicate vars true) }
-{
-    match manner {
-        Manner::Restless => EitherOrder::queue(alloc, vars),
-        Manner::Steady => EitherOrder::heap(alloc, vars),
-    }
-}
-
 // Bumps a variable where it wasn't bumped at this conflict.
 fn bump_once(order: &mut EitherOrder, bumped: &mut [u32], conflict: u32, var: Var)
     requires within { var ≤ order.old.order.vars }
@@ -226,18 +211,6 @@ fn bump_once(order: &mut EitherOrder, bumped: &mut [u32], conflict: u32, var: Va
         bumped[var.index()] = conflict;
         order.bump(var);
     }
-}
-
-// So many values, by variable: those that are given, and false past their end.
-fn first_phases(alloc: Global, vars: u32, given: &[bool]) -> Result<Vec<bool>, Memory>
-    ensures len { IfOk result (λ phases. length phases.items ≡ vars) }
-    ensures values { IfOk result (λ phases. EachIndex phases.items (λ n. value_at phases.items n ≡ value_at given.now n)) }
-{
-    let mut phases = Vec::with_capacity(alloc, vars as usize)?;
-    for n in 0..vars as usize {
-        phases.push(n < given.len() && given[n])?;
-    }
-    Ok(phases)
 }
 
 // Puts the variables whose values go with the levels above this one back into the order, and keeps their values for the

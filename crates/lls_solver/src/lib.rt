@@ -17,10 +17,12 @@ mod rare_restarts;
 mod restarts;
 mod searcher;
 mod solving;
+mod start;
 mod turns;
 mod values;
 
-pub use manner::{Manner, Manners};
+pub use manner::{Approach, Manner, Manners};
 pub use outcome::Outcome;
 pub use searcher::{Searcher, Turn};
 pub use solving::{MOST_BUDGET, solve, solve_from};
+pub use start::Start;

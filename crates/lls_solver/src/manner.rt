@@ -18,3 +18,11 @@ pub enum Manners {
     /// A restless and a steady one by turns, each with clauses and a log of its own. What ends first is the answer, whichever that is.
     Both,
 }
+
+/// How a formula is searched where the contracts leave it free.
+#[derive(Clone, Copy, Debug, PartialEq, Eq)]
+pub struct Approach {
+    pub manners: Manners,
+    /// A number from which it is drawn what is decided first, where one is said.
+    pub first: Option<u64>,
+}

@@ -19,6 +19,7 @@ use crate::loading::load;
 use crate::manner::Manner;
 use crate::policy::Policy;
 use crate::solving::MOST_BUDGET;
+use crate::start::Start;
 use crate::values::values_of;
 use lls_analyse::Analyser;
 use lls_base::Memory;
@@ -71,23 +72,37 @@ impl<S: Store> Model for Searcher<S> {
 }
 
 impl<S: Store + Drop> Searcher<S> {
-    /// A searcher over the clauses of a formula, which are added to an empty store. Its first decisions go towards these values, by
-    /// variable, and towards false past their end.
+    /// A searcher over the clauses of a formula, which are added to an empty store.
     pub fn new(
         alloc: Global,
         mut store: S,
         formula: &Formula,
-        phases: &[bool],
+        start: Start,
         manner: Manner,
     ) -> Result<Searcher<S>, Memory>
         requires store { S.state store ≡ empty_store formula.now.vars }
         requires tracked { S.tracks store (empty_trail formula.now.vars) }
         ensures { IfOk result (λ searcher. IsSearching formula.now [] searcher.store searcher.trail) }
     {
-        let vars = formula.vars();
-        let course = Course::new(alloc, vars, phases, manner)?;
-        let analyser = Analyser::new(alloc, vars)?;
+        let course = Course::new(alloc, formula.vars(), start, manner)?;
         load(&mut store, &course.trail, formula)?;
+        Searcher::over(alloc, store, course, formula, manner)
+    }
+
+    // A searcher over a store that is loaded, and a course that hasn't begun.
+    fn over(
+        alloc: Global,
+        store: S,
+        course: Course,
+        formula: &Formula,
+        manner: Manner,
+    ) -> Result<Searcher<S>, Memory>
+        requires tracked { S.tracks store course }
+        requires vars { (S.state store).vars ≡ formula.now.vars }
+        ensures { IfOk result (λ searcher. searcher ≡ record { store = S.state store; trail = course }) }
+    {
+        let vars = formula.vars();
+        let analyser = Analyser::new(alloc, vars)?;
         let policy = Policy::new(alloc, vars, store.count() as usize, manner)?;
         Ok(Searcher {
             store,

@@ -2,9 +2,10 @@
 ghost use Rattle.std.specs.Prelude.{◌≡◌, ◌≤◌, [], IfOk, Ok, true, false};
 ghost use Rattle.lls_solver.specs.Searching.{IsOutcome, IsSearching, IsUnderWay};
 
-use crate::manner::{Manner, Manners};
+use crate::manner::{Approach, Manner, Manners};
 use crate::outcome::Outcome;
 use crate::searcher::Searcher;
+use crate::start::Start;
 use crate::turns::{Ended, begin, race, take_turns};
 use lls_base::Memory;
 use lls_cnf::Formula;
@@ -33,11 +34,15 @@ pub fn solve(
     requires budget { budget ≤ MOST_BUDGET }
     ensures { IsOutcome formula.now budget keep_all log.new.steps result }
 {
-    solve_from(
+    let start = Start {
+        phases: &[],
+        first: None,
+    };
+    search_alone(
         alloc,
         formula,
-        &[],
-        Manners::Alone(Manner::Restless),
+        start,
+        Manner::Restless,
         budget,
         keep_all,
         log,
@@ -51,7 +56,7 @@ pub fn solve_from(
     alloc: Global,
     formula: &Formula,
     phases: &[bool],
-    manners: Manners,
+    approach: Approach,
     budget: u32,
     keep_all: bool,
     log: &mut Log,
@@ -60,15 +65,15 @@ pub fn solve_from(
     requires budget { budget ≤ MOST_BUDGET }
     ensures { IsOutcome formula.now budget keep_all log.new.steps result }
 {
-    let (manner, is_alone) = match manners {
-        Manners::Alone(manner) => (manner, true),
-        Manners::Both => (Manner::Restless, false),
+    let start = Start {
+        phases,
+        first: approach.first,
     };
-    let mut searcher = searcher_of(alloc, formula, phases, manner)?;
-    if is_alone {
-        take_turns(alloc, formula, &mut searcher, log, budget, keep_all)
-    } else {
-        search_by_both(alloc, formula, phases, &mut searcher, budget, keep_all, log)
+    match approach.manners {
+        Manners::Alone(manner) => {
+            search_alone(alloc, formula, start, manner, budget, keep_all, log)
+        }
+        Manners::Both => search_by_both(alloc, formula, start, budget, keep_all, log),
     }
 }
 
@@ -76,20 +81,55 @@ pub fn solve_from(
 fn searcher_of(
     alloc: Global,
     formula: &Formula,
-    phases: &[bool],
+    start: Start,
     manner: Manner,
 ) -> Result<Searcher<WatchStore>, Memory>
     ensures { IfOk result (λ searcher. IsSearching formula.now [] searcher.store searcher.trail) }
 {
     let store = WatchStore::new(alloc, formula.vars())?;
-    Searcher::new(alloc, store, formula, phases, manner)
+    Searcher::new(alloc, store, formula, start, manner)
 }
 
-// A restless searcher begins; where it takes long, or has spent its budget, a steady one comes to it.
-fn search_by_both<S: Store>(
+// One searcher goes on to its end.
+fn search_alone(
     alloc: Global,
     formula: &Formula,
-    phases: &[bool],
+    start: Start,
+    manner: Manner,
+    budget: u32,
+    keep_all: bool,
+    log: &mut Log,
+) -> Result<Outcome, Memory>
+    requires none { log.old.steps ≡ [] }
+    requires budget { budget ≤ MOST_BUDGET }
+    ensures { IsOutcome formula.now budget keep_all log.new.steps result }
+{
+    let mut searcher = searcher_of(alloc, formula, start, manner)?;
+    take_turns(alloc, formula, &mut searcher, log, budget, keep_all)
+}
+
+// A restless searcher begins.
+fn search_by_both(
+    alloc: Global,
+    formula: &Formula,
+    start: Start,
+    budget: u32,
+    keep_all: bool,
+    log: &mut Log,
+) -> Result<Outcome, Memory>
+    requires none { log.old.steps ≡ [] }
+    requires budget { budget ≤ MOST_BUDGET }
+    ensures { IsOutcome formula.now budget keep_all log.new.steps result }
+{
+    let mut restless = searcher_of(alloc, formula, start, Manner::Restless)?;
+    begin_alone(alloc, formula, start, &mut restless, budget, keep_all, log)
+}
+
+// The restless searcher goes on, and where it takes long, or has spent its budget, a steady one comes to it.
+fn begin_alone<S: Store>(
+    alloc: Global,
+    formula: &Formula,
+    start: Start,
     restless: &mut Searcher<S>,
     budget: u32,
     keep_all: bool,
@@ -99,48 +139,57 @@ fn search_by_both<S: Store>(
     requires budget { budget ≤ MOST_BUDGET }
     ensures { IsOutcome formula.now budget keep_all log.new.steps result }
 {
-    let is_spent = match begin(alloc, formula, restless, log, budget, keep_all)? {
-        Some(Outcome::Undecided) => true,
-        Some(decided) => return Ok(decided),
-        None => false,
-    };
-    add_steady(
-        alloc, formula, phases, restless, is_spent, budget, keep_all, log,
-    )
+    match begin(alloc, formula, restless, log, budget, keep_all)? {
+        None => add_steady(alloc, formula, start, restless, budget, keep_all, log),
+        Some(Outcome::Undecided) => end_steadily(alloc, formula, start, budget, keep_all, log),
+        Some(decided) => Ok(decided),
+    }
+}
+
+// A steady searcher takes the place of a restless one that spent its budget.
+fn end_steadily(
+    alloc: Global,
+    formula: &Formula,
+    start: Start,
+    budget: u32,
+    keep_all: bool,
+    log: &mut Log,
+) -> Result<Outcome, Memory>
+    requires spent { IsOutcome formula.now budget keep_all log.old.steps (Ok Outcome.Undecided) }
+    requires budget { budget ≤ MOST_BUDGET }
+    ensures { IsOutcome formula.now budget keep_all log.new.steps result }
+{
+    let mut steady = searcher_of(alloc, formula, start, Manner::Steady)?;
+    let mut own = Log::new(alloc);
+    end_by(alloc, formula, &mut steady, &mut own, budget, keep_all, log)
 }
 
 // A steady searcher comes to a restless one, and has a log of its own.
 fn add_steady<S: Store>(
     alloc: Global,
     formula: &Formula,
-    phases: &[bool],
+    start: Start,
     restless: &mut Searcher<S>,
-    is_spent: bool,
     budget: u32,
     keep_all: bool,
     log: &mut Log,
 ) -> Result<Outcome, Memory>
-    requires spent { is_spent ≡ true → IsOutcome formula.now budget keep_all log.old.steps (Ok Outcome.Undecided) }
-    requires under_way { is_spent ≡ false → IsUnderWay formula.now budget keep_all log.old.steps restless.old }
+    requires under_way { IsUnderWay formula.now budget keep_all log.old.steps restless.old }
     requires budget { budget ≤ MOST_BUDGET }
     ensures { IsOutcome formula.now budget keep_all log.new.steps result }
 {
-    let mut steady = searcher_of(alloc, formula, phases, Manner::Steady)?;
+    let mut steady = searcher_of(alloc, formula, start, Manner::Steady)?;
     let mut own = Log::new(alloc);
-    if is_spent {
-        end_by(alloc, formula, &mut steady, &mut own, budget, keep_all, log)
-    } else {
-        go_on_both(
-            alloc,
-            formula,
-            restless,
-            log,
-            &mut steady,
-            &mut own,
-            budget,
-            keep_all,
-        )
-    }
+    go_on_both(
+        alloc,
+        formula,
+        restless,
+        log,
+        &mut steady,
+        &mut own,
+        budget,
+        keep_all,
+    )
 }
 
 // Lets both go on until one of them has an answer. Who spends the budget leaves the other one alone.

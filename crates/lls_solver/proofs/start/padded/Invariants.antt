@@ -1,6 +1,6 @@
 use Rattle.std.proofs.Common.{◌≡◌, ℕ, ◌<◌, length}
 use Rattle.lls_lit.specs.Formula.{value_at}
-use Rattle.lls_solver.proofs.course.first_phases.Given as goal
+use Rattle.lls_solver.proofs.start.padded.Given as goal
 
 abbrev pub invariant-loop-n : goal.invariant-loop-n
 invariant-loop-n l = record {
