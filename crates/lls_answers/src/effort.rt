@@ -36,7 +36,7 @@ pub struct CrewPlan {
     pub seed: u64,
 }
 
-/// What a search is told besides. No answer's meaning depends on the last two.
+/// What a search is told besides. No answer's meaning depends on the last three.
 #[derive(Clone, Copy, Debug, PartialEq, Eq)]
 pub struct Further {
     /// Whether a solution is printed as RLE, and not as rows.
@@ -45,4 +45,6 @@ pub struct Further {
     pub crew: Option<CrewPlan>,
     /// In which manner it is made, where that is said and there is no crew.
     pub manners: Option<Manners>,
+    /// A number from which it is drawn what is decided first, where one is said and there is no crew.
+    pub first: Option<u64>,
 }

@@ -17,7 +17,7 @@ use crate::text::Text;
 use lls_base::Memory;
 use lls_crew::crew;
 use lls_prooflog::Log;
-use lls_solver::{Outcome, solve_from};
+use lls_solver::{Approach, Outcome, solve_from};
 use std::alloc::Global;
 
 // Searches for an assignment that satisfies the formula of what a search is about, by a crew or in a manner.
@@ -44,15 +44,21 @@ fn solve_by(
             seed,
             log,
         ),
-        None => solve_from(
-            alloc,
-            formula,
-            &[],
-            subject.manners(further.manners),
-            effort.budget,
-            effort.keep_all,
-            log,
-        ),
+        None => {
+            let approach = Approach {
+                manners: subject.manners(further.manners),
+                first: further.first,
+            };
+            solve_from(
+                alloc,
+                formula,
+                &[],
+                approach,
+                effort.budget,
+                effort.keep_all,
+                log,
+            )
+        }
     }
 }
 

@@ -5,6 +5,7 @@ use Rattle.lls_hensel.specs.Isotropy.{IsIsotropic}
 use Rattle.lls_words.specs.Job.{AreAllowed, AreOpen, AreWithinLimits}
 use Rattle.lls_words.specs.Values.{default_budget, most_budget, most_size}
 use Rattle.lls_words.specs.declared.crew_plan.CrewPlan as said_crews
+use Rattle.lls_words.specs.declared.further.Further as said_furthers
 use Rattle.lls_words.specs.declared.further.Manner as said_manners
 use Rattle.lls_words.specs.declared.further.Manner.TheVariants as said
 use Rattle.lls_solver.specs.declared.manner.Manner.TheVariants as searchers
@@ -35,8 +36,8 @@ manners_said said.Both = Both
 abbrev pub crew_said : said_crews.CrewPlan → CrewPlan
 crew_said crew = record { searchers = crew.searchers; seed = crew.seed }
 
-abbrev pub further_of : Bool → Option said_crews.CrewPlan → Option said_manners.Manner → Further
-further_of rle crew manner = record { rle = rle; crew = option_map crew_said crew; manners = option_map manners_said manner }
+abbrev pub further_of : Bool → Option said_crews.CrewPlan → said_furthers.Further → Further
+further_of rle crew said = record { rle = rle; crew = option_map crew_said crew; manners = option_map manners_said said.manner; first = said.first }
 
 -- the task of a job: a check, a search or another
 abbrev pub task_of : Job → Task
@@ -44,18 +45,18 @@ task_of (jobs.Check problem proof form) = tasks.Check (sources.Problem problem f
 task_of (jobs.LooseCheck problem high proof form) = tasks.Check (sources.Rules problem high form) proof
 task_of (jobs.Lrat formula proof) = tasks.Check (sources.Formula formula) proof
 task_of (jobs.Search problem proof form budget keep_all rle crew further) =
-    tasks.Search (sources.Problem problem form) (effort_of budget keep_all proof) (further_of rle crew further.manner)
+    tasks.Search (sources.Problem problem form) (effort_of budget keep_all proof) (further_of rle crew further)
 task_of (jobs.Loose problem high proof form budget keep_all rle further) =
-    tasks.Search (sources.Rules problem high form) (effort_of budget keep_all proof) (further_of rle None further.manner)
-task_of (jobs.Sat formula proof budget keep_all further) = tasks.Search (sources.Formula formula) (effort_of budget keep_all proof) (further_of false None further.manner)
+    tasks.Search (sources.Rules problem high form) (effort_of budget keep_all proof) (further_of rle None further)
+task_of (jobs.Sat formula proof budget keep_all further) = tasks.Search (sources.Formula formula) (effort_of budget keep_all proof) (further_of false None further)
 task_of (jobs.Judge problem pattern rle) = tasks.Judge problem pattern rle
 task_of (jobs.Cnf problem form) = tasks.Encode (sources.Problem problem form)
 task_of (jobs.Rule rule) = tasks.Print rule
 task_of (jobs.Make seed size file proof) = tasks.Make seed size file (effort_of default_budget false proof)
 task_of (jobs.Least problem proof form budget keep_all rle further) =
-    tasks.Extremal extremes.Fewest problem form (effort_of budget keep_all proof) (further_of rle None further.manner)
+    tasks.Extremal extremes.Fewest problem form (effort_of budget keep_all proof) (further_of rle None further)
 task_of (jobs.Most problem proof form budget keep_all rle further) =
-    tasks.Extremal extremes.Most problem form (effort_of budget keep_all proof) (further_of rle None further.manner)
+    tasks.Extremal extremes.Most problem form (effort_of budget keep_all proof) (further_of rle None further)
 task_of (jobs.Trim formula proof output) = tasks.Trim formula proof output
 
 abbrev pub tasked : Result Job WordsError → Result Task WordsError

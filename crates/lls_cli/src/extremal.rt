@@ -13,7 +13,7 @@ use lls_answers::{Asked, Effort, Status, Subject, absence_of};
 use lls_base::{Memory, Shelf, Sink};
 use lls_least::{Extremal, Extreme, extremal};
 use lls_outside::Outside;
-use lls_solver::Manners;
+use lls_solver::Approach;
 use std::alloc::Global;
 
 /// Searches a solution with the fewest live cells, or with the most, and gives what comes of it.
@@ -23,7 +23,7 @@ pub fn give_extremal<S: Shelf, O: Sink, E: Sink>(
     asked: Asked,
     effort: Effort,
     rle: bool,
-    manners: Manners,
+    approach: Approach,
     outside: &mut Outside<S, O, E>,
 ) -> Status
     requires room { LeavesRoom asked.problem }
@@ -37,7 +37,7 @@ pub fn give_extremal<S: Shelf, O: Sink, E: Sink>(
         &asked.problem,
         extreme,
         asked.form,
-        manners,
+        approach,
         effort.budget,
         effort.keep_all,
     ) {

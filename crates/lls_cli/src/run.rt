@@ -29,6 +29,7 @@ use lls_least::Extreme;
 use lls_outside::Outside;
 use lls_problem::Form;
 use lls_rule::Rule;
+use lls_solver::Approach;
 use lls_words::{ProblemSource, read_job};
 use std::alloc::Global;
 
@@ -84,8 +85,19 @@ fn run_extremal<S: Shelf, O: Sink, E: Sink>(
     match read_roomy_problem(alloc, outside.shelf, source) {
         Ok(problem) => {
             let asked = Asked { problem, form };
-            let manners = manners_of(further.manners, asked.problem.demands());
-            give_extremal(alloc, extreme, asked, effort, further.rle, manners, outside)
+            let approach = Approach {
+                manners: manners_of(further.manners, asked.problem.demands()),
+                first: further.first,
+            };
+            give_extremal(
+                alloc,
+                extreme,
+                asked,
+                effort,
+                further.rle,
+                approach,
+                outside,
+            )
         }
         Err(fault) => refuse(alloc, fault, outside.err),
     }

@@ -9,7 +9,10 @@ use lls_least::Extreme;
 use lls_problem::Form;
 use lls_rule::Rule;
 use lls_solver::{Manner, Manners};
-use lls_words::{CrewPlan as SaidCrew, DEFAULT_BUDGET, Job, Manner as SaidManner, ProblemSource};
+use lls_words::{
+    CrewPlan as SaidCrew, DEFAULT_BUDGET, Further as SaidFurther, Job, Manner as SaidManner,
+    ProblemSource,
+};
 
 /// What a check or a search is about, as words say it.
 #[derive(Drop)]
@@ -65,18 +68,23 @@ fn crew_said(crew: SaidCrew) -> CrewPlan
 }
 
 // What a search is told besides, where words say so much.
-fn further_of(rle: bool, crew: Option<SaidCrew>, manner: Option<SaidManner>) -> Further
-    ensures { result ≡ further_of rle crew manner }
+fn further_of(rle: bool, crew: Option<SaidCrew>, said: SaidFurther) -> Further
+    ensures { result ≡ further_of rle crew said }
 {
     let crew = match crew {
         Some(crew) => Some(crew_said(crew)),
         None => None,
     };
-    let manners = match manner {
+    let manners = match said.manner {
         Some(manner) => Some(manners_said(manner)),
         None => None,
     };
-    Further { rle, crew, manners }
+    Further {
+        rle,
+        crew,
+        manners,
+        first: said.first,
+    }
 }
 
 /// The task of a job of the words, which keeps to their limits.
@@ -110,7 +118,7 @@ pub fn task_of(job: Job) -> Task
         } => {
             let effort = Effort::new(budget, keep_all, proof);
             let source = Source::Problem(problem, form);
-            Task::Search(source, effort, further_of(rle, crew, further.manner))
+            Task::Search(source, effort, further_of(rle, crew, further))
         }
         Job::Loose {
             problem,
@@ -124,7 +132,7 @@ pub fn task_of(job: Job) -> Task
         } => {
             let effort = Effort::new(budget, keep_all, proof);
             let source = Source::Rules(problem, high, form);
-            Task::Search(source, effort, further_of(rle, None, further.manner))
+            Task::Search(source, effort, further_of(rle, None, further))
         }
         Job::Sat {
             formula,
@@ -134,7 +142,7 @@ pub fn task_of(job: Job) -> Task
             further,
         } => {
             let effort = Effort::new(budget, keep_all, proof);
-            let further = further_of(false, None, further.manner);
+            let further = further_of(false, None, further);
             Task::Search(Source::Formula(formula), effort, further)
         }
         Job::Judge {
@@ -163,7 +171,7 @@ pub fn task_of(job: Job) -> Task
             further,
         } => {
             let effort = Effort::new(budget, keep_all, proof);
-            let further = further_of(rle, None, further.manner);
+            let further = further_of(rle, None, further);
             Task::Extremal(Extreme::Fewest, problem, form, effort, further)
         }
         Job::Most {
@@ -176,7 +184,7 @@ pub fn task_of(job: Job) -> Task
             further,
         } => {
             let effort = Effort::new(budget, keep_all, proof);
-            let further = further_of(rle, None, further.manner);
+            let further = further_of(rle, None, further);
             Task::Extremal(Extreme::Most, problem, form, effort, further)
         }
         Job::Trim {

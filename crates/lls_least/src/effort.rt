@@ -1,12 +1,12 @@
 // How a problem is searched.
 use lls_problem::Form;
-use lls_solver::Manners;
+use lls_solver::Approach;
 
 /// Which formula a problem gets, and how and how far that is searched.
 #[derive(Clone, Copy)]
 pub(crate) struct Effort {
     pub(crate) form: Form,
-    pub(crate) manners: Manners,
+    pub(crate) approach: Approach,
     /// So many clauses may be learnt.
     pub(crate) budget: u32,
     /// None of them is deleted.

@@ -47,7 +47,7 @@ pub(crate) fn look(
         alloc,
         &formula,
         near,
-        effort.manners,
+        effort.approach,
         effort.budget,
         effort.keep_all,
         &mut log,

@@ -16,17 +16,17 @@ use lls_cnf::Assignment;
 use lls_grid::History;
 use lls_problem::{Form, Problem};
 use lls_prooflog::Log;
-use lls_solver::Manners;
+use lls_solver::Approach;
 use std::alloc::Global;
 
-/// Looks for a solution with the fewest live cells in generation 0, or with the most, by these manners. Each look has the budget to itself and a log
+/// Looks for a solution with the fewest live cells in generation 0, or with the most, by this approach. Each look has the budget to itself and a log
 /// of its own; the answer has the last one's. A look begins with the values of the solution before it, so that the next one is near.
 pub fn extremal(
     alloc: Global,
     problem: &Problem,
     extreme: Extreme,
     form: Form,
-    manners: Manners,
+    approach: Approach,
     budget: u32,
     keep_all: bool,
 ) -> Result<Extremal, Memory>
@@ -40,7 +40,7 @@ pub fn extremal(
 {
     let effort = Effort {
         form,
-        manners,
+        approach,
         budget,
         keep_all,
     };

@@ -23,7 +23,7 @@ fn job_of(alloc: Global, line: &str) -> Result<Job, Fail> {
 
 // Options, each with a value that it may have.
 const OPTIONS: &str = "\
-formula=1 rule=B3/S23 low=B3/S2 high=B3/S23 edge=open symmetry=C2 period=2 exact=no live=0:1- differ=0,1 but=l as=rle budget=7 keep=all manner=steady crew=3 turns=5 best=1";
+formula=1 rule=B3/S23 low=B3/S2 high=B3/S23 edge=open symmetry=C2 period=2 exact=no live=0:1- differ=0,1 but=l as=rle budget=7 keep=all manner=steady first=7 crew=3 turns=5 best=1";
 
 // Whether a command line takes an option that stands behind it, which is the only fault that it may have.
 fn takes(alloc: Global, line: &str, option: &str) -> Result<bool, Fail> {
@@ -67,7 +67,7 @@ fn each_command_takes_its_options_alone(rt: HostRuntime) -> Result<(), Fail> {
         ),
         (
             "search f p",
-            "formula rule edge symmetry period exact live differ but as budget keep manner crew turns ",
+            "formula rule edge symmetry period exact live differ but as budget keep manner first crew turns ",
         ),
         (
             "judge f p",
@@ -77,21 +77,21 @@ fn each_command_takes_its_options_alone(rt: HostRuntime) -> Result<(), Fail> {
             "cnf f",
             "formula rule edge symmetry period exact live differ but as ",
         ),
-        ("sat f p", "budget keep manner "),
+        ("sat f p", "budget keep manner first "),
         ("lrat f p", ""),
         ("rule B3/S23", ""),
         ("make 1 8 f p", ""),
         (
             "least f p",
-            "formula rule edge symmetry period exact live differ but as budget keep manner ",
+            "formula rule edge symmetry period exact live differ but as budget keep manner first ",
         ),
         (
             "most f p",
-            "formula rule edge symmetry period exact live differ but as budget keep manner ",
+            "formula rule edge symmetry period exact live differ but as budget keep manner first ",
         ),
         (
             "open f p",
-            "formula low high edge symmetry period exact live differ but as budget keep manner ",
+            "formula low high edge symmetry period exact live differ but as budget keep manner first ",
         ),
         (
             "opencheck f p",

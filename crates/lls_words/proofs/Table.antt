@@ -30,8 +30,9 @@ by_table f g same settings.As = ap (λ xs. get_or xs 11 (f settings.Rule)) same
 by_table f g same settings.Budget = ap (λ xs. get_or xs 12 (f settings.Rule)) same
 by_table f g same settings.Keep = ap (λ xs. get_or xs 13 (f settings.Rule)) same
 by_table f g same settings.Manner = ap (λ xs. get_or xs 14 (f settings.Rule)) same
-by_table f g same settings.Crew = ap (λ xs. get_or xs 15 (f settings.Rule)) same
-by_table f g same settings.Turns = ap (λ xs. get_or xs 16 (f settings.Rule)) same
+by_table f g same settings.First = ap (λ xs. get_or xs 15 (f settings.Rule)) same
+by_table f g same settings.Crew = ap (λ xs. get_or xs 16 (f settings.Rule)) same
+by_table f g same settings.Turns = ap (λ xs. get_or xs 17 (f settings.Rule)) same
 
 -- how an option's word is read
 pub long_of-option : (s : Setting) (value : List ℕ) → long_of (option_word s value) ≡ Some (option_name s, Some value)

@@ -48,7 +48,7 @@ operand_count commands.Trim = 3
 
 -- what the operands of a command are called, by their places
 abbrev pub operand_names : Command → List (List ℕ)
-operand_names command = take (operand_count command) (codes "first" ∷ codes "second" ∷ codes "third" ∷ codes "fourth" ∷ [])
+operand_names command = take (operand_count command) (codes "operand-1" ∷ codes "operand-2" ∷ codes "operand-3" ∷ codes "operand-4" ∷ [])
 
 -- a problem's rule, or the two that it is between
 abbrev pub one_rule : List Setting
@@ -71,7 +71,7 @@ pattern_options = settings.As ∷ []
 
 -- how far a search goes, and how it goes about it
 abbrev pub effort_options : List Setting
-effort_options = settings.Budget ∷ settings.Keep ∷ settings.Manner ∷ []
+effort_options = settings.Budget ∷ settings.Keep ∷ settings.Manner ∷ settings.First ∷ []
 
 -- how many searchers take turns, and whose turn it is
 abbrev pub crew_options : List Setting
@@ -143,6 +143,7 @@ option_name settings.As = codes "as"
 option_name settings.Budget = codes "budget"
 option_name settings.Keep = codes "keep"
 option_name settings.Manner = codes "manner"
+option_name settings.First = codes "first"
 option_name settings.Crew = codes "crew"
 option_name settings.Turns = codes "turns"
 

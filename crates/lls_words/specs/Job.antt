@@ -72,6 +72,7 @@ setting_value s place text settings.Budget = and_then (value_or place (budget_in
 setting_value s place text settings.Keep = and_then (value_or place (keep_all_in text)) (λ keep_all. Ok (record s { keep_all = keep_all }))
 setting_value s place text settings.Manner =
     and_then (value_or place (manner_in text)) (λ manner. Ok (record s { further = record s.further { manner = Some manner } }))
+setting_value s place text settings.First = and_then (value_or place (seed_in text)) (λ seed. Ok (record s { further = record s.further { first = Some seed } }))
 setting_value s place text settings.As = and_then (value_or place (rle_in text)) (λ rle. Ok (record s { rle = rle }))
 setting_value s place text settings.Formula = and_then (value_or place (form_in text)) (λ form. Ok (record s { form = form }))
 setting_value s place text settings.Crew = and_then (value_or place (searchers_in text)) (λ searchers. Ok (record s { crew = Some searchers }))

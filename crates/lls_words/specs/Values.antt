@@ -38,7 +38,7 @@ default_budget = 100000
 
 -- what a search is told of which nothing is said
 abbrev pub default_further : Further
-default_further = record { manner = None }
+default_further = record { manner = None; first = None }
 
 -- the greatest number that a problem is made from: that of 64 bits
 abbrev pub most_seed : ℕ

@@ -41,12 +41,13 @@ pub enum Setting {
     Budget,
     Keep,
     Manner,
+    First,
     Crew,
     Turns,
 }
 
-// What operands are called, by their places.
-static OPERANDS: [&str; 4] = ["first", "second", "third", "fourth"];
+// What operands are called, by their places. No option is called so.
+static OPERANDS: [&str; 4] = ["operand-1", "operand-2", "operand-3", "operand-4"];
 
 impl Command {
     // The table of commands.
@@ -152,13 +153,13 @@ impl Command {
         match self {
             Command::Search => &Setting::ALL[Setting::Formula as usize..],
             Command::Least | Command::Most | Command::Open => {
-                &Setting::ALL[Setting::Formula as usize..=Setting::Manner as usize]
+                &Setting::ALL[Setting::Formula as usize..=Setting::First as usize]
             }
             Command::Check | Command::Cnf | Command::OpenCheck => {
                 &Setting::ALL[Setting::Formula as usize..=Setting::As as usize]
             }
             Command::Judge => &Setting::ALL[Setting::Edge as usize..=Setting::As as usize],
-            Command::Sat => &Setting::ALL[Setting::Budget as usize..=Setting::Manner as usize],
+            Command::Sat => &Setting::ALL[Setting::Budget as usize..=Setting::First as usize],
             Command::Lrat | Command::Rule | Command::Make | Command::Trim => &[],
         }
     }
@@ -180,7 +181,7 @@ fn is_among(options: &[Setting], setting: Setting) -> bool
 
 impl Setting {
     // The table of options.
-    const ALL: [Setting; 17] = [
+    const ALL: [Setting; 18] = [
         Setting::Rule,
         Setting::Low,
         Setting::High,
@@ -196,6 +197,7 @@ impl Setting {
         Setting::Budget,
         Setting::Keep,
         Setting::Manner,
+        Setting::First,
         Setting::Crew,
         Setting::Turns,
     ];
@@ -220,6 +222,7 @@ impl Setting {
             Setting::Budget => "budget",
             Setting::Keep => "keep",
             Setting::Manner => "manner",
+            Setting::First => "first",
             Setting::Crew => "crew",
             Setting::Turns => "turns",
         }

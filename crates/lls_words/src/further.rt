@@ -16,9 +16,14 @@ pub enum Manner {
 pub struct Further {
     /// The manner, where one is said. Where none is, the search takes what suits its question.
     pub manner: Option<Manner>,
+    /// A number from which it is drawn what is decided first, where one is said.
+    pub first: Option<u64>,
 }
 
 impl Further {
     /// What a search is told where the words say nothing of it.
-    pub const DEFAULT: Further = Further { manner: None };
+    pub const DEFAULT: Further = Further {
+        manner: None,
+        first: None,
+    };
 }

@@ -110,6 +110,7 @@ impl Settings {
             Setting::Budget => settings.budget = budget_at(given.place, value)?,
             Setting::Keep => settings.keep_all = keep_all_in(value).ok_or(fault)?,
             Setting::Manner => settings.further.manner = Some(manner_in(value).ok_or(fault)?),
+            Setting::First => settings.further.first = Some(seed_in(&given.value).ok_or(fault)?),
             Setting::As => settings.rle = rle_in(value).ok_or(fault)?,
             Setting::Formula => settings.form = form_in(value).ok_or(fault)?,
             Setting::Crew => settings.crew = Some(searchers_at(given.place, value)?),
