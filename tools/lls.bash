@@ -9,10 +9,10 @@ _lls_options() {
     check | cnf) echo "--rule $_lls_demands --as --formula" ;;
     opencheck) echo "--low --high $_lls_demands --as --formula" ;;
     judge) echo "--rule $_lls_demands --as" ;;
-    search) echo "--rule $_lls_demands --budget --keep --manner --as --formula --crew --turns" ;;
-    least | most) echo "--rule $_lls_demands --budget --keep --manner --as --formula" ;;
-    open) echo "--low --high $_lls_demands --budget --keep --manner --as --formula" ;;
-    sat) echo '--budget --keep --manner' ;;
+    search) echo "--rule $_lls_demands --budget --keep --manner --first --as --formula --crew --turns" ;;
+    least | most) echo "--rule $_lls_demands --budget --keep --manner --first --as --formula" ;;
+    open) echo "--low --high $_lls_demands --budget --keep --manner --first --as --formula" ;;
+    sat) echo '--budget --keep --manner --first' ;;
     esac
 }
 

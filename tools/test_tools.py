@@ -503,6 +503,12 @@ class Building(unittest.TestCase):
                 ["search", "q", "p", "--manner=both", "--crew", "2"],
                 "lls: note: --manner does nothing beside --crew: a crew has searchers of both kinds\n",
             ),
+            (
+                ["search", "q", "p", "--crew=2", "--first", "7"],
+                ["search", "q", "p", "--crew=2", "--first", "7"],
+                "lls: note: --first does nothing beside --crew: the searchers of a crew begin each in its own way\n",
+            ),
+            (["search", "q", "p", "--first=7"], ["search", "q", "p", "--first=7"], ""),
             (["rule", "nothing"], ["rule", "nothing"], ""),
             (["check", "life", "maze", "--edge", "open"], ["check", "life", "maze", "--edge", "open"], ""),
         ]:

@@ -22,7 +22,7 @@ PROBLEM = ["rule"] + DEMANDS
 FORMED = PROBLEM + ["formula"]
 # a problem whose rule is left open between two
 OPEN = ["low", "high"] + DEMANDS + ["formula"]
-EFFORT = ["budget", "keep", "manner"]
+EFFORT = ["budget", "keep", "manner", "first"]
 CREW = ["crew", "turns"]
 COMMANDS = {
     "check": (["search", "proof"], FORMED + ["as"]),
@@ -45,7 +45,7 @@ OUTPUTS = {"search": ["proof"], "sat": ["proof"], "make": ["search", "proof"], "
 RULES = ("rule", "low", "high")
 LIFE = "B3/S23"
 # the numbers that may be said
-RANGES = {"budget": (0, 10_000_000), "crew": (1, 16), "turns": (0, 2**64 - 1), "seed": (0, 2**64 - 1), "size": (1, 64)}
+RANGES = {"budget": (0, 10_000_000), "crew": (1, 16), "turns": (0, 2**64 - 1), "first": (0, 2**64 - 1), "seed": (0, 2**64 - 1), "size": (1, 64)}
 # the operands that are no names of files
 VALUES = {"text": "rule", "seed": "seed", "size": "size"}
 CHOICES = {
@@ -271,7 +271,7 @@ def answer(words):
     return "ok"
 
 
-# the numbers that a problem is made from, or turns are drawn from
+# the numbers that a problem is made from, or turns or first decisions are drawn from
 SEEDS = ["0", "18446744073709551615", "18446744073709551609", "07", "00000000000000000001"]
 NO_SEEDS = ["18446744073709551616", "99999999999999999999", "000000000000000000001", "+1", "1e3", "x"]
 GOOD = {
@@ -285,6 +285,7 @@ GOOD = {
     "budget": ["0", "10000000", "7", "00000000000000000100"],
     "crew": ["1", "16", "3", "00000000000000000016"],
     "turns": SEEDS,
+    "first": SEEDS,
     "seed": SEEDS,
     "size": ["1", "64", "8", "08", "00000000000000000064"],
     **CHOICES,
@@ -299,6 +300,7 @@ BAD = {
     "budget": ["10000001", "1.5", "000000000000000000007", "all"],
     "crew": ["0", "17", "000000000000000000003", "+1", "3x", "18446744073709551617"],
     "turns": NO_SEEDS,
+    "first": NO_SEEDS,
     "seed": NO_SEEDS,
     "size": ["0", "65", "000000000000000000001", "+8", "8x", "18446744073709551617"],
     "edge": ["shut", "Open", "closed,open"],

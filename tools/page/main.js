@@ -15,6 +15,7 @@ const MEANINGS = {
   live: "T:LOW-HIGH, with commas between: live cells of generation T",
   differ: "A,B: two generations that differ", formula: "the form of the formula",
   budget: "how many clauses may be learnt; 100000 without it", keep: "whether learnt clauses may go", manner: "by the question, without it",
+  first: "a number that draws what is tried first: another way through the same question",
   as: "how the program prints patterns", crew: "how many searchers take turns", turns: "a number that draws the turns",
 };
 const CHOICES = { edge: ["", "closed", "open"], exact: ["", "yes", "no"], formula: ["", "1", "2"], keep: ["", "half", "all"], manner: ["", "restless", "steady", "both"] };
