@@ -7,6 +7,8 @@ mod grid;
 #[cfg(test)]
 mod hensel;
 #[cfg(test)]
+mod images;
+#[cfg(test)]
 mod making;
 #[cfg(test)]
 mod problem;

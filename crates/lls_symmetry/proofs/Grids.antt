@@ -3,7 +3,7 @@ use Rattle.std.proofs.Common.{◌≡◌, ◌<◌, ◌≤◌, ◌↔◌, ℕ, zer
 use Rattle.std.specs.List.{list_any}
 use Rattle.std.proofs.lemmas.Int.{ints}
 use Rattle.lls_symmetry.specs.declared.motion.Motion.{Motion}
-use Rattle.lls_symmetry.specs.declared.motion.Motion.TheVariants.{HalfTurn, QuarterTurn, RowMirror, ColumnMirror, DownMirror, UpMirror}
+use Rattle.lls_symmetry.specs.declared.motion.Motion.TheVariants.{HalfTurn, QuarterTurn, BackTurn, RowMirror, ColumnMirror, DownMirror, UpMirror}
 use Rattle.lls_symmetry.specs.declared.symmetry.Symmetry.{Symmetry}
 use Rattle.lls_symmetry.specs.declared.symmetry.Symmetry.TheVariants.{C1, C2, C4, D2Row, D2Col, D2Down, D2Up, D4Plus, D4Cross, D8}
 use Rattle.lls_symmetry.specs.Motion.{Place, cell_place, IsOnGrid, image_of, exchanges}
@@ -24,6 +24,9 @@ image-on_grid HalfTurn height width place square on = record { top = omega (arit
 image-on_grid QuarterTurn height width place square on =
     let same : height ≡ width = square refl in
     record { top = omega (arith, ints); bottom = omega (arith, ints); left = omega (arith, ints); right = omega (arith, ints) }
+image-on_grid BackTurn height width place square on =
+    let same : height ≡ width = square refl in
+    record { top = omega (arith, ints); bottom = omega (arith, ints); left = omega (arith, ints); right = omega (arith, ints) }
 image-on_grid RowMirror height width place square on = record { top = omega (arith, ints); bottom = omega (arith, ints); left = omega (arith, ints); right = omega (arith, ints) }
 image-on_grid ColumnMirror height width place square on = record { top = omega (arith, ints); bottom = omega (arith, ints); left = omega (arith, ints); right = omega (arith, ints) }
 image-on_grid DownMirror height width place square on =
@@ -38,6 +41,9 @@ pub image-off_grid : (motion : Motion) (height width : ℕ) (place : Place) → 
     → IsOnGrid height width (image_of motion height width place) → IsOnGrid height width place
 image-off_grid HalfTurn height width place square on = record { top = omega (arith, ints); bottom = omega (arith, ints); left = omega (arith, ints); right = omega (arith, ints) }
 image-off_grid QuarterTurn height width place square on =
+    let same : height ≡ width = square refl in
+    record { top = omega (arith, ints); bottom = omega (arith, ints); left = omega (arith, ints); right = omega (arith, ints) }
+image-off_grid BackTurn height width place square on =
     let same : height ≡ width = square refl in
     record { top = omega (arith, ints); bottom = omega (arith, ints); left = omega (arith, ints); right = omega (arith, ints) }
 image-off_grid RowMirror height width place square on = record { top = omega (arith, ints); bottom = omega (arith, ints); left = omega (arith, ints); right = omega (arith, ints) }
@@ -79,6 +85,7 @@ square_by motion height width high wide is keeps =
         → IsOnGrid height width (image_of motion height width (cell_place 0 (width - 1))) → IsOnGrid height width (image_of motion height width (cell_place (height - 1) 0)) → height ≡ width
     corners HalfTurn height width is first right down = cc
     corners QuarterTurn height width is first right down = omega (arith, ints)
+    corners BackTurn height width is first right down = omega (arith, ints)
     corners RowMirror height width is first right down = cc
     corners ColumnMirror height width is first right down = cc
     corners DownMirror height width is first right down = omega (arith, ints)

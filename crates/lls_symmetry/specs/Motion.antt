@@ -1,7 +1,7 @@
 -- The motions of a grid as maps of places, said of any whole numbers, and what they are to one another.
 use Rattle.std.specs.Prelude.{◌≡◌, ℕ, zero, suc, ℤ, pos, ◌-ℤ◌, ◌≤ℤ◌, ◌<ℤ◌, Bool, true, false}
 use Rattle.lls_symmetry.specs.declared.motion.Motion.{Motion}
-use Rattle.lls_symmetry.specs.declared.motion.Motion.TheVariants.{HalfTurn, QuarterTurn, RowMirror, ColumnMirror, DownMirror, UpMirror}
+use Rattle.lls_symmetry.specs.declared.motion.Motion.TheVariants.{HalfTurn, QuarterTurn, BackTurn, RowMirror, ColumnMirror, DownMirror, UpMirror}
 
 -- a row and a column that count from the top left cell of the grid
 pub record Place : Type 0 where
@@ -26,6 +26,7 @@ opposite size place = (pos size -ℤ pos 1) -ℤ place
 abbrev pub image_of : Motion → ℕ → ℕ → Place → Place
 image_of HalfTurn height width place = record { y = opposite height place.y; x = opposite width place.x }
 image_of QuarterTurn height width place = record { y = place.x; x = opposite height place.y }
+image_of BackTurn height width place = record { y = opposite width place.x; x = place.y }
 image_of RowMirror height width place = record { y = opposite height place.y; x = place.x }
 image_of ColumnMirror height width place = record { y = place.y; x = opposite width place.x }
 image_of DownMirror height width place = record { y = place.x; x = place.y }
@@ -35,10 +36,21 @@ image_of UpMirror height width place = record { y = opposite width place.x; x = 
 abbrev pub exchanges : Motion → Bool
 exchanges HalfTurn = false
 exchanges QuarterTurn = true
+exchanges BackTurn = true
 exchanges RowMirror = false
 exchanges ColumnMirror = false
 exchanges DownMirror = true
 exchanges UpMirror = true
+
+-- the motion that takes all places back
+abbrev pub inverse : Motion → Motion
+inverse HalfTurn = HalfTurn
+inverse QuarterTurn = BackTurn
+inverse BackTurn = QuarterTurn
+inverse RowMirror = RowMirror
+inverse ColumnMirror = ColumnMirror
+inverse DownMirror = DownMirror
+inverse UpMirror = UpMirror
 
 -- a motion done so many times
 abbrev pub times : ℕ → Motion → ℕ → ℕ → Place → Place
@@ -49,6 +61,7 @@ times (suc n) motion height width place = image_of motion height width (times n 
 abbrev pub order : Motion → ℕ
 order HalfTurn = 2
 order QuarterTurn = 4
+order BackTurn = 4
 order RowMirror = 2
 order ColumnMirror = 2
 order DownMirror = 2
@@ -69,3 +82,5 @@ pub record MotionLaws (height width : ℕ) : Type 0 where
   -- a quarter turn and then the mirror of columns is the mirror on one diagonal, and the other way round on the other
   pub down : MakesOnSquares QuarterTurn ColumnMirror DownMirror height width
   pub up : MakesOnSquares ColumnMirror QuarterTurn UpMirror height width
+  -- done after a motion its inverse takes all places back
+  pub back : (motion : Motion) (place : Place) → (exchanges motion ≡ true → height ≡ width) → image_of (inverse motion) height width (image_of motion height width place) ≡ place

@@ -1,0 +1,14 @@
+pub mod Tests
+pub mod Places
+pub mod Neighbours
+pub mod Images
+pub mod Everywhere
+pub mod Sums
+pub mod Population
+pub mod Symmetries
+pub mod Shifts
+pub mod Files
+pub mod Marks
+pub mod Patterns
+pub mod Solutions
+pub mod First

@@ -1,0 +1,8 @@
+use Rattle.std.proofs.Common.{◌≡◌, true}
+use Rattle.std.specs.List.{list_all, range_with_len}
+use Rattle.lls_images.specs.Same.{is_kept}
+use Rattle.lls_images.proofs.cells.keeps_cells.Given as goal
+
+-- the cells so far are kept
+abbrev pub invariant-loop-k : goal.invariant-loop-k
+invariant-loop-k l = list_all (is_kept l.motion l.posed) (range_with_len 0 l.k) ≡ true
