@@ -1,20 +1,22 @@
 -- Of a problem that has a solution, some solution comes first.
-use Rattle.std.proofs.Common.{◌≡◌, ◌<◌, ◌≤◌, ℕ, zero, suc, ◌+◌, ◌*◌, ◌^◌, Bool, true, false, List, [], ◌∷◌, refl, subst, arith, inl, inr, cond}
+use Rattle.std.proofs.Common.{◌≡◌, ◌<◌, ◌≤◌, ℕ, zero, suc, ◌+◌, ◌*◌, ◌^◌, Bool, true, false, List, [], ◌∷◌, length, refl, sym, subst, arith, inl, inr, cond}
 use Rattle.std.specs.Prelude.{All, ◌⊎◌}
 use Rattle.std.specs.List.{AllByRecursion as Each, filter}
 use Rattle.std.proofs.lemmas.Bool.{and_parts, cases_lt}
 use Rattle.std.proofs.lemmas.List.Elements.{All-from_recursion}
+use Rattle.std.proofs.lemmas.List.Sums.{length-filter, count_by-le-length}
 use Rattle.lls_rule.proofs.Numbers.{number_of-lt}
 use Rattle.lls_grid.specs.History.{History, cells_of_rows, rows_at}
 use Rattle.lls_search_file.specs.Posed.{IsPosed}
 use Rattle.lls_symmetry.specs.declared.motion.Motion.{Motion}
+use Rattle.lls_symmetry.specs.Motion.{exchanges}
 use Rattle.lls_problem.specs.Problem.{PosedProblem, AreFitting}
 use Rattle.lls_problem.specs.Solution.{IsSolution}
 use Rattle.lls_images.specs.Same.{looks_the_same, tells_apart, motions, same_motions}
 use Rattle.lls_images.specs.First.{beginning, IsFirstSolution, FirstLaw}
 use Rattle.lls_images.proofs.Everywhere.{imaged}
 use Rattle.lls_images.proofs.Patterns.{length-beginning}
-use Rattle.lls_images.proofs.Solutions.{IsSolution-image}
+use Rattle.lls_images.proofs.Solutions.{IsSame-by_test, IsSolution-image}
 
 -- what a filter leaves passes it
 each_filtered : (f : Motion → Bool) (xs : List Motion) → Each (λ x. f x ≡ true) (filter f xs)
@@ -29,12 +31,22 @@ Each-mapped : {X : Type 0} (P Q : X → Type 0) (xs : List X) → ((x : X) → P
 Each-mapped P Q [] so each = tt
 Each-mapped P Q (x ∷ xs) so each = (so x each.0, Each-mapped P Q xs so each.1)
 
+pub few_motions : (p : PosedProblem) → length (same_motions p) ≤ 7
+unfolding same_motions
+few_motions p = subst (λ n. n ≤ 7) (sym (length-filter (tells_apart p) motions)) (count_by-le-length (tells_apart p) motions)
+
 module _ (p : PosedProblem) (fitting : AreFitting p.posed p.demands) (posed : IsPosed p.posed) where
   all_look : Each (λ motion. looks_the_same p motion ≡ true) (same_motions p)
   unfolding same_motions
   all_look =
       Each-mapped (λ motion. tells_apart p motion ≡ true) (λ motion. looks_the_same p motion ≡ true) (same_motions p) (λ motion tells. (and_parts _ (looks_the_same p motion) tells).1)
       (each_filtered (tells_apart p) motions)
+
+  -- they take the grid to itself
+  pub squares : All (λ motion. exchanges motion ≡ true → p.posed.height ≡ p.posed.width) (same_motions p)
+  squares =
+      All-from_recursion (λ motion. exchanges motion ≡ true → p.posed.height ≡ p.posed.width) (same_motions p)
+      (Each-mapped (λ motion. looks_the_same p motion ≡ true) (λ motion. exchanges motion ≡ true → p.posed.height ≡ p.posed.width) (same_motions p) (λ motion looks. (IsSame-by_test p motion looks).square) all_look)
 
   -- all images of a solution are solutions
   pub images : (h : History) → IsSolution p h → All (λ motion. IsSolution p (imaged p motion h)) (same_motions p)

@@ -53,6 +53,20 @@ exchanges-inverse UpMirror = refl
 pub square-inverse : (motion : Motion) (height width : ℕ) → (exchanges motion ≡ true → height ≡ width) → exchanges (inverse motion) ≡ true → height ≡ width
 square-inverse motion height width square is = square (sym (exchanges-inverse motion) ∙ is)
 
+-- the image of a cell of generation 0 is one of it
+pub image_index-forth : (motion : Motion) (sizes : Sizes) (k : ℕ) → (exchanges motion ≡ true → sizes.height ≡ sizes.width) → 0 < sizes.width → 0 < sizes.height → k < cell_count sizes
+    → k < sizes.width * sizes.height → image_index motion sizes k < sizes.width * sizes.height
+image_index-forth motion sizes k square wide high below first =
+    let p = place_at sizes k in
+    let inside = IsInside-place_at sizes k wide high below in
+    let q = image_of motion sizes.height sizes.width (cell_place p.y p.x) in
+    let on = image-on_grid motion sizes.height sizes.width (cell_place p.y p.x) square (IsOnGrid-cell sizes.height sizes.width p.y p.x inside.row inside.column) in
+    let number = image_index-by_place motion sizes k p (unsigned_abs q.y) (unsigned_abs q.x) (index_of sizes (record { t = p.t; y = unsigned_abs q.y; x = unsigned_abs q.x }))
+    inside (index_of-place_at sizes k) (pos-unsigned_abs q.y on.top) (pos-unsigned_abs q.x on.left) refl in
+    subst (λ i. i < sizes.width * sizes.height) number
+    (image-first_generation motion sizes k p (unsigned_abs q.y) (unsigned_abs q.x) _ inside (index_of-place_at sizes k) wide high
+    (row-on_grid sizes.height q.y on.top on.bottom) (row-on_grid sizes.width q.x on.left on.right) refl first)
+
 -- so is each cell by its number, and in generation 0 that of one of generation 0
 module _ (motion : Motion) (sizes : Sizes) (k : ℕ) (square : exchanges motion ≡ true → sizes.height ≡ sizes.width) (wide : 0 < sizes.width) (high : 0 < sizes.height) (below : k < cell_count sizes) where
   image_index-onto : image_index motion sizes (image_index (inverse motion) sizes k) ≡ k
@@ -72,16 +86,7 @@ module _ (motion : Motion) (sizes : Sizes) (k : ℕ) (square : exchanges motion 
       ap (image_index motion sizes) (sym first) ∙ sym second ∙ index_of-place_at sizes k
 
   image_index-first : k < sizes.width * sizes.height → image_index (inverse motion) sizes k < sizes.width * sizes.height
-  image_index-first first =
-      let p = place_at sizes k in
-      let inside = IsInside-place_at sizes k wide high below in
-      let q = image_of (inverse motion) sizes.height sizes.width (cell_place p.y p.x) in
-      let on = image-on_grid (inverse motion) sizes.height sizes.width (cell_place p.y p.x) (square-inverse motion sizes.height sizes.width square) (IsOnGrid-cell sizes.height sizes.width p.y p.x inside.row inside.column) in
-      let number = image_index-by_place (inverse motion) sizes k p (unsigned_abs q.y) (unsigned_abs q.x) (index_of sizes (record { t = p.t; y = unsigned_abs q.y; x = unsigned_abs q.x }))
-      inside (index_of-place_at sizes k) (pos-unsigned_abs q.y on.top) (pos-unsigned_abs q.x on.left) refl in
-      subst (λ i. i < sizes.width * sizes.height) number
-      (image-first_generation (inverse motion) sizes k p (unsigned_abs q.y) (unsigned_abs q.x) _ inside (index_of-place_at sizes k) wide high
-      (row-on_grid sizes.height q.y on.top on.bottom) (row-on_grid sizes.width q.x on.left on.right) refl first)
+  image_index-first first = image_index-forth (inverse motion) sizes k (square-inverse motion sizes.height sizes.width square) wide high below first
 
 -- the cells of generation 0
 pub length-beginning : (generations height width : ℕ) (history : History) → HasSizes generations height width history → 0 < generations
@@ -102,13 +107,24 @@ first_below size generations k some below =
     let more : size * 1 ≤ size * generations = mul-le-mul_left size (omega arith) in
     omega (arith, more, below)
 
-module _ (p : PosedProblem) (motion : Motion) (h : History) (square : exchanges motion ≡ true → p.posed.height ≡ p.posed.width) (sizes : HasItsSizes p h) (posed : IsPosed p.posed)
-    (listed : AreOfSize p.posed p.demands.listed) where
+module _ (p : PosedProblem) (motion : Motion) (h : History) (square : exchanges motion ≡ true → p.posed.height ≡ p.posed.width) (sizes : HasItsSizes p h) (posed : IsPosed p.posed) where
   abbrev size : ℕ
   size = p.posed.width * p.posed.height
 
   below : (k : ℕ) → k < size → k < cell_count (sizes_of p.posed)
   below k first = subst (λ n. k < n) (mul_assoc p.posed.width p.posed.height p.posed.generations) (first_below size p.posed.generations k posed.generations.0 first)
+
+  -- a cell of generation 0 of the image, by one of the history
+  pub beginning-image : (k : ℕ) → k < size → get_or (cells_of_rows (rows_at (imaged p motion h) 0)) k false
+      ≡ get_or (cells_of_rows (rows_at h 0)) (image_index motion (sizes_of p.posed) k) false
+  beginning-image k first =
+      let j = image_index motion (sizes_of p.posed) k in
+      let j_first = image_index-forth motion (sizes_of p.posed) k square posed.width.0 posed.height.0 (below k first) first in
+      let sizes' = sizes-image p motion h square sizes in
+      sym (beginning-cells_of (imaged p motion h) k (subst (λ n. 0 < n) (sym sizes'.0) posed.generations.0)
+      (subst (λ n. k < n) (sym (length-beginning p.posed.generations p.posed.height p.posed.width (imaged p motion h) sizes' posed.generations.0)) first))
+      ∙ cells_of-image motion (sizes_of p.posed) h k square sizes posed.height.0 posed.width.0 (below k first)
+      ∙ beginning-cells_of h j (subst (λ n. 0 < n) (sym sizes.0) posed.generations.0) (subst (λ n. j < n) (sym (length-beginning p.posed.generations p.posed.height p.posed.width h sizes posed.generations.0)) j_first)
 
   -- a cell of generation 0 of the history, by one of the image
   beginning-onto : (k : ℕ) → k < size → get_or (cells_of_rows (rows_at h 0)) k false
@@ -124,10 +140,10 @@ module _ (p : PosedProblem) (motion : Motion) (h : History) (square : exchanges 
       (subst (λ n. j < n) (sym (length-beginning p.posed.generations p.posed.height p.posed.width (imaged p motion h) sizes' posed.generations.0)) j_first)
 
   -- a listed pattern is the image of one
-  before_listed : keeps_listed motion p.posed p.demands.listed ≡ true → (k : ℕ) (d : Pattern) → k < length p.demands.listed
+  before_listed : AreOfSize p.posed p.demands.listed → keeps_listed motion p.posed p.demands.listed ≡ true → (k : ℕ) (d : Pattern) → k < length p.demands.listed
       → cells_of_rows (rows_at (imaged p motion h) 0) ≡ get_or p.demands.listed k d
       → (j : ℕ) × (other : Pattern) × (j < length p.demands.listed) × (get_or p.demands.listed j other ≡ other) × (cells_of_rows (rows_at h 0) ≡ other)
-  before_listed kept k d k_in is =
+  before_listed listed kept k d k_in is =
       let pattern = get_or p.demands.listed k d in
       let found = Any-from_list_any (is_image motion (sizes_of p.posed) (grid_size p.posed) pattern) p.demands.listed
       (AllPass-from_list_all (λ pattern. list_any (is_image motion (sizes_of p.posed) (grid_size p.posed) pattern) p.demands.listed) p.demands.listed kept k d k_in) in
@@ -148,7 +164,7 @@ module _ (p : PosedProblem) (motion : Motion) (h : History) (square : exchanges 
             ∙ ap (λ i. get_or other i false) (image_index-onto motion (sizes_of p.posed) i square posed.width.0 posed.height.0 (below i first))),
       )
 
-  pub IsUnlisted-image : keeps_listed motion p.posed p.demands.listed ≡ true → IsUnlisted p h → IsUnlisted p (imaged p motion h)
-  IsUnlisted-image kept unlisted = λ k d k_in is.
-      let found = before_listed kept k d k_in is in
+  pub IsUnlisted-image : AreOfSize p.posed p.demands.listed → keeps_listed motion p.posed p.demands.listed ≡ true → IsUnlisted p h → IsUnlisted p (imaged p motion h)
+  IsUnlisted-image listed kept unlisted = λ k d k_in is.
+      let found = before_listed listed kept k d k_in is in
       unlisted found.0 found.1 found.2 (found.4 ∙ sym found.3)

@@ -23,20 +23,20 @@ use Rattle.lls_images.proofs.Files.{MeetsCells-image}
 use Rattle.lls_images.proofs.Patterns.{image_of-onto, square-inverse, IsUnlisted-image}
 
 -- what it is to look the same, one thing after the other
-record IsSame (p : PosedProblem) (motion : Motion) : Type 0 where
-  square : exchanges motion ≡ true → p.posed.height ≡ p.posed.width
-  rule : keeps_rule motion p.rule ≡ true
-  shift : option_map_or (keeps_shift motion) p.demands.period true ≡ true
-  symmetry : keeps_symmetry motion p.demands.symmetry ≡ true
-  listed : keeps_listed motion p.posed p.demands.listed ≡ true
-  cells : keeps_cells motion p.posed ≡ true
-  ties : keeps_ties motion p.posed ≡ true
+pub record IsSame (p : PosedProblem) (motion : Motion) : Type 0 where
+  pub square : exchanges motion ≡ true → p.posed.height ≡ p.posed.width
+  pub rule : keeps_rule motion p.rule ≡ true
+  pub shift : option_map_or (keeps_shift motion) p.demands.period true ≡ true
+  pub symmetry : keeps_symmetry motion p.demands.symmetry ≡ true
+  pub listed : keeps_listed motion p.posed p.demands.listed ≡ true
+  pub cells : keeps_cells motion p.posed ≡ true
+  pub ties : keeps_ties motion p.posed ≡ true
 
 square_by : (needed : Bool) (height width : ℕ) → (not needed || nat_eq height width) ≡ true → needed ≡ true → height ≡ width
 square_by true height width fits is = eqb-true height width fits
 square_by false height width fits is = cc
 
-IsSame-by_test : (p : PosedProblem) (motion : Motion) → looks_the_same p motion ≡ true → IsSame p motion
+pub IsSame-by_test : (p : PosedProblem) (motion : Motion) → looks_the_same p motion ≡ true → IsSame p motion
 IsSame-by_test p motion looks =
     let first = and_parts (keeps_grid motion p.posed.height p.posed.width) (keeps_rule motion p.rule && (keeps_demands motion p && (keeps_cells motion p.posed && keeps_ties motion p.posed))) looks in
     let second = and_parts (keeps_rule motion p.rule) (keeps_demands motion p && (keeps_cells motion p.posed && keeps_ties motion p.posed)) first.1 in

@@ -8,4 +8,5 @@ mod rule;
 mod same;
 mod symmetry;
 
+pub use cells::image_index;
 pub use same::same_motions;

@@ -1,6 +1,7 @@
 // The motions under which a problem looks the same.
-ghost use Rattle.std.specs.Prelude.{◌≡◌, [], ◌∷◌, ◌++◌, if◌then◌else◌, All, IfOk, OnOk};
+ghost use Rattle.std.specs.Prelude.{◌≡◌, ◌≤◌, [], ◌∷◌, ◌++◌, if◌then◌else◌, All, length, true, IfOk, OnOk};
 ghost use Rattle.lls_grid.specs.History.{History};
+ghost use Rattle.lls_symmetry.specs.Motion.{exchanges};
 ghost use Rattle.lls_problem.specs.Solution.{IsSolution};
 ghost use Rattle.lls_images.specs.First.{FirstLaw};
 ghost use Rattle.lls_images.specs.Image.{image};
@@ -55,6 +56,8 @@ fn push_same(motions: &mut Vec<Motion>, problem: &Problem, motion: Motion) -> Re
 /// The motions under which a problem looks the same, but those that it demands.
 pub fn same_motions(alloc: Global, problem: &Problem) -> Result<Vec<Motion>, Memory>
     ensures motions { IfOk result (λ motions. motions.items ≡ same_motions problem.now) }
+    ensures few { IfOk result (λ motions. length motions.items ≤ 7) }
+    ensures grid { IfOk result (λ motions. All (λ motion. exchanges motion ≡ true → problem.now.posed.height ≡ problem.now.posed.width) motions.items) }
     // Turned or reflected by one of them each solution is a solution, and so some solution comes first of its images.
     ensures images { IfOk result (λ motions. (history : History) → IsSolution problem.now history
         → All (λ motion. IsSolution problem.now (image motion problem.now.posed.height problem.now.posed.width history)) motions.items) }

@@ -1,12 +1,13 @@
-use Rattle.std.proofs.Common.{◌++◌, [], ◌∷◌, cond, get_or, sym, ap, ◌∙◌, subst}
+use Rattle.std.proofs.Common.{◌≡◌, ◌≤◌, ◌++◌, [], ◌∷◌, cond, get_or, length, true, sym, ap, ◌∙◌, subst}
 use Rattle.std.specs.List.{filter}
 use Rattle.std.proofs.lemmas.List.{take_all}
 use Rattle.std.proofs.lemmas.List.Elements.{filter_more}
 use Rattle.lls_symmetry.specs.declared.motion.Motion.TheVariants.{HalfTurn}
 use Rattle.std.specs.Prelude.{All}
+use Rattle.lls_symmetry.specs.Motion.{exchanges}
 use Rattle.lls_problem.specs.Solution.{IsSolution}
 use Rattle.lls_images.proofs.Everywhere.{imaged}
-use Rattle.lls_images.proofs.First.{images, first_law}
+use Rattle.lls_images.proofs.First.{few_motions, squares, images, first_law}
 use Rattle.lls_images.specs.Same.{same_motions, tells_apart, motions}
 use Rattle.lls_images.proofs.same.same_motions.Goals as goal
 
@@ -30,3 +31,11 @@ returns-clause-first c = first_law c.args.problem.now c.demands.ensures.kept c.p
 
 pub returns-in_err-push_same-clause-first : goal.returns-in_err-push_same-clause-first
 returns-in_err-push_same-clause-first c = first_law c.args.problem.now c.demands.ensures.kept c.posed.ensures.kept
+
+pub returns-clause-few : goal.returns-clause-few
+returns-clause-few c = subst (λ ms. length ms ≤ 7) (sym (returns-clause-motions c)) (few_motions c.args.problem.now)
+
+pub returns-clause-grid : goal.returns-clause-grid
+returns-clause-grid c =
+    subst (All (λ motion. exchanges motion ≡ true → c.args.problem.now.posed.height ≡ c.args.problem.now.posed.width)) (sym (returns-clause-motions c))
+    (squares c.args.problem.now c.demands.ensures.kept c.posed.ensures.kept)
