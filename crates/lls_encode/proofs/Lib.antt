@@ -27,3 +27,7 @@ pub mod Counters
 pub mod Made
 pub mod Appended
 pub mod Taken
+pub mod Compared
+pub mod Leading
+pub mod Left
+pub mod Chosen

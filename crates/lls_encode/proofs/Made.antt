@@ -102,7 +102,7 @@ pub few_after_vars : (p : PosedProblem) → IsPosed p.posed → AreFitting p.pos
 few_after_vars p kept fitting = omega (arith, fitting.counters, few_where p kept p.demands.differ, few_exact_vars p kept fitting)
 
 -- all clauses together are few
-pub few_clauses : (p : PosedProblem) (form : Form) → IsPosed p.posed → AreFitting p.posed p.demands → length (formula_of p form).clauses < 200000000
+pub few_clauses : (p : PosedProblem) (form : Form) → IsPosed p.posed → AreFitting p.posed p.demands → length (formula_of p form).clauses < 199000000
 unfolding formula_of
 few_clauses p form kept fitting =
     omega (
@@ -163,3 +163,12 @@ room_for_difference p transitions bounded kept fitting has is =
     let count : length bounded.clauses ≡ length transitions.clauses + length (bounds_part p transitions.vars) =
     ap (λ (f : Cnf). length f.clauses) is ∙ length-append transitions.clauses (bounds_part p transitions.vars) in
     omega (arith, count, has, length-bounds_part p kept fitting transitions.vars)
+
+-- and so are the variables, those of the cells among them
+pub few_vars : (p : PosedProblem) (form : Form) → IsPosed p.posed → AreFitting p.posed p.demands → (formula_of p form).vars ≤ 1536576
+unfolding formula_of
+few_vars p form kept fitting = omega (arith, kept.most, few_after_vars p kept fitting)
+
+pub cells_among : (p : PosedProblem) (form : Form) → length p.posed.cells ≤ (formula_of p form).vars
+unfolding formula_of
+cells_among p form = omega arith

@@ -70,7 +70,7 @@ pub unseen_vars-pairs : (p : PosedProblem) (part : Period) (pairs : List Moved) 
 unseen_vars-pairs p part pairs are same = ap (λ b. cond b 0 (length (pairs_of p part))) same ∙ ap length (sym are)
 
 -- more twice is more at once
-with_more-more : (formula : Cnf) (a b : ℕ) (xs ys : List Clause) → with_more (with_more formula a xs) b ys ≡ with_more formula (a + b) (xs ++ ys)
+pub with_more-more : (formula : Cnf) (a b : ℕ) (xs ys : List Clause) → with_more (with_more formula a xs) b ys ≡ with_more formula (a + b) (xs ++ ys)
 with_more-more formula a b xs ys =
     ap (λ clauses. record { vars = formula.vars + a + b; clauses = clauses }) (append_assoc formula.clauses xs ys)
     ∙ ap (λ vars. record { vars = vars; clauses = formula.clauses ++ (xs ++ ys) }) (place formula.vars a b)

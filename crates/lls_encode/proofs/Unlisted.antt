@@ -35,11 +35,11 @@ enough_cells p h values has =
     let none : p.posed.width * (p.posed.height * 0) ≡ 0 = grind arith in
     omega (arith, none, length-cells_of p.posed.generations p.posed.height p.posed.width h has.sizes, generation-le p.posed.generations p.posed.height p.posed.width 0 has.kept.generations.0)
 
-length-first_cells : (p : PosedProblem) (h : History) (values : List Bool) → HasCells p values h → length (first_cells h) ≡ generation_size p
+pub length-first_cells : (p : PosedProblem) (h : History) (values : List Bool) → HasCells p values h → length (first_cells h) ≡ generation_size p
 length-first_cells p h values has = ap length (first_cells-front p h values has) ∙ length-take-le (generation_size p) (cells_of h) (enough_cells p h values has)
 
 -- the variable of such a cell has its value
-is_true-first_cell : (p : PosedProblem) (h : History) (values : List Bool) → HasCells p values h → (k : ℕ) → k < generation_size p → is_true values (cell_of_generation p 0 k) ≡ get_or (first_cells h) k false
+pub is_true-first_cell : (p : PosedProblem) (h : History) (values : List Bool) → HasCells p values h → (k : ℕ) → k < generation_size p → is_true values (cell_of_generation p 0 k) ≡ get_or (first_cells h) k false
 is_true-first_cell p h values has k k_in =
     let number : k + generation_size p * 0 ≡ k = grind arith in
     is_true-cell values (k + generation_size p * 0)

@@ -183,10 +183,10 @@ length-all_marks p h (part ∷ parts) =
 abbrev pub AreMarks : List Bool → ℕ → List Bool → Type 0
 AreMarks values base marks = (k : ℕ) → k < length marks → get_or values (base + k) false ≡ get_or marks k false
 
-marks_front : (values : List Bool) (base : ℕ) (xs ys : List Bool) → AreMarks values base (xs ++ ys) → AreMarks values base xs
+pub marks_front : (values : List Bool) (base : ℕ) (xs ys : List Bool) → AreMarks values base (xs ++ ys) → AreMarks values base xs
 marks_front values base xs ys are k within = are k (omega (arith, length-append xs ys, within)) ∙ get_or_append_left xs ys false k within
 
-marks_back : (values : List Bool) (base : ℕ) (xs ys : List Bool) → AreMarks values base (xs ++ ys) → AreMarks values (base + length xs) ys
+pub marks_back : (values : List Bool) (base : ℕ) (xs ys : List Bool) → AreMarks values base (xs ++ ys) → AreMarks values (base + length xs) ys
 marks_back values base xs ys are k within =
     let place : base + length xs + k ≡ base + (length xs + k) = omega arith in
     ap (λ n. get_or values n false) place ∙ are (length xs + k) (omega (arith, length-append xs ys, within)) ∙ get_or-append-add xs ys k false

@@ -4,3 +4,4 @@ pub mod Names
 pub mod Room
 pub mod History
 pub mod Parts
+pub mod Images

@@ -19,6 +19,8 @@ mod encode;
 #[cfg(test)]
 mod formulas;
 #[cfg(test)]
+mod images;
+#[cfg(test)]
 mod lrat;
 #[cfg(test)]
 mod lrat_held;

@@ -111,7 +111,7 @@ module _ (p : PosedProblem) (motion : Motion) (h : History) (square : exchanges 
   abbrev size : ℕ
   size = p.posed.width * p.posed.height
 
-  below : (k : ℕ) → k < size → k < cell_count (sizes_of p.posed)
+  pub below : (k : ℕ) → k < size → k < cell_count (sizes_of p.posed)
   below k first = subst (λ n. k < n) (mul_assoc p.posed.width p.posed.height p.posed.generations) (first_below size p.posed.generations k posed.generations.0 first)
 
   -- a cell of generation 0 of the image, by one of the history

@@ -28,7 +28,7 @@ fn compare(
 ) -> Result<(), Fail> {
     let problem = posed(alloc, file, symmetry)?;
     let same = same_motions(alloc, &problem)?;
-    assert!(rt; same == motions);
+    assert!(rt; same.as_slice() == motions);
     Ok(())
 }
 

@@ -18,7 +18,7 @@ mod unlike;
 
 pub use bounds::{Bound, Bounds};
 pub use demands::{DemandError, Demands, Edge, Period};
-pub use form::Form;
+pub use form::{Form, Formulation, Images};
 pub use judgement::Judgement;
 pub use judging::judge;
 pub use problem::{Problem, make_problem};

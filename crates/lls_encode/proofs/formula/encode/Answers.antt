@@ -59,7 +59,8 @@ returns-clause-formula c =
 
 pub returns-clause-few : goal.returns-clause-few
 returns-clause-few c =
-    subst (λ (f : Cnf). length f.clauses < 200000000) (sym (returns-clause-formula c)) (few_clauses c.args.problem.now c.args.form c.posed.ensures.kept c.demands-demands.ensures.kept)
+    let few = few_clauses c.args.problem.now c.args.form c.posed.ensures.kept c.demands-demands.ensures.kept in
+    subst (λ (f : Cnf). length f.clauses < 200000000) (sym (returns-clause-formula c)) (omega (arith, few))
 
 pub returns-clause-complete : goal.returns-clause-complete
 returns-clause-complete c = λ history solution.
