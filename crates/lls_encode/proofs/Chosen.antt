@@ -1,22 +1,19 @@
 -- The formula of a formulation leaves the solutions that it says, and is unsatisfiable just where there is no solution.
-use Rattle.std.proofs.Common.{◌≡◌, ◌<◌, ◌≤◌, ℕ, zero, suc, ◌+◌, ◌*◌, ℤ, pos, negsuc, Bool, true, false, cond, not, ◌&&◌, List, [], ◌∷◌, ◌++◌, map, length, get_or, take, refl, sym, ap, ◌∙◌, subst, arith, length-append, nat_eq, eqb-true, nat_le}
-use Rattle.std.specs.Prelude.{All}
-use Rattle.std.specs.List.{AllByRecursion as Each, list_all, list_any, filter, range_with_len}
+use Rattle.std.proofs.Common.{◌≡◌, ◌<◌, ◌≤◌, ℕ, zero, suc, ◌+◌, ℤ, pos, negsuc, Bool, true, false, not, ◌&&◌, List, [], ◌∷◌, ◌++◌, map, length, get_or, refl, sym, ap, ◌∙◌, subst, arith, length-append, nat_eq, eqb-true, nat_le}
+use Rattle.std.specs.List.{AllByRecursion as Each, list_all, range_with_len}
 use Rattle.std.proofs.Math.Bool.{beq}
-use Rattle.std.proofs.Math.Nat.{mul_assoc}
 use Rattle.std.proofs.lemmas.Bool.{and_parts, and_from, false_from_ne_true, leb-true}
 use Rattle.std.proofs.lemmas.List.{ext_get_or, get_or_append_left, get_or-append-add, get_or-take, take-append-le}
 use Rattle.std.proofs.lemmas.List.Elements.{recursion_from_All, All-from_recursion}
 use Rattle.std.proofs.lemmas.List.FromFn.{get_or-map-range_with_len, length-map-range_with_len}
 use Rattle.std.proofs.lemmas.Int.{ints}
 use Rattle.lls_lit.specs.Literal.{variable_of}
-use Rattle.lls_lit.specs.Formula.{Clause, Cnf, is_true, satisfies_clause, satisfies, is_literal_of, is_within, IsUnsatisfiable}
+use Rattle.lls_lit.specs.Formula.{Clause, is_true, satisfies_clause, satisfies, is_literal_of, is_within, IsUnsatisfiable}
 use Rattle.lls_rule.specs.Rule.{number_of}
-use Rattle.lls_grid.specs.History.{History, cells_of, cells_of_rows, rows_at}
+use Rattle.lls_grid.specs.History.{History, cells_of}
 use Rattle.lls_search_file.specs.Posed.{IsPosed, sizes_of}
 use Rattle.lls_symmetry.specs.declared.motion.Motion.{Motion}
 use Rattle.lls_symmetry.specs.Motion.{exchanges}
-use Rattle.lls_problem.specs.declared.form.Form.{Form}
 use Rattle.lls_problem.specs.declared.form.Images.{Images}
 use Rattle.lls_problem.specs.declared.form.Images.TheVariants as images
 use Rattle.lls_problem.specs.declared.form.Formulation.{Formulation}
@@ -24,7 +21,7 @@ use Rattle.lls_problem.specs.Problem.{PosedProblem, AreFitting}
 use Rattle.lls_problem.specs.Solution.{IsSolution, IsAbsent}
 use Rattle.lls_images.specs.Image.{image}
 use Rattle.lls_images.specs.Same.{same_motions}
-use Rattle.lls_images.specs.First.{beginning, IsFirst}
+use Rattle.lls_images.specs.First.{beginning}
 use Rattle.lls_images.proofs.First.{few_motions, squares, first_law}
 use Rattle.lls_images.proofs.Images.{HasSizes-image}
 use Rattle.lls_images.proofs.Patterns.{length-beginning, beginning-image, image_index-forth, below}

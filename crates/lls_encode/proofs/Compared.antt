@@ -1,11 +1,11 @@
 -- The clauses that compare generation 0 with its images: how many they are, and what the pushes of them make.
-use Rattle.std.proofs.Common.{◌≡◌, ◌<◌, ◌≤◌, ℕ, zero, suc, ◌+◌, ◌*◌, Bool, true, false, cond, not, List, [], ◌∷◌, ◌++◌, length, get_or, drop, refl, sym, ap, ◌∙◌, subst, arith, length-append, append_assoc, add-zero, add-one}
+use Rattle.std.proofs.Common.{◌≡◌, ◌<◌, ◌≤◌, ℕ, zero, suc, ◌+◌, ◌*◌, Bool, true, false, cond, List, [], ◌∷◌, ◌++◌, length, drop, refl, sym, ap, ◌∙◌, arith, length-append, add-zero, add-one}
 use Rattle.std.specs.List.{AllByRecursion as Each, All, filter, flat_map, range_with_len}
 use Rattle.std.proofs.lemmas.List.{append-nil}
 use Rattle.std.proofs.lemmas.List.Elements.{All-from_recursion}
 use Rattle.std.proofs.lemmas.List.FromFn.{length-range_with_len}
 use Rattle.std.proofs.lemmas.List.Sums.{length-filter, count_by-le-length}
-use Rattle.lls_lit.specs.Formula.{Clause, Cnf}
+use Rattle.lls_lit.specs.Formula.{Cnf}
 use Rattle.lls_symmetry.specs.declared.motion.Motion.{Motion}
 use Rattle.lls_search_file.specs.Posed.{IsPosed}
 use Rattle.lls_problem.specs.Problem.{PosedProblem}
@@ -30,7 +30,7 @@ filter-from_more f a (suc n) =
     let there : a + 1 + n ≡ a + suc n = omega arith in
     let later = filter-from_more f (a + 1) n ∙ ap (λ k. filter f (range_with_len (a + 1) n) ++ cond (f k) (k ∷ []) []) there in
     elim (f a) as (λ b. cond b (a ∷ filter f (range_with_len (a + 1) (suc n))) (filter f (range_with_len (a + 1) (suc n)))
-        ≡ cond b (a ∷ filter f (range_with_len (a + 1) n)) (filter f (range_with_len (a + 1) n)) ++ cond (f (a + suc n)) ((a + suc n) ∷ []) []) [
+    ≡ cond b (a ∷ filter f (range_with_len (a + 1) n)) (filter f (range_with_len (a + 1) n)) ++ cond (f (a + suc n)) ((a + suc n) ∷ []) []) [
       | true ↦ ap (λ xs. a ∷ xs) later
       | false ↦ later
     ]

@@ -1,17 +1,15 @@
 -- The clauses that compare generation 0 with its images say that it comes first of them, and an assignment of such a history satisfies them.
-use Rattle.std.proofs.Common.{◌≡◌, ◌<◌, ◌≤◌, ℕ, zero, suc, ◌+◌, ◌*◌, ℤ, pos, Bool, true, false, cond, not, ◌||◌, ◌&&◌, List, [], ◌∷◌, ◌++◌, map, length, get_or, drop, refl, sym, ap, ◌∙◌, subst, arith, add-one, length-append, nat_eq, eqb-true}
-use Rattle.std.specs.List.{AllByRecursion as Each, All, list_any, filter, flat_map, range_with_len}
+use Rattle.std.proofs.Common.{◌≡◌, ℕ, zero, suc, ◌+◌, ◌*◌, ℤ, Bool, true, false, cond, not, ◌||◌, ◌&&◌, List, [], ◌∷◌, ◌++◌, length, get_or, drop, refl, sym, ap, ◌∙◌, subst, arith, add-one}
+use Rattle.std.specs.List.{list_any, flat_map, range_with_len}
 use Rattle.std.proofs.Math.Bool.{beq}
 use Rattle.std.proofs.lemmas.Bool.{and_parts, and_from}
-use Rattle.std.proofs.lemmas.List.{ext_get_or, get_or_append_left, get_or-append-add}
 use Rattle.std.proofs.lemmas.List.Folds.{list_any-append}
-use Rattle.std.proofs.lemmas.List.FromFn.{get_or-map-range_with_len, length-map-range_with_len}
 use Rattle.lls_lit.specs.Literal.{negation}
-use Rattle.lls_lit.specs.Formula.{Clause, is_true, satisfies_clause, satisfies}
+use Rattle.lls_lit.specs.Formula.{is_true, satisfies_clause, satisfies}
 use Rattle.lls_symmetry.specs.declared.motion.Motion.{Motion}
 use Rattle.lls_problem.specs.Problem.{PosedProblem}
 use Rattle.lls_encode.specs.Formula.{generation_size, cell_of_generation, difference_variable}
-use Rattle.lls_encode.specs.Images.{image_of_cell, is_changed, changed_cells, compared, before_of, comparison, comparisons}
+use Rattle.lls_encode.specs.Images.{image_of_cell, before_of, comparison, comparisons}
 use Rattle.lls_encode.proofs.Satisfied.{is_true-negation}
 use Rattle.lls_encode.proofs.Parts.{satisfies-append}
 use Rattle.lls_encode.proofs.Differing.{literal}

@@ -34,7 +34,9 @@ const MOST_CLAUSES_MOTION: usize = CLAUSES_EACH * MOST_CELLS as usize;
 
 // The motions of a grid. Before each there is room for one more than all, whatever those before it took.
 const MOST_MOTIONS: usize = 7;
+
 const MOST_VARIABLES: usize = (MOST_MOTIONS + 1) * MOST_CELLS as usize;
+
 const MOST_CLAUSES_IMAGES: usize = (MOST_MOTIONS + 1) * MOST_CLAUSES_MOTION;
 
 // Where the image of a cell of generation 0 stands in it.

@@ -1,4 +1,4 @@
-use Rattle.std.proofs.Common.{◌≡◌, ◌<◌, ◌≤◌, ◌+◌, length, sym, ap, ◌∙◌, subst, arith, true, ℕ}
+use Rattle.std.proofs.Common.{◌≡◌, ◌<◌, ◌≤◌, length, sym, ap, ◌∙◌, subst, arith, true, ℕ}
 use Rattle.lls_lit.specs.Formula.{Cnf, satisfies, is_within, IsUnsatisfiable}
 use Rattle.std.specs.List.{list_all}
 use Rattle.lls_problem.specs.declared.form.Form.{Form}

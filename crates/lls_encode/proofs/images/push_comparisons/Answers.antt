@@ -1,4 +1,4 @@
-use Rattle.std.proofs.Common.{◌≡◌, ◌<◌, ◌≤◌, ℕ, List, length, sym, ap, ◌∙◌, arith}
+use Rattle.std.proofs.Common.{ℕ, List, ap, ◌∙◌, arith}
 use Rattle.lls_transition.specs.Clause.{with_clauses}
 use Rattle.lls_encode.specs.Images.{changed_cells, comparison}
 use Rattle.lls_encode.proofs.Compared.{comparisons_more, HasRoom-comparison}
