@@ -2,7 +2,7 @@
 """Prints the formula of a search file as DIMACS CNF, for any SAT solver.
 
     formula.py SEARCH BIRTHS SURVIVALS closed|open [--symmetry NAME] [--period N] [--shift DX,DY] [--live T:LOW-HIGH,..]
-        [--differ A,B] [--exact yes|no] [--but LIST] [--formula 1|2]
+        [--differ A,B] [--exact yes|no] [--but LIST] [--images all|one] [--formula 1|2]
 
 BIRTHS and SURVIVALS are digits, or `-` for none. LOW and HIGH may be left out. Form 2, by cover, is the default. The clauses are made by refute.py beside this
 file, which shares nothing with the crates.

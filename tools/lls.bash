@@ -6,11 +6,11 @@ _lls_demands='--edge --symmetry --period --exact --live --differ --but'
 # The options that a command takes.
 _lls_options() {
     case $1 in
-    check | cnf) echo "--rule $_lls_demands --as --formula" ;;
+    check | cnf) echo "--rule $_lls_demands --as --images --formula" ;;
     opencheck) echo "--low --high $_lls_demands --as --formula" ;;
     judge) echo "--rule $_lls_demands --as" ;;
-    search) echo "--rule $_lls_demands --budget --keep --manner --first --as --formula --crew --turns" ;;
-    least | most) echo "--rule $_lls_demands --budget --keep --manner --first --as --formula" ;;
+    search) echo "--rule $_lls_demands --budget --keep --manner --first --as --images --formula --crew --turns" ;;
+    least | most) echo "--rule $_lls_demands --budget --keep --manner --first --as --images --formula" ;;
     open) echo "--low --high $_lls_demands --budget --keep --manner --first --as --formula" ;;
     sat) echo '--budget --keep --manner --first' ;;
     esac
@@ -25,6 +25,7 @@ _lls_values() {
     --keep) echo 'all half' ;;
     --manner) echo 'restless steady both' ;;
     --as) echo 'rows rle cells' ;;
+    --images) echo 'all one' ;;
     --formula) echo '1 2' ;;
     --rule | --low | --high) echo 'B3/S23 B36/S23 B2/S B368/S245' ;;
     esac

@@ -11,7 +11,7 @@ import sys
 
 import ending
 import words as spoken
-from refute import GENERATORS, MOTIONS
+from images import GENERATORS, MOTIONS
 
 
 def keeps(motion, right, down):

@@ -32,6 +32,9 @@ asked; the options go to the standard error:
 
 They also stand in the file's first line, `#! --period 2 --differ 0,1`, from which `lls COMMAND q.lls ..` takes them.
 
+Where a question looks the same in a mirror, or turned, a note says in how many ways. `--images one` puts that option behind the others: the search is for one
+solution of each kind then, and mostly takes a part of the time.
+
 Shorter periods along the same line are left out: of an oscillator by two generations that differ where one prime alone divides the period, else by `--exact yes`.
 
 The margin is N rows and columns more on each side: 1 where it isn't given for what has phases besides (an oscillator, a spaceship, a glide), else
@@ -55,6 +58,7 @@ import re
 import sys
 
 import ending
+from images import image, same_motions
 from pictures import BadPicture, pictures_of, place_word, placed
 
 MOST_GENERATIONS, MOST_ROWS, MOST_CELLS = 64, 64, 8192
@@ -272,6 +276,21 @@ def unknown_like(rows):
     return [["*"] * len(row) for row in rows]
 
 
+def ways_of(question):
+    """Returns in how many ways the question looks the same, one of which is as it stands."""
+    moved = next((tuple(map(int, option.split(",")[1:])) for option in question.options if option.startswith("--period ")), ())
+    height, width = len(question.generations[0]), len(question.generations[0][0])
+    places = range(height * width)
+    return len({tuple(places), *(tuple(image(motion, height, width, places)) for motion in same_motions(question.generations, shift=moved or (0, 0)))})
+
+
+def images_notes(ways, images):
+    """Returns what is said of a question that looks the same in so many ways, where one solution of each kind is asked for, and where all are."""
+    if images:
+        return [f"one solution of each kind is asked for, of up to {ways}" if ways > 1 else "it looks the same in no other way, so --images one changes nothing"]
+    return [f"it looks the same in {ways} ways; --images one asks for one solution of each kind"] if ways > 1 else []
+
+
 def test_limits(generations):
     """Refuses what is beyond the limits of search files."""
     count, height, width = len(generations), len(generations[0]), len(generations[0][0])
@@ -339,11 +358,12 @@ def question_of_words():
             words.add_argument("--region", metavar="PICTURE")
         if kind in (oscillator, spaceship):
             words.add_argument("--fewest", choices=("phase",))
+        words.add_argument("--images", choices=("one",))
         words.add_argument("-o", metavar="FILE", dest="out")
         words.set_defaults(ask=kind)
     values = vars(parser.parse_args())
     values.pop("kind")
-    out, band, region, fewest = (values.pop(name, None) for name in ("out", "band", "region", "fewest"))
+    out, band, region, fewest, images = (values.pop(name, None) for name in ("out", "band", "region", "fewest", "images"))
     question = values.pop("ask")(**values)
     if band is not None:
         narrowed(question, lambda x, y: abs(x - y) <= band)
@@ -352,6 +372,10 @@ def question_of_words():
         narrowed(question, lambda x, y: (x, y) in cells)
     if fewest:
         of_any_phase(question)
+    ways = ways_of(question)
+    if images:
+        question.options.append("--images one")
+    question.notes = [*question.notes, *images_notes(ways, images)]
     return question, out
 
 

@@ -2,7 +2,7 @@
 """Makes the formula of a small search file and an LRAT proof of its absence, by plain splitting.
 
     refute.py SEARCH BIRTHS SURVIVALS closed|open [--symmetry NAME] [--period N] [--shift DX,DY] [--live T:LOW-HIGH,..]
-        [--differ A,B] [--exact yes|no] [--but LIST] [--formula 1|2] [--define V,W]
+        [--differ A,B] [--exact yes|no] [--but LIST] [--images all|one] [--formula 1|2] [--define V,W]
 
 BIRTHS and SURVIVALS are digits, or `-` for none. LOW and HIGH may be left out. Form 2 of the formula, by cover, is the default. With
 V and W the proof begins with a variable of its own, which is true just where both of these are, and splits on it first. The proof goes to the standard output, the sizes of the formula to the
@@ -16,6 +16,7 @@ import re
 import sys
 
 import ending
+from images import GENERATORS, MOTIONS, image, same_motions
 
 
 def read_search_file(text):
@@ -31,30 +32,6 @@ def read_search_file(text):
             generations.append(rows)
             rows = []
     return generations
-
-
-# Where each motion takes a cell of a grid of h rows and w columns.
-MOTIONS = {
-    "half": lambda h, w, y, x: (h - 1 - y, w - 1 - x),
-    "quarter": lambda h, w, y, x: (x, h - 1 - y),
-    "rows": lambda h, w, y, x: (h - 1 - y, x),
-    "columns": lambda h, w, y, x: (y, w - 1 - x),
-    "down": lambda h, w, y, x: (x, y),
-    "up": lambda h, w, y, x: (w - 1 - x, h - 1 - y),
-}
-
-GENERATORS = {
-    "C1": [],
-    "C2": ["half"],
-    "C4": ["quarter"],
-    "D2-": ["rows"],
-    "D2|": ["columns"],
-    "D2\\": ["down"],
-    "D2/": ["up"],
-    "D4+": ["rows", "columns"],
-    "D4x": ["down", "up"],
-    "D8": ["quarter", "columns"],
-}
 
 
 INPUTS = 10
@@ -100,7 +77,7 @@ def opposite(place):
 class Formula:
     """The clauses of a search file, in the order of docs/definitions.md."""
 
-    def __init__(self, generations, successor, closed, form=2, symmetry="C1", period=None, shift=(0, 0), live=(), differ=None, exact=False, listed=()):
+    def __init__(self, generations, successor, closed, form=2, symmetry="C1", period=None, shift=(0, 0), live=(), differ=None, exact=False, listed=(), one=False):
         self.generations = generations
         self.height, self.width = len(generations[0]), len(generations[0][0])
         self.count = len(generations) * self.height * self.width
@@ -128,6 +105,9 @@ class Formula:
                     self.push_unseen(period // prime, *(number // prime for number in shift))
         for pattern in listed:
             self.clauses.append([-k if live else k for k, live in enumerate(pattern, 1)])
+        if one:
+            for motion in same_motions(generations, symmetry, shift if period is not None else (0, 0), listed):
+                self.push_comparison(motion)
 
     def variable(self, t, y, x):
         return 1 + x + self.width * (y + self.height * t)
@@ -229,6 +209,17 @@ class Formula:
             self.push_clause([-d, a, b])
             self.push_clause([-d, opposite(a), opposite(b)])
         self.clauses.append(list(range(base + 1, self.count + 1)))
+
+    def push_comparison(self, motion):
+        """Where a cell of generation 0 and its image first differ the cell is live. A variable says that none has differed so far."""
+        cells = [self.variable(0, *place) for place in self.grid()]
+        before = []
+        for cell, to in zip(cells, image(motion, self.height, self.width, cells)):
+            if cell != to:
+                self.count += 1
+                same = self.count
+                self.clauses += [[*before, cell, -to], [*before, -to, same], [*before, cell, same]]
+                before = [-same]
 
     def place(self, t, y, x):
         """A variable, or the constant of a place outside the grid."""
@@ -365,6 +356,7 @@ def parser_of(description):
     parser.add_argument("--differ", type=pair)
     parser.add_argument("--exact", choices=("yes", "no"), default="no")
     parser.add_argument("--but", type=patterns_in, default=())
+    parser.add_argument("--images", choices=("all", "one"), default="all")
     parser.add_argument("--formula", type=int, choices=(1, 2), default=2)
     return parser
 
@@ -378,7 +370,7 @@ def formula_of(words):
 
     with open(words.search, encoding="ascii") as file:
         generations = read_search_file(file.read())
-    demands = (words.symmetry, words.period, words.shift, words.live, words.differ, words.exact == "yes", words.but)
+    demands = (words.symmetry, words.period, words.shift, words.live, words.differ, words.exact == "yes", words.but, words.images == "one")
     return Formula(generations, successor, words.edge == "closed", words.formula, *demands)
 
 

@@ -7,13 +7,16 @@
     spread.py join FOLDER PROOF [--trimmed]
     spread.py look FOLDER
 
-`start` takes the search file, the options of its question (--rule, --edge, --symmetry, --period, --exact, --live, --differ) and the form of
-the formula (--formula), which are those of the file's line `#!` where the words have none and not --bare, and lays out the first pieces in FOLDER: each is the search file with the N unknown cells of generation 0 that
+`start` takes the search file, the options of its question (--rule, --edge, --symmetry, --period, --exact, --live, --differ) and how its
+formula is made (--images, --formula), which are those of the file's line `#!` where the words have none and not --bare, and lays out the first pieces in FOLDER: each is the search file with the N unknown cells of generation 0 that
 are nearest to the middle (1 where --cells isn't given) fixed one way. `run` searches all open pieces in rounds, each within its budget (10,000 for the first ones), by GNU
 parallel (Debian's package `parallel`): over this machine's processors, or with `-- --sshloginfile HOSTS` over many machines that have the
 program under the same name, and `rsync`. A piece whose budget is spent is tried in the other manner, and where that spends it too it is split by one more cell, and its parts get twice the budget. `run` can be
 killed at any time and begun again; a piece counts only where its answer stands whole and comes from the program that `start` had: its sum goes with each answer. It ends with 20 where every piece is closed,
 and with 10 where one has a pattern, which fits the whole file too and is judged against it.
+
+With --images one all pieces are searched by the formula of the whole, with the clauses that leave one solution of each kind, and what fixes their cells behind it: a piece that has
+none to leave is refuted by them soon.
 
 `next` is for queues of jobs, and needs no GNU parallel: it searches one open piece and ends with 0, or with 30 where none is free just now, and as `run` does where
 nothing is left. Any number of them may run at once over a folder that their machines share, but not beside `run`. A piece is locked by a file, which counts no more when it
@@ -39,9 +42,12 @@ import sys
 import time
 
 import ending
+from pattern import pattern_of
 from refute import read_search_file
 
-OPTIONS = ("rule", "edge", "symmetry", "period", "exact", "live", "differ", "formula")
+OPTIONS = ("rule", "edge", "symmetry", "period", "exact", "live", "differ", "images", "formula")
+# Those that say how the formula is made, which a history is judged without.
+MAKING = ("--images=", "--formula=")
 FIRST_BUDGET, MOST_BUDGET = 10_000, 10_000_000
 # the seconds of a day
 MOST_AGE = 86_400
@@ -119,8 +125,15 @@ class Spread:
         self.options, self.budget, self.cells = asked["options"], asked["budget"], asked["cells"]
         self.clauses, self.program, self.sum = asked["clauses"], asked["lls"], asked.get("sum")
         with open(f"{folder}/search.lls", encoding="utf-8") as file:
-            self.generations = read_search_file(file.read())
+            self.text = file.read()
+        self.generations = read_search_file(self.text)
         self.order = splitting_order(self.generations[0])
+        # Whether pieces are searched by the formula of the whole.
+        self.is_of_kinds = "--images=one" in self.options
+
+    def asks(self):
+        """Returns how the names of files end that say what is asked of a piece."""
+        return "fixed" if self.is_of_kinds else "lls"
 
     def lls(self, *words):
         return subprocess.run([self.program, *words], capture_output=True, text=True, encoding="utf-8", check=False)
@@ -221,11 +234,20 @@ def start(words):
 
 # Rounds.
 
+# What searches a piece: of its file, or of the formula of the whole and of what fixes its cells.
+SEARCH = "{lls} search pieces/{{1}}.lls pieces/{{1}}.part {options}"
+SEARCH_OF_KINDS = (
+    "{lls} cnf search.lls {options} 2>pieces/{{1}}.err | awk -v name=pieces/{{1}}.fixed "
+    "'BEGIN {{ while ((getline clause <name) > 0) fixed[count++] = clause }} NR == 1 {{ $4 += count }} {{ print }} "
+    "END {{ for (k = 0; k < count; k++) print fixed[k] }}' >pieces/{{1}}.cnf; "
+    "{lls} sat pieces/{{1}}.cnf pieces/{{1}}.part"
+)
+
 # One job: the search, and a file that holds its status, the program's sum, the machine and the seconds, and behind them what it found, under its
 # final name only where it is whole.
 JOB = (
     "b=$(date +%s); echo $(hostname) $b >pieces/{{1}}.runs; "
-    "{lls} search pieces/{{1}}.lls pieces/{{1}}.part {options} --budget={{2}} --manner={{3}} >pieces/{{1}}.out 2>pieces/{{1}}.err; s=$?; rm -f pieces/{{1}}.runs; "
+    "{search} --budget={{2}} --manner={{3}} >pieces/{{1}}.out 2>>pieces/{{1}}.err; s=$?; rm -f pieces/{{1}}.runs pieces/{{1}}.cnf; "
     "case $s in 10) f=pieces/{{1}}.out;; 20) f=pieces/{{1}}.part;; 30) f=/dev/null;; *) cat pieces/{{1}}.err >&2; exit $s;; esac; "
     "m=$(sha256sum <{made}); ( echo $s ${{m%% *}} $(hostname) $(($(date +%s) - b)) && cat $f ) >pieces/{{1}}.new && mv pieces/{{1}}.new pieces/{{1}}.ended; "
     "rm -f pieces/{{1}}.new pieces/{{1}}.part pieces/{{1}}.out pieces/{{1}}.err"
@@ -233,20 +255,23 @@ JOB = (
 
 
 def text_of(piece):
-    """Returns a piece's search file."""
+    """Returns a piece's search file, or of one that is searched by the formula of the whole the clauses that fix its cells."""
+    if piece.spread.is_of_kinds:
+        return "".join(f"{-lit} 0\n" for lit in negations(piece))
     return "\n\n".join("\n".join(map(" ".join, rows)) for rows in piece.generations()) + "\n"
 
 
 def search_round(spread, pieces, more):
     """Searches pieces by GNU parallel, and returns whether it could."""
     for piece in pieces:
-        write_whole(piece.path("lls"), text_of(piece))
+        write_whole(piece.path(spread.asks()), text_of(piece))
     write_whole(f"{spread.folder}/round", "".join(f"{piece.name}\t{piece.budget()}\t{piece.manner()}\n" for piece in pieces))
     options = " ".join(map(shlex.quote, spread.options))
-    job = JOB.format(lls=shlex.quote(spread.program), made=shlex.quote(made_of(spread.program)), options=options)
+    search = (SEARCH_OF_KINDS if spread.is_of_kinds else SEARCH).format(lls=shlex.quote(spread.program), options=options)
+    job = JOB.format(search=search, made=shlex.quote(made_of(spread.program)))
     words = ["parallel", "--will-cite", "--joblog", "joblog", "--colsep", "\t", "-a", "round"]
     if any(word.startswith(("--sshlogin", "-S")) for word in more):
-        words += ["--transferfile", "pieces/{1}.lls", "--return", "pieces/{1}.ended", "--cleanup"]
+        words += ["--basefile", "search.lls", "--transferfile", f"pieces/{{1}}.{spread.asks()}", "--return", "pieces/{1}.ended", "--cleanup"]
     with subprocess.Popen([*words, *more, job], cwd=spread.folder) as parallel:
         show_round(spread, pieces, parallel)
 
@@ -266,7 +291,10 @@ def take_ended(spread, piece):
         if status in (PATTERN, ABSENT):
             kept = piece.path("pattern" if status == PATTERN else "proof")
             with open(f"{kept}.new", "w", encoding="ascii") as to:
-                shutil.copyfileobj(file, to)
+                if status == PATTERN and spread.is_of_kinds:
+                    to.write("\n".join(pattern_of(spread.text, file.read())) + "\n")
+                else:
+                    shutil.copyfileobj(file, to)
             os.replace(f"{kept}.new", kept)
             write_whole(piece.path("took"), f"{head[2]} {head[3]}\n")
     if status == UNDECIDED and not piece.has("other"):
@@ -301,8 +329,7 @@ def stands(leaves):
 
 def judged(spread, piece):
     """Says what the whole file's judge says of a piece's pattern."""
-    # A history is judged without a formula.
-    options = [option for option in spread.options if not option.startswith("--formula=")]
+    options = [option for option in spread.options if not option.startswith(MAKING)]
     said = spread.lls("judge", f"{spread.folder}/search.lls", piece.path("pattern"), *options)
     if said.stdout != "meets\n":
         raise Stop(f"the pattern of {piece.name} doesn't fit the whole file: {said.stdout.strip() or said.stderr.strip()}")
@@ -371,13 +398,25 @@ def whose():
     return f"{socket.gethostname()}.{os.getpid()}"
 
 
+def write_formula(piece, name):
+    """Writes the formula of the whole, and behind it what fixes a piece's cells."""
+    said = piece.spread.lls("cnf", f"{piece.spread.folder}/search.lls", *piece.spread.options)
+    header, _, clauses = said.stdout.partition("\n")
+    fixed = text_of(piece)
+    with open(name, "w", encoding="ascii") as file:
+        file.write(f"{' '.join(header.split()[:3])} {piece.spread.clauses + fixed.count(chr(10))}\n{clauses}{fixed}")
+
+
 def search_one(spread, piece):
     """Searches a piece and takes what comes of it."""
-    write_whole(piece.path("lls"), text_of(piece))
-    part, out = piece.path(f"part.{whose()}"), piece.path(f"out.{whose()}")
+    write_whole(piece.path(spread.asks()), text_of(piece))
+    part, out, formula = (piece.path(f"{name}.{whose()}") for name in ("part", "out", "cnf"))
     try:
         with open(out, "wb") as file:
             began, words = time.time(), [spread.program, "search", piece.path("lls"), part, *spread.options]
+            if spread.is_of_kinds:
+                write_formula(piece, formula)
+                words = [spread.program, "sat", formula, part]
             words += [f"--budget={piece.budget()}", f"--manner={piece.manner()}"]
             done = subprocess.run(words, stdin=subprocess.DEVNULL, stdout=file, stderr=subprocess.PIPE, check=False)
         if done.returncode not in (PATTERN, ABSENT, UNDECIDED):
@@ -387,7 +426,7 @@ def search_one(spread, piece):
             head = f"{done.returncode} {sum_of(made_of(spread.program))} {socket.gethostname()} {time.time() - began:.1f}"
             write_whole(piece.path("ended"), f"{head}\n{file.read()}")
     finally:
-        for path in (part, out):
+        for path in (part, out, formula):
             if os.path.exists(path):
                 os.remove(path)
     take_ended(spread, piece)
@@ -481,8 +520,11 @@ def negations(piece):
 
 
 def unit_places(piece):
-    """Returns the ids of the clauses that fix a piece's cells: known cells come first in a formula, by row and column."""
+    """Returns the ids of the clauses that fix a piece's cells: known cells come first in a formula, by row and column. Of one that is searched by the
+    formula of the whole they stand behind that."""
     fixed, places, count = piece.fixed(), set(), 0
+    if piece.spread.is_of_kinds:
+        return set(range(piece.spread.clauses + 1, piece.spread.clauses + len(fixed) + 1))
     for y, row in enumerate(piece.generations()[0]):
         for x, word in enumerate(row):
             count += word.rstrip("'") in ("0", "1")

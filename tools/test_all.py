@@ -9,15 +9,16 @@ import unittest
 
 from test_tools import TOP, ran
 
-# The file that is searched has a status for the end, and then a pattern a line. What is found is printed with a later generation.
+# The file that is searched has a status for the end in a comment, and then in others a pattern a line. What is found is printed with a later generation.
 PROGRAM = """#!/bin/bash
 [[ "$1 $4 $*" = 'search --live '*' --but '* ]] || exit 2
 list=${!#}
 printed='%s\\n\\n1 1\\n'
 [[ "$*" != *' --as rle '* ]] || printed='x = 2, y = 1\\n%s\\nx = 2, y = 1\\n2o!\\n'
 {
-    read -r status
-    while read -r pattern; do
+    read -r _ status
+    while read -r hash pattern; do
+        [ "$hash" = '#' ] || break
         grep -qx "$pattern" "$list" || { printf "$printed" "$pattern"; exit 10; }
     done
 } <"$2"
@@ -48,7 +49,7 @@ class Lists(unittest.TestCase):
         for name in ("list", "proof"):
             if os.path.exists(f"{self.folder}/{name}"):
                 os.remove(f"{self.folder}/{name}")
-        self.write("q.lls", asked)
+        self.write("q.lls", "".join(f"# {line}\n" for line in asked.splitlines()) + "* *\n")
         if begun is not None:
             self.write("list", begun)
         done = ran(f"{TOP}/tools/all.py", "--lls", f"{self.folder}/lls", *words, "q.lls", "list", "proof", "--live", "0:1-", *form, folder=self.folder)
@@ -83,6 +84,21 @@ class Lists(unittest.TestCase):
         for words in (("--but", "list"), ("--but=list",)):
             done = ran(f"{TOP}/tools/all.py", "q.lls", "list", "proof", *words, folder=self.folder)
             self.assertEqual(done, (1, "", "all.py: --but can't stand here\n"))
+
+    def test_each_with_its_images(self):
+        rows = [
+            ("", ("--images", "one"), "0 1\n\n1 0\n"),
+            ("", ("--images=one", "--period", "2,1,0"), "0 1\n"),
+            ("", ("--images=one", "--symmetry=C2"), "0 1\n\n1 0\n"),
+            ("", ("--images=one", "--symmetry=D4+"), "0 1\n"),
+            ("", ("--images", "all"), "0 1\n"),
+        ]
+        for asked, form, left in rows:
+            self.assertEqual(self.listed("20\n0 1\n", form=form)[1]["list"], left, form)
+
+    def test_images_of_pictures(self):
+        done, files = self.listed("20\nbo!\n", form=("--as", "rle", "--images", "one"))
+        self.assertEqual((done, files["list"]), ((10, "all 2\n", ""), "x = 2, y = 1\nbo!\nx = 2, y = 1\nob!\n"))
 
 
 if __name__ == "__main__":

@@ -183,10 +183,30 @@ class Pose(unittest.TestCase):
         self.assertEqual(status, 0, err)
         return out, err
 
+    @staticmethod
+    def ways(count):
+        return f"note: it looks the same in {count} ways; --images one asks for one solution of each kind\n"
+
+    def test_one_of_each_kind(self):
+        rows = [
+            ("still 3 3", "--period 1 --live 0:1-", "of up to 8"),
+            ("oscillator 3 2 2", "--period 2 --differ 0,1", "of up to 4"),
+            ("spaceship 3 3 4 1 1", "--period 4,1,1 --live 0:1-", "of up to 2"),
+            ("spaceship 3 3 2 1 0", "--period 2,1,0 --live 0:1-", "of up to 2"),
+            ("spaceship 3 3 4 1 2", "--period 4,1,2 --live 0:1-", "it looks the same in no other way, so --images one changes nothing"),
+            ("torus 2 2 1", "--edge open --period 1 --live 0:1-", "of up to 8"),
+            ("still 1 1", "--period 1 --live 0:1-", "it looks the same in no other way, so --images one changes nothing"),
+        ]
+        for words, options, said in rows:
+            out, err = self.posed(*words.split(), "--images", "one")
+            self.assertEqual(out.split("\n")[0], f"#! {options} --images one")
+            self.assertTrue(err.endswith(f"{said}\n"), (words, err))
+        self.assertNotIn("ways", self.posed("still", 1, 1)[1])
+
     def test_still(self):
         out, err = self.posed("still", 3, 2)
         self.assertEqual(out, "#! --period 1 --live 0:1-\n* * *\n* * *\n\n* * *\n* * *\n")
-        self.assertEqual(err, "options: --period 1 --live 0:1-\n")
+        self.assertEqual(err, "options: --period 1 --live 0:1-\n" + self.ways(4))
 
     def test_oscillator_with_a_margin(self):
         self.assertEqual(self.posed("oscillator", 2, 1, 2), self.posed("oscillator", 2, 1, 2, "--margin", 1))
@@ -194,7 +214,7 @@ class Pose(unittest.TestCase):
         free = "* * * *\n* * * *\n* * * *\n"
         self.assertEqual(out, "#! --period 2 --differ 0,1\n0 0 0 0\n0 * * 0\n0 0 0 0\n\n" + free + "\n" + free)
         note = "note: all phases have to lie in the grid of 4 by 3; --margin 2 leaves them more room\n"
-        self.assertEqual(err, "options: --period 2 --differ 0,1\n" + note)
+        self.assertEqual(err, "options: --period 2 --differ 0,1\n" + note + self.ways(4))
 
     def test_oscillators_of_smaller_periods_are_kept_out(self):
         rows = {3: "--differ 0,1", 4: "--differ 0,2", 6: "--exact yes", 8: "--differ 0,4", 9: "--differ 0,3", 12: "--exact yes", 30: "--exact yes"}
@@ -233,14 +253,14 @@ class Pose(unittest.TestCase):
         free = "* * * *\n* * * *\n* * * *\n"
         self.assertEqual(out, "#! --rule B36/S23\n" + free + "\n0 0 0 0\n0 0 1 0\n0 0 0 0\n")
         note = "note: generations before it that reach outside of the grid are left out; `orphan` asks for any\n"
-        self.assertEqual(err, "options: --rule B36/S23\n" + note)
+        self.assertEqual(err, "options: --rule B36/S23\n" + note + self.ways(2))
 
     def test_orphan_asks_for_any_generation_before(self):
         path = scratch(self, "p.rle", "x = 2, y = 1, rule = B36/S23\nbo!\n")
         out, err = self.posed("orphan", path)
         free, ring = "* * * *\n* * * *\n* * * *\n", "*' *' *' *'\n"
         self.assertEqual(out, "#! --rule B36/S23 --edge open\n" + free + "\n" + ring + "*' 0 1 *'\n" + ring)
-        self.assertEqual(err, "options: --rule B36/S23 --edge open\n")
+        self.assertEqual(err, "options: --rule B36/S23 --edge open\n" + self.ways(2))
         out, err = self.posed("orphan", path, "--margin", 1)
         self.assertEqual(out.split("\n")[7:10], ["*' *' *' *' *' *'", "*' 0 0 0 0 *'", "*' 0 0 1 0 *'"])
 
@@ -446,6 +466,7 @@ class Building(unittest.TestCase):
         self.write("form.lls", "#! --formula 1 --edge open\n* *\n")
         self.write("loose.lls", "#! --low B3/S2 --high=B3/S23\n* *\n")
         self.write("returns.lls", "#! --edge open --symmetry D4+\r\n* *\r\n")
+        self.write("kinds.lls", "#! --edge open --images one\n* *\n")
         taken = ["--period", "4,1,1", "--live", "0:1-", "--rule", "B2-a/S12"]
         for words, ran_with in [
             (["search", "q.lls", "p"], ["search", "q.lls", "p", *taken]),
@@ -454,6 +475,10 @@ class Building(unittest.TestCase):
             (["check", "form.lls", "p"], ["check", "form.lls", "p", "--formula", "1", "--edge", "open"]),
             (["check", "returns.lls", "p"], ["check", "returns.lls", "p", "--edge", "open", "--symmetry", "D4+"]),
             (["judge", "form.lls", "p"], ["judge", "form.lls", "p", "--edge", "open"]),
+            (["least", "kinds.lls", "p"], ["least", "kinds.lls", "p", "--edge", "open", "--images", "one"]),
+            (["judge", "kinds.lls", "p"], ["judge", "kinds.lls", "p", "--edge", "open"]),
+            (["open", "kinds.lls", "p"], ["open", "kinds.lls", "p", "--edge", "open"]),
+            (["opencheck", "kinds.lls", "p"], ["opencheck", "kinds.lls", "p", "--edge", "open"]),
             (["open", "loose.lls", "p"], ["open", "loose.lls", "p", "--low", "B3/S2", "--high", "B3/S23"]),
         ]:
             said = f"lls: {' '.join(ran_with)}\n"
@@ -474,6 +499,7 @@ class Building(unittest.TestCase):
             ("--bare search q.lls p", "search q.lls p", ""),
             ("search q.lls p --budget 9", "search q.lls p --budget 9 --period 4,1,1", line.replace("q.lls p", "q.lls p --budget 9")),
             ("search q.lls p --edge=open", "search q.lls p --edge=open", ""),
+            ("search q.lls p --images=one", "search q.lls p --images=one --period 4,1,1", line.replace("q.lls p", "q.lls p --images=one")),
             ("search q.lls p --rule B3/S23", "search q.lls p --rule B3/S23", ""),
             ("search other.lls p", "search other.lls p", ""),
             ("search none.lls p", "search none.lls p", ""),

@@ -42,7 +42,7 @@ WORDS = [
     ("lrat f -", "BadWord 3", "'-' is no option; a file whose name begins with - is written ./-name"),
     ("lrat f -p", "BadWord 3", "'-p' is no option; a file whose name begins with - is written ./-p"),
     ("search q.lls p --simmetry C2", "UnknownOption 4", "no option '--simmetry'; is it --symmetry?"),
-    ("cnf q.lls --zoom=1", "UnknownOption 3", "no option '--zoom'; cnf takes --rule --edge --symmetry --period --exact --live --differ --but --formula --as"),
+    ("cnf q.lls --zoom=1", "UnknownOption 3", "no option '--zoom'; cnf takes --rule --edge --symmetry --period --exact --live --differ --but --images --formula --as"),
     ("check q.lls p --budget 9", "UnknownOption 4", "check doesn't take --budget, which is for search, sat, least, most, open"),
     ("least q.lls p --crew 2", "UnknownOption 4", "least doesn't take --crew, which is for search"),
     ("sat f p --edge open", "UnknownOption 4", "sat doesn't take --edge, which is for check, search, judge, cnf, least, most, open, opencheck"),

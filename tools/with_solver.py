@@ -92,11 +92,12 @@ class Question:
         self.words = [word for word in words if word not in self.flags]
 
     def words_for(self, command):
-        """The words of a command: `judge` makes no formula and takes no form of one."""
+        """The words of a command: `judge` makes no formula, and takes no word on how one is made."""
         if command != "judge":
             return self.words
         before = ["", *self.words]
-        return [word for word, last in zip(self.words, before) if last != "--formula" and word.partition("=")[0] != "--formula"]
+        made = ("--formula", "--images")
+        return [word for word, last in zip(self.words, before) if last not in made and word.partition("=")[0] not in made]
 
     def ask(self, command, *files):
         """Runs a command of the program. Returns its status and what it prints."""

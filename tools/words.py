@@ -19,7 +19,7 @@ import ending
 
 DEMANDS = ["edge", "symmetry", "period", "exact", "live", "differ", "but"]
 PROBLEM = ["rule"] + DEMANDS
-FORMED = PROBLEM + ["formula"]
+FORMED = PROBLEM + ["images", "formula"]
 # a problem whose rule is left open between two
 OPEN = ["low", "high"] + DEMANDS + ["formula"]
 EFFORT = ["budget", "keep", "manner", "first"]
@@ -52,6 +52,7 @@ CHOICES = {
     "edge": ["closed", "open"],
     "symmetry": ["C1", "C2", "C4", "D2-", "D2|", "D2\\", "D2/", "D4+", "D4x", "D8"],
     "exact": ["yes", "no"],
+    "images": ["all", "one"],
     "formula": ["1", "2"],
     "keep": ["all", "half"],
     "manner": ["restless", "steady", "both"],
@@ -305,6 +306,7 @@ BAD = {
     "size": ["0", "65", "000000000000000000001", "+8", "8x", "18446744073709551617"],
     "edge": ["shut", "Open", "closed,open"],
     "symmetry": ["C3", "c2", "D2", "D8 "],
+    "images": ["All", "two", "one,all"],
     "formula": ["0", "3", "12", "01", "cover"],
     "keep": ["some", "All"],
     "manner": ["calm", "Both"],

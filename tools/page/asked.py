@@ -10,7 +10,7 @@ CELL = re.compile(r"(?:[01*]|-?[A-Za-z][A-Za-z0-9]{0,31})'?")
 # The commands that the page has, each with whether it writes a proof.
 COMMANDS = {"search": True, "least": True, "most": True, "open": True, "judge": False, "check": False, "spread": True}
 # What is said of the question, and what only of how it is searched.
-ASKING = ("rule", "low", "high", "edge", "symmetry", "period", "exact", "live", "differ", "formula")
+ASKING = ("rule", "low", "high", "edge", "symmetry", "period", "exact", "live", "differ", "images", "formula")
 UNDECIDED = "undecided: the budget is spent, and nothing is known. A greater budget, another manner or pieces (spread) go on."
 
 

@@ -13,19 +13,23 @@ const MEANINGS = {
   edge: "closed: the ring round the grid stays dead", symmetry: "about the middle of the grid",
   period: "P or P,DX,DY: there again P later, moved", exact: "yes: no shorter period along the same line",
   live: "T:LOW-HIGH, with commas between: live cells of generation T",
-  differ: "A,B: two generations that differ", formula: "the form of the formula",
+  differ: "A,B: two generations that differ", images: "one: of patterns that are images of one another, turned or in a mirror, one is looked for",
+  formula: "the form of the formula",
   budget: "how many clauses may be learnt; 100000 without it", keep: "whether learnt clauses may go", manner: "by the question, without it",
   first: "a number that draws what is tried first: another way through the same question",
   as: "how the program prints patterns", crew: "how many searchers take turns", turns: "a number that draws the turns",
 };
-const CHOICES = { edge: ["", "closed", "open"], exact: ["", "yes", "no"], formula: ["", "1", "2"], keep: ["", "half", "all"], manner: ["", "restless", "steady", "both"] };
+const CHOICES = {
+  edge: ["", "closed", "open"], exact: ["", "yes", "no"], images: ["", "all", "one"], formula: ["", "1", "2"],
+  keep: ["", "half", "all"], manner: ["", "restless", "steady", "both"],
+};
 const POSE_HELP = {
   still: "columns rows", oscillator: "columns rows period", rotor: "columns rows period, columns and rows of the rotor", spaceship: "columns rows period right down",
   glide: "columns rows generations right", copies: "columns rows generations X,Y X,Y ..", torus: "columns rows period",
   predecessor: "of the picture below; perhaps --back N", orphan: "of the picture below",
 };
 // The options that say the question, and stand on a search file's line `#!`.
-const ASKING = ["rule", "low", "high", "edge", "symmetry", "period", "exact", "live", "differ", "formula"];
+const ASKING = ["rule", "low", "high", "edge", "symmetry", "period", "exact", "live", "differ", "images", "formula"];
 // The options that only say how a run prints, which the page needs as rows.
 const HIDDEN = ["as"];
 const POLL = 1000;

@@ -52,9 +52,9 @@ asks_beyond extreme asked history bound kept fitting room solution asks = record
 
 -- the certificate of a solution beyond which there is room is evidence
 pub certified_by : (asked : Asked) (effort : Effort) (steps : List Step) (next : Option Bound) (bound : Bound) → next ≡ Some bound → KeepsAll effort.keep_all steps
-    → Certifies asked.problem asked.form effort.budget steps next → IsEvidence (formula_asked (asked_bounded asked bound)) effort steps
+    → Certifies asked.problem asked.formulation effort.budget steps next → IsEvidence (formula_asked (asked_bounded asked bound)) effort steps
 certified_by asked effort steps next bound is kept certified =
-    evidence_of (formula_asked (asked_bounded asked bound)) effort steps kept (subst (Certifies asked.problem asked.form effort.budget steps) is certified)
+    evidence_of (formula_asked (asked_bounded asked bound)) effort steps kept (subst (Certifies asked.problem asked.formulation effort.budget steps) is certified)
 
 -- what the problem that asks for a solution beyond a history says of that
 none_of_map : (asked : Asked) (next : Option Bound) → None ≡ option_map (λ bound. subjects.Problem (asked_bounded asked bound)) next → next ≡ None

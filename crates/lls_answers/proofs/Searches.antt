@@ -5,18 +5,16 @@ use Rattle.lls_prooflog.specs.declared.step.Step.{Step}
 use Rattle.lls_prooflog.specs.Log.{log_text}
 use Rattle.lls_prooflog.specs.Spent.{IsSpent}
 use Rattle.lls_counting.proofs.Logs.{budgets_decide, kept_budgets_decide}
-use Rattle.lls_encode.specs.Formula.{formula_of}
 use Rattle.lls_open.specs.Classes.{open_classes}
 use Rattle.lls_open.specs.Formula.{open_formula}
 use Rattle.lls_solver.specs.Searching.{IsRefutation, IsExhausted, KeepsAll}
 use Rattle.lls_lrat.specs.Verdict.{Accepted, verdict}
 use Rattle.lls_answers.specs.Questions as questions
-use Rattle.lls_answers.specs.Subject.{Subject, subject_formula, formula_asked, formula_opened, HasSome, Shows, undecided_text}
+use Rattle.lls_answers.specs.Subject.{Subject, subject_formula, formula_opened, HasSome, Shows, undecided_text}
 use Rattle.lls_answers.specs.Subject as subjects
 use Rattle.lls_answers.specs.declared.effort.Effort.{Effort}
 use Rattle.lls_answers.specs.declared.answer_file.AnswerFile.{AnswerFile}
 use Rattle.lls_answers.specs.declared.answer.Answer.{Answer}
-use Rattle.lls_answers.specs.declared.asked.Asked.{Asked}
 use Rattle.lls_answers.specs.declared.asked.OpenAsked.{OpenAsked}
 use Rattle.lls_answers.specs.declared.status.Status.TheVariants as statuses
 use Rattle.lls_answers.specs.Evidence.{HasProof, HasSpentLog, IsEvidence}
@@ -66,10 +64,6 @@ pub log_of : (formula : Cnf) (effort : Effort) (steps : List Step) (file : Answe
 log_of formula effort steps file is kept exhausted = log_by formula effort steps file is kept exhausted.spent
 
 -- there is a variable for each cell, and for each open class
-pub cells_fit : (asked : Asked) → length asked.problem.posed.cells ≤ (formula_asked asked).vars
-unfolding formula_of
-cells_fit asked = omega arith
-
 pub classes_fit : (asked : OpenAsked) → length asked.problem.posed.cells + length (open_classes asked.problem.rule asked.high) ≤ (formula_opened asked).vars
 unfolding open_formula
 classes_fit asked = omega arith

@@ -5,10 +5,11 @@ use Rattle.lls_grid.specs.History.{History}
 use Rattle.lls_hensel.specs.Isotropy.{IsIsotropic}
 use Rattle.lls_solver.specs.Searching.{IsModel}
 use Rattle.lls_problem.specs.declared.form.Form.{Form}
+use Rattle.lls_problem.specs.declared.form.Formulation.{Formulation}
 use Rattle.lls_problem.specs.Problem.{PosedProblem}
 use Rattle.lls_problem.specs.Plane.{PlaneLaw}
 use Rattle.lls_problem.specs.Solution.{IsSolution, IsAbsent}
-use Rattle.lls_encode.specs.Formula.{formula_of}
+use Rattle.lls_encode.specs.Images.{formulated}
 use Rattle.lls_open.specs.Formula.{open_formula}
 use Rattle.lls_open.specs.Between.{with_rule, IsOpenSolution, IsOpenlyAbsent}
 use Rattle.lls_answers.specs.Absence.{no_pattern}
@@ -28,12 +29,12 @@ pub data Subject : Type 0 where
 abbrev pub most_open_cells : ℕ
 most_open_cells = 2048
 
--- what is asked about a problem: the problem, and the form of its formula
-abbrev pub asked_with : Form → PosedProblem → Asked
-asked_with form problem = record { problem = problem; form = form }
+-- what is asked about a problem: the problem, and how its formula is made
+abbrev pub asked_with : Formulation → PosedProblem → Asked
+asked_with formulation problem = record { problem = problem; formulation = formulation }
 
 abbrev pub formula_asked : Asked → Cnf
-formula_asked asked = formula_of asked.problem asked.form
+formula_asked asked = formulated asked.problem asked.formulation
 
 -- the same of a problem whose rule is left open below a high one
 abbrev pub opened_with : List Bool → Form → PosedProblem → OpenAsked

@@ -2,7 +2,7 @@
 ghost use Rattle.std.specs.Prelude.{◌≡◌, codes};
 ghost use Rattle.lls_lit.specs.Formula.{IsUnsatisfiable};
 ghost use Rattle.lls_problem.specs.Solution.{IsAbsent};
-ghost use Rattle.lls_encode.specs.Formula.{formula_of};
+ghost use Rattle.lls_encode.specs.Images.{formulated};
 ghost use Rattle.lls_open.specs.Between.{AreEnds, IsOpenlyAbsent};
 ghost use Rattle.lls_open.specs.Formula.{open_formula};
 ghost use Rattle.lls_answers.specs.Absence.{no_pattern};
@@ -13,7 +13,7 @@ ghost use Rattle.lls_answers.specs.Subject.{none_text, subject_formula};
 use crate::subject::Subject;
 use lls_base::{Failed, Sink, write_all};
 use lls_lrat::Checked;
-use lls_problem::{Form, Problem};
+use lls_problem::{Form, Formulation, Problem};
 use lls_rule::Rule;
 use std::marker::Model;
 
@@ -51,15 +51,15 @@ impl<'f> Absence<'f> {
     }
 }
 
-/// Says that a problem has no solution. Whoever calls it has a proof that no assignment satisfies the problem's formula of that
-/// form. After a failure the sink has taken some first bytes of the words.
+/// Says that a problem has no solution. Whoever calls it has a proof that no assignment satisfies the problem's formula, made
+/// so. After a failure the sink has taken some first bytes of the words.
 pub fn print_none<'f, O: Sink>(
     proof: &Checked<'f>,
     problem: &Problem,
-    form: Form,
+    formulation: Formulation,
     out: &mut O,
 ) -> Result<(), Failed>
-    requires { proof.now ≡ formula_of problem.now form }
+    requires { proof.now ≡ formulated problem.now formulation }
     ensures absent { IsAbsent problem.now }
     ensures written { Writes no_pattern result (sink_at O.Sink out.old) (sink_at O.Sink out.new) }
 {

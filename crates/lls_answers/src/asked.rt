@@ -1,12 +1,12 @@
 // A problem that is asked about.
-use lls_problem::{Form, Problem};
+use lls_problem::{Form, Formulation, Problem};
 use lls_rule::Rule;
 
-/// A problem that a question is about, with the form of its formula.
+/// A problem that a question is about, and how its formula is made.
 #[derive(Drop)]
 pub struct Asked {
     pub problem: Problem,
-    pub form: Form,
+    pub formulation: Formulation,
 }
 
 /// A problem whose rule is left open, with the form of its formula.

@@ -81,7 +81,7 @@ pub fn asked_beyond(
     let _posed = asked.problem.posed();
     let live = history.population(0);
     match beyond(alloc, &asked.problem, extreme, live)? {
-        Some(problem) => Ok(Some(Subject::of_problem(alloc, problem, asked.form)?)),
+        Some(problem) => Ok(Some(Subject::of_problem(alloc, problem, asked.formulation)?)),
         None => Ok(None),
     }
 }
@@ -100,7 +100,7 @@ pub fn shown<'f>(
 ) -> Result<Answer<'f>, Memory>
     requires room { LeavesRoom asked.now.problem }
     requires isotropic { IsIsotropic asked.now.problem.rule }
-    requires shown { IsShown extreme asked.now.problem asked.now.form effort.budget history.now log.now.steps }
+    requires shown { IsShown extreme asked.now.problem asked.now.formulation effort.budget history.now log.now.steps }
     requires utmost { IsExtreme extreme asked.now.problem history.now }
     requires kept { KeepsAll effort.keep_all log.now.steps }
     requires next { next.now ≡ subject_beyond extreme asked.now history.now }
@@ -141,7 +141,7 @@ pub fn reached(
 ) -> Result<Answer<'static>, Memory>
     requires room { LeavesRoom asked.now.problem }
     requires isotropic { IsIsotropic asked.now.problem.rule }
-    requires reached { IsReached extreme asked.now.problem asked.now.form effort.budget history.now log.now.steps }
+    requires reached { IsReached extreme asked.now.problem asked.now.formulation effort.budget history.now log.now.steps }
     requires kept { KeepsAll effort.keep_all log.now.steps }
     ensures { IfOk result (IsAnswer (questions.Extremal extreme asked.now effort rle)) }
 {

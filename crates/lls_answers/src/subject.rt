@@ -19,11 +19,11 @@ use crate::pattern::print_pattern;
 use crate::print::rule_line;
 use lls_base::{Failed, Memory, Sink};
 use lls_cnf::{Assignment, Formula};
-use lls_encode::{decode, encode};
+use lls_encode::{decode, formulate};
 use lls_grid::History;
 use lls_lrat::Checked;
 use lls_open::{decode_open, encode_open};
-use lls_problem::{Form, Problem};
+use lls_problem::{Form, Formulation, Problem};
 use lls_rule::Rule;
 use lls_solver::{Manner, Manners};
 use std::alloc::Global;
@@ -56,13 +56,21 @@ impl Model for Subject {
 }
 
 impl Subject {
-    /// A problem, by its formula of the form.
-    pub fn of_problem(alloc: Global, problem: Problem, form: Form) -> Result<Subject, Memory>
-        ensures { IfOk result (λ subject. subject ≡ subjects.Problem (asked_with form problem)) }
+    /// A problem, by its formula that is made so.
+    pub fn of_problem(
+        alloc: Global,
+        problem: Problem,
+        formulation: Formulation,
+    ) -> Result<Subject, Memory>
+        ensures { IfOk result (λ subject. subject ≡ subjects.Problem (asked_with formulation problem)) }
     {
-        let formula = encode(alloc, &problem, form)?;
+        let formula = formulate(alloc, &problem, formulation)?;
+        let asked = Asked {
+            problem,
+            formulation,
+        };
         Ok(Subject {
-            about: About::Problem(Asked { problem, form }),
+            about: About::Problem(asked),
             formula,
         })
     }
@@ -128,7 +136,7 @@ impl Subject {
         ensures { Writes (none_text self.now) result (sink_at O.Sink out.old) (sink_at O.Sink out.new) }
     {
         match &self.about {
-            About::Problem(asked) => print_none(proof, &asked.problem, asked.form, out),
+            About::Problem(asked) => print_none(proof, &asked.problem, asked.formulation, out),
             About::Rules(asked) => {
                 print_no_rule(proof, &asked.problem, &asked.high, asked.form, out)
             }

@@ -29,14 +29,14 @@ pub record IsProblemApart (source : ProblemSource) (proof : List ℕ) : Type 0 w
   pub list : ForSome source.but (λ list. list.file ≢ proof)
 
 abbrev pub IsSourceApart : Source → List ℕ → Type 0
-IsSourceApart (sources.Problem source form) proof = IsProblemApart source proof
+IsSourceApart (sources.Problem source formulation) proof = IsProblemApart source proof
 IsSourceApart (sources.Rules source high form) proof = IsProblemApart source proof
 IsSourceApart (sources.Formula name) proof = name ≢ proof
 
 abbrev pub IsApart : Task → Type 0
 IsApart (tasks.Search source effort further) = IsSourceApart source effort.proof
 IsApart (tasks.Make seed size file effort) = file ≢ effort.proof
-IsApart (tasks.Extremal extreme source form effort further) = IsProblemApart source effort.proof
+IsApart (tasks.Extremal extreme source formulation effort further) = IsProblemApart source effort.proof
 IsApart task = Unit {0}
 
 abbrev pub AreApart : Result Task WordsError → Type 0

@@ -313,7 +313,7 @@ behind_file file question before mid after out_before out_after err_before err_a
 
 -- what a check or a search is about is read
 pub reads_subject : (source : Source) (next : Subject → Asking Question) → ReadsInputs (and_ask (subject_asked source) next)
-reads_subject (sources.Problem source form) next = tt
+reads_subject (sources.Problem source formulation) next = tt
 reads_subject (sources.Rules source high form) next = tt
 reads_subject (sources.Formula name) next = tt
 

@@ -46,7 +46,7 @@ asked_outputs task files question status asked = by_task task (is_of task files 
   by_task (tasks.Encode source) is = ap (λ q. outputs_asked q status) is.1
   by_task (tasks.Print rule) is = ap (λ q. outputs_asked q status) is
   by_task (tasks.Make seed size file effort) is = ap (λ q. outputs_asked q status) is
-  by_task (tasks.Extremal extreme source form effort further) is = ap (λ q. outputs_asked q status) is.1
+  by_task (tasks.Extremal extreme source formulation effort further) is = ap (λ q. outputs_asked q status) is.1
   by_task (tasks.Trim formula proof output) is = ap (λ q. outputs_asked q status) is.2
 
 -- the file that is written ahead changes alone

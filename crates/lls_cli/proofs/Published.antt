@@ -10,7 +10,7 @@ use Rattle.lls_base.specs.Shelf.{Files}
 use Rattle.lls_search_file.specs.Posed.{PosedFile}
 use Rattle.lls_problem.specs.declared.demands.Demands.{Demands}
 use Rattle.lls_problem.specs.declared.demands.DemandError.{DemandError}
-use Rattle.lls_problem.specs.declared.form.Form.{Form}
+use Rattle.lls_problem.specs.declared.form.Formulation.{Formulation}
 use Rattle.lls_problem.specs.Problem.{Pattern, PosedProblem, but, problem_made}
 use Rattle.lls_problem.specs.declared.bounds.Bound.{Bound}
 use Rattle.lls_least.specs.declared.extreme.Extreme.{Extreme}
@@ -64,8 +64,8 @@ problem_read_only Kind test source file list =
     (λ problem. ReadsOnly-then Kind (come_to (test problem)) (listed_by source.but) tt (λ tested. list_read_only Kind source.but tested list))
 
 subject_read_only : (source : Source) (proof : List ℕ) → IsSourceApart source proof → ReadsOnly (λ name. name ≢ proof) (subject_asked source)
-subject_read_only (sources.Problem source form) proof apart =
-    ReadsOnly-then (λ name. name ≢ proof) (problem_asked Ok source) (λ problem. come_to (Ok (subjects.Problem (asked_with form problem)))) (problem_read_only (λ name. name ≢ proof) Ok source apart.file apart.list) (λ problem. tt)
+subject_read_only (sources.Problem source formulation) proof apart =
+    ReadsOnly-then (λ name. name ≢ proof) (problem_asked Ok source) (λ problem. come_to (Ok (subjects.Problem (asked_with formulation problem)))) (problem_read_only (λ name. name ≢ proof) Ok source apart.file apart.list) (λ problem. tt)
 subject_read_only (sources.Rules source high form) proof apart =
     ReadsOnly-then (λ name. name ≢ proof) (problem_asked with_few_cells source) (λ problem. come_to (Ok (subjects.Rules (opened_with high form problem)))) (problem_read_only (λ name. name ≢ proof) with_few_cells source apart.file apart.list) (λ problem. tt)
 subject_read_only (sources.Formula name) proof apart =
@@ -110,9 +110,9 @@ tested_as_is read test source problem keeps asked =
     ∙ ap (λ p. came_to read (listed_by source.but p)) (keeps bare.0 tested.0 tested.1) ∙ tested.2
 
 -- a problem that a source's inputs pose is what the source is about
-problem_subject : (read : List ℕ → ℕ → Result (List ℕ) Fault) (source : ProblemSource) (form : Form) (problem : PosedProblem) → came_to read (problem_asked Ok source) ≡ Ok problem
-    → came_to read (subject_asked (sources.Problem source form)) ≡ Ok (subjects.Problem (asked_with form problem))
-problem_subject read source form problem is = came_to-then read (problem_asked Ok source) (λ p. come_to (Ok (subjects.Problem (asked_with form p)))) problem is
+problem_subject : (read : List ℕ → ℕ → Result (List ℕ) Fault) (source : ProblemSource) (formulation : Formulation) (problem : PosedProblem) → came_to read (problem_asked Ok source) ≡ Ok problem
+    → came_to read (subject_asked (sources.Problem source formulation)) ≡ Ok (subjects.Problem (asked_with formulation problem))
+problem_subject read source formulation problem is = came_to-then read (problem_asked Ok source) (λ p. come_to (Ok (subjects.Problem (asked_with formulation p)))) problem is
 
 -- what was asked once isn't another thing
 asked_again : (first second : Question) (answer : Result Question Fault) → answer ≡ Ok first → answer ≡ Ok second → first ≡ second
@@ -131,19 +131,19 @@ search_publishes source effort further before after apart nowhere leaves only =
     let none = subst NoneHolds (asked_again nowhere.0 leaves.0 _ nowhere.1 leaves.1 ∙ is) nowhere.2 in
     (subject, published source effort.proof subject before after file.0 apart only read.1 file.1 (file.2.accepted, none))
 
-extremal_publishes : (extreme : Extreme) (source : ProblemSource) (form : Form) (effort : Effort) (further : Further) (before after : Files) → IsProblemApart source effort.proof
-    → OfQuestion NoneHolds (Ok (tasks.Extremal extreme source form effort further)) (Some before)
-    → OfQuestion (LeavesProof (Some after)) (Ok (tasks.Extremal extreme source form effort further)) (Some before)
+extremal_publishes : (extreme : Extreme) (source : ProblemSource) (formulation : Formulation) (effort : Effort) (further : Further) (before after : Files) → IsProblemApart source effort.proof
+    → OfQuestion NoneHolds (Ok (tasks.Extremal extreme source formulation effort further)) (Some before)
+    → OfQuestion (LeavesProof (Some after)) (Ok (tasks.Extremal extreme source formulation effort further)) (Some before)
     → ChangesOnly (effort.proof ∷ []) (Some before) (Some after)
-    → Publishes (Ok (tasks.Extremal extreme source form effort further)) (Some before) (Some after)
-extremal_publishes extreme source form effort further before after apart nowhere leaves only =
-    let read = came_to-parts (input_of before) (problem_asked with_room source) (λ problem. come_to (Ok (questions.Extremal extreme (asked_with form problem) effort further.rle))) leaves.0 leaves.1 in
-    let about = asked_with form read.0 in
+    → Publishes (Ok (tasks.Extremal extreme source formulation effort further)) (Some before) (Some after)
+extremal_publishes extreme source formulation effort further before after apart nowhere leaves only =
+    let read = came_to-parts (input_of before) (problem_asked with_room source) (λ problem. come_to (Ok (questions.Extremal extreme (asked_with formulation problem) effort further.rle))) leaves.0 leaves.1 in
+    let about = asked_with formulation read.0 in
     let is : leaves.0 ≡ questions.Extremal extreme about effort further.rle = let value = read.2 in cc in
     let file = subst (LeavesProof (Some after)) is leaves.2 in
     let none = subst NoneHolds (asked_again nowhere.0 leaves.0 _ nowhere.1 leaves.1 ∙ is) nowhere.2 in
-    let made = problem_subject (input_of before) source form read.0 (tested_as_is (input_of before) with_room source read.0 (λ p q same. kept_unless _ _ p q same) read.1) in
-    (about, published (sources.Problem source form) effort.proof (subjects.Problem about) before after file.0 apart only made file.1 (file.2.accepted, none))
+    let made = problem_subject (input_of before) source formulation read.0 (tested_as_is (input_of before) with_room source read.0 (λ p q same. kept_unless _ _ p q same) read.1) in
+    (about, published (sources.Problem source formulation) effort.proof (subjects.Problem about) before after file.0 apart only made file.1 (file.2.accepted, none))
 
 pub publishes : (task : Result Task WordsError) (before after : Option Files) (status : Status) → status ≡ statuses.NoPattern → AreApart task → OfQuestion NoneHolds task before → OfQuestion (LeavesProof after) task before
     → ChangesOnly (outputs_of_words task status) before after → Publishes task before after
@@ -151,10 +151,10 @@ publishes (Ok (tasks.Search source effort further)) (Some before) (Some after) s
     search_publishes source effort further before after apart nowhere leaves (subst (λ s. ChangesOnly (log_at s effort.proof) (Some before) (Some after)) is only)
 publishes (Ok (tasks.Search source effort further)) (Some before) None status is apart nowhere leaves only = tt
 publishes (Ok (tasks.Search source effort further)) None after status is apart nowhere leaves only = tt
-publishes (Ok (tasks.Extremal extreme source form effort further)) (Some before) (Some after) status is apart nowhere leaves only =
-    extremal_publishes extreme source form effort further before after apart nowhere leaves (subst (λ s. ChangesOnly (certificate_at s effort.proof) (Some before) (Some after)) is only)
-publishes (Ok (tasks.Extremal extreme source form effort further)) (Some before) None status is apart nowhere leaves only = tt
-publishes (Ok (tasks.Extremal extreme source form effort further)) None after status is apart nowhere leaves only = tt
+publishes (Ok (tasks.Extremal extreme source formulation effort further)) (Some before) (Some after) status is apart nowhere leaves only =
+    extremal_publishes extreme source formulation effort further before after apart nowhere leaves (subst (λ s. ChangesOnly (certificate_at s effort.proof) (Some before) (Some after)) is only)
+publishes (Ok (tasks.Extremal extreme source formulation effort further)) (Some before) None status is apart nowhere leaves only = tt
+publishes (Ok (tasks.Extremal extreme source formulation effort further)) None after status is apart nowhere leaves only = tt
 publishes (Ok (tasks.Check source proof)) before after status is apart nowhere leaves only = tt
 publishes (Ok (tasks.Judge source pattern rle)) before after status is apart nowhere leaves only = tt
 publishes (Ok (tasks.Encode source)) before after status is apart nowhere leaves only = tt
@@ -235,13 +235,13 @@ bounded_again read source problem bound asked made =
     (bounded_problem (read source.file search_limit) source.rule source.demands bare bound parts.1 alone)
     ∙ listed.bounded_is bound ∙ ap (λ p. Ok (bounded p bound)) (sym listed.problem_is)
 
-extreme_publishes : (extreme : Extreme) (source : ProblemSource) (form : Form) (effort : Effort) (further : Further) (before after : Files) → IsProblemApart source effort.proof
-    → OfQuestion (LeavesCertificate (Some after)) (Ok (tasks.Extremal extreme source form effort further)) (Some before)
+extreme_publishes : (extreme : Extreme) (source : ProblemSource) (formulation : Formulation) (effort : Effort) (further : Further) (before after : Files) → IsProblemApart source effort.proof
+    → OfQuestion (LeavesCertificate (Some after)) (Ok (tasks.Extremal extreme source formulation effort further)) (Some before)
     → ChangesOnly (effort.proof ∷ []) (Some before) (Some after)
-    → PublishesExtreme (Ok (tasks.Extremal extreme source form effort further)) (Some before) (Some after)
-extreme_publishes extreme source form effort further before after apart leaves only =
-    let read = came_to-parts (input_of before) (problem_asked with_room source) (λ problem. come_to (Ok (questions.Extremal extreme (asked_with form problem) effort further.rle))) leaves.0 leaves.1 in
-    let about = asked_with form read.0 in
+    → PublishesExtreme (Ok (tasks.Extremal extreme source formulation effort further)) (Some before) (Some after)
+extreme_publishes extreme source formulation effort further before after apart leaves only =
+    let read = came_to-parts (input_of before) (problem_asked with_room source) (λ problem. come_to (Ok (questions.Extremal extreme (asked_with formulation problem) effort further.rle))) leaves.0 leaves.1 in
+    let about = asked_with formulation read.0 in
     let is : leaves.0 ≡ questions.Extremal extreme about effort further.rle = let value = read.2 in cc in
     let certified = subst (LeavesCertificate (Some after)) is leaves.2 in
     let made = tested_as_is (input_of before) with_room source read.0 (λ p q same. kept_unless _ _ p q same) read.1 in (
@@ -252,19 +252,19 @@ extreme_publishes extreme source form effort further before after apart leaves o
         λ bound asks.
             let own = certified.1.proof bound asks in
             let again = bounded_again (input_of before) source read.0 bound made own.0.posed in
-            published (sources.Problem (source_bounded source bound) form) effort.proof (subjects.Problem (asked_bounded about bound)) before after own.1.0
+            published (sources.Problem (source_bounded source bound) formulation) effort.proof (subjects.Problem (asked_bounded about bound)) before after own.1.0
             (record { file = apart.file; list = apart.list }) only
-            (problem_subject (input_of before) (source_bounded source bound) form (bounded read.0 bound) again) own.1.1
+            (problem_subject (input_of before) (source_bounded source bound) formulation (bounded read.0 bound) again) own.1.1
             (own.1.2.accepted, absent_beyond extreme about.problem certified.0 bound asks certified.1.utmost.utmost),
       ),
     )
 
 pub publishes_extreme : (task : Result Task WordsError) (before after : Option Files) (status : Status) → status ≡ statuses.Pattern → AreApart task → OfQuestion (LeavesCertificate after) task before
     → ChangesOnly (outputs_of_words task status) before after → PublishesExtreme task before after
-publishes_extreme (Ok (tasks.Extremal extreme source form effort further)) (Some before) (Some after) status is apart leaves only =
-    extreme_publishes extreme source form effort further before after apart leaves (subst (λ s. ChangesOnly (certificate_at s effort.proof) (Some before) (Some after)) is only)
-publishes_extreme (Ok (tasks.Extremal extreme source form effort further)) (Some before) None status is apart leaves only = tt
-publishes_extreme (Ok (tasks.Extremal extreme source form effort further)) None after status is apart leaves only = tt
+publishes_extreme (Ok (tasks.Extremal extreme source formulation effort further)) (Some before) (Some after) status is apart leaves only =
+    extreme_publishes extreme source formulation effort further before after apart leaves (subst (λ s. ChangesOnly (certificate_at s effort.proof) (Some before) (Some after)) is only)
+publishes_extreme (Ok (tasks.Extremal extreme source formulation effort further)) (Some before) None status is apart leaves only = tt
+publishes_extreme (Ok (tasks.Extremal extreme source formulation effort further)) None after status is apart leaves only = tt
 publishes_extreme (Ok (tasks.Search source effort further)) before after status is apart leaves only = tt
 publishes_extreme (Ok (tasks.Check source proof)) before after status is apart leaves only = tt
 publishes_extreme (Ok (tasks.Judge source pattern rle)) before after status is apart leaves only = tt

@@ -45,7 +45,7 @@ asked_apart (tasks.Make seed size file effort) question apart is =
     let first : file ≡ ahead.name = cc in
     let second : effort.proof ≡ other = cc in
     apart (first ∙ equal ∙ sym second))
-asked_apart (tasks.Extremal extreme source form effort further) question apart is = subst NamesApart (sym is.1) (one_file (questions.Extremal extreme is.0 effort further.rle) refl)
+asked_apart (tasks.Extremal extreme source formulation effort further) question apart is = subst NamesApart (sym is.1) (one_file (questions.Extremal extreme is.0 effort further.rle) refl)
 asked_apart (tasks.Trim formula proof output) question apart is = subst NamesApart (sym is.2) (one_file (questions.Trim is.0 is.1 output) refl)
 
 names_apart : (task : Result Task WordsError) (files : Option Files) (question : Question) → AreApart task → IsAsked task files question → NamesApart question

@@ -31,7 +31,7 @@ IsOf (tasks.Judge source pattern rle) question = (problem : PosedProblem) × (hi
 IsOf (tasks.Encode source) question = (subject : Subject) × (question ≡ questions.Encode subject)
 IsOf (tasks.Print rule) question = question ≡ questions.Print rule
 IsOf (tasks.Make seed size file effort) question = question ≡ questions.Make seed size file effort
-IsOf (tasks.Extremal extreme source form effort further) question = (asked : Asked) × (question ≡ questions.Extremal extreme asked effort further.rle)
+IsOf (tasks.Extremal extreme source formulation effort further) question = (asked : Asked) × (question ≡ questions.Extremal extreme asked effort further.rle)
 IsOf (tasks.Trim formula proof output) question = (cnf : Cnf) × (bytes : List ℕ) × (question ≡ questions.Trim cnf bytes output)
 
 pub is_of : (task : Task) (files : Option Files) (question : Question) → Asks task files (Ok question) → IsOf task question
@@ -51,9 +51,9 @@ is_of (tasks.Encode source) files question asked =
     (parts.0, same_question parts.2)
 is_of (tasks.Print rule) files question asked = same_question asked
 is_of (tasks.Make seed size file effort) files question asked = same_question asked
-is_of (tasks.Extremal extreme source form effort further) files question asked =
-    let parts = AsksBy-parts files (problem_asked with_room source) (λ problem. come_to (Ok (questions.Extremal extreme (asked_with form problem) effort further.rle))) question asked in
-    (asked_with form parts.0, same_question parts.2)
+is_of (tasks.Extremal extreme source formulation effort further) files question asked =
+    let parts = AsksBy-parts files (problem_asked with_room source) (λ problem. come_to (Ok (questions.Extremal extreme (asked_with formulation problem) effort further.rle))) question asked in
+    (asked_with formulation parts.0, same_question parts.2)
 is_of (tasks.Trim formula proof output) files question asked =
     let parts = AsksBy-parts files (made_of formula formula_limit formula_in) (λ cnf. made_of proof proof_limit (λ bytes. Ok (questions.Trim cnf bytes output))) question asked in
     let bytes = some_bytes parts.2.0 (λ bytes. questions.Trim parts.0 bytes output) question parts.2.2 in

@@ -81,6 +81,6 @@ untouched (Ok (tasks.Search source effort further)) before after status nothing 
 untouched (Ok (tasks.Judge source pattern rle)) before after status nothing ended = absurd nothing
 untouched (Ok (tasks.Encode source)) before after status nothing ended = absurd nothing
 untouched (Ok (tasks.Make seed size file effort)) before after status nothing ended = absurd nothing
-untouched (Ok (tasks.Extremal extreme source form effort further)) before after status nothing ended = absurd nothing
+untouched (Ok (tasks.Extremal extreme source formulation effort further)) before after status nothing ended = absurd nothing
 untouched (Ok (tasks.Trim formula proof output)) before after status nothing ended = absurd nothing
 untouched (Err error) before after status nothing ended = absurd nothing

@@ -85,7 +85,7 @@ SaysWhy status before after = (fault : Fault) × (status ≡ status_of fault) ×
 abbrev pub outputs_of : Task → Status → List (List ℕ)
 outputs_of (tasks.Search source effort further) status = log_at status effort.proof
 outputs_of (tasks.Make seed size file effort) status = search_file_at status file ++ log_at status effort.proof
-outputs_of (tasks.Extremal extreme source form effort further) status = certificate_at status effort.proof
+outputs_of (tasks.Extremal extreme source formulation effort further) status = certificate_at status effort.proof
 outputs_of (tasks.Trim formula proof output) status = trimmed_at status output
 outputs_of task status = []
 
@@ -151,8 +151,8 @@ pub record IsPublished (task : Task) (question : List ℕ → Question) (proof :
 abbrev pub Publishes : Result Task WordsError → Option Files → Option Files → Type 0
 Publishes (Ok (tasks.Search source effort further)) (Some before) (Some after) =
     (subject : Subject) × IsPublished (tasks.Check source effort.proof) (questions.Check subject) effort.proof after
-Publishes (Ok (tasks.Extremal extreme source form effort further)) (Some before) (Some after) =
-    (asked : Asked) × IsPublished (tasks.Check (sources.Problem source form) effort.proof) (questions.Check (subjects.Problem asked)) effort.proof after
+Publishes (Ok (tasks.Extremal extreme source formulation effort further)) (Some before) (Some after) =
+    (asked : Asked) × IsPublished (tasks.Check (sources.Problem source formulation) effort.proof) (questions.Check (subjects.Problem asked)) effort.proof after
 Publishes task before after = Unit {0}
 
 -- the demands with a bound more behind the others
@@ -165,9 +165,9 @@ source_bounded source bound = record source { demands = demands_bounded source.d
 -- after a search that found the fewest live cells, of which there are some, or the most, which aren't all, the check with the bound more that asks for
 -- a solution beyond says yes
 abbrev pub PublishesExtreme : Result Task WordsError → Option Files → Option Files → Type 0
-PublishesExtreme (Ok (tasks.Extremal extreme source form effort further)) (Some before) (Some after) =
+PublishesExtreme (Ok (tasks.Extremal extreme source formulation effort further)) (Some before) (Some after) =
     (asked : Asked) × ((history : History) × IsOfExtreme extreme asked history × ((bound : Bound) → beyond_it extreme asked.problem history ≡ Some bound
-    → IsPublished (tasks.Check (sources.Problem (source_bounded source bound) form) effort.proof) (questions.Check (subjects.Problem (asked_bounded asked bound))) effort.proof after))
+    → IsPublished (tasks.Check (sources.Problem (source_bounded source bound) formulation) effort.proof) (questions.Check (subjects.Problem (asked_bounded asked bound))) effort.proof after))
 PublishesExtreme task before after = Unit {0}
 
 -- where the inputs ask a question, and no call of the shelf or of the standard output failed, it is answered, but for want of

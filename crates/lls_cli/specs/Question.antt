@@ -164,7 +164,7 @@ problem_asked test source = and_ask (bare_problem source) (λ problem. and_ask (
 
 -- what a check or a search is about
 abbrev pub subject_asked : Source → Asking Subject
-subject_asked (sources.Problem source form) = and_ask (problem_asked Ok source) (λ problem. come_to (Ok (subjects.Problem (asked_with form problem))))
+subject_asked (sources.Problem source formulation) = and_ask (problem_asked Ok source) (λ problem. come_to (Ok (subjects.Problem (asked_with formulation problem))))
 subject_asked (sources.Rules source high form) = and_ask (problem_asked with_few_cells source) (λ problem. come_to (Ok (subjects.Rules (opened_with high form problem))))
 subject_asked (sources.Formula name) = and_ask (made_of name formula_limit formula_in) (λ formula. come_to (Ok (subjects.Formula formula)))
 
@@ -177,8 +177,8 @@ asking_of (tasks.Judge source pattern rle) =
 asking_of (tasks.Encode source) = and_ask (subject_asked source) (λ subject. come_to (Ok (questions.Encode subject)))
 asking_of (tasks.Print rule) = come_to (Ok (questions.Print rule))
 asking_of (tasks.Make seed size file effort) = come_to (Ok (questions.Make seed size file effort))
-asking_of (tasks.Extremal extreme source form effort further) =
-    and_ask (problem_asked with_room source) (λ problem. come_to (Ok (questions.Extremal extreme (asked_with form problem) effort further.rle)))
+asking_of (tasks.Extremal extreme source formulation effort further) =
+    and_ask (problem_asked with_room source) (λ problem. come_to (Ok (questions.Extremal extreme (asked_with formulation problem) effort further.rle)))
 asking_of (tasks.Trim formula proof output) = and_ask (made_of formula formula_limit formula_in) (λ cnf. made_of proof proof_limit (λ bytes. Ok (questions.Trim cnf bytes output)))
 
 -- what inputs come to, where each is read so, by its name and its limit

@@ -41,22 +41,22 @@ further_of rle crew said = record { rle = rle; crew = option_map crew_said crew;
 
 -- the task of a job: a check, a search or another
 abbrev pub task_of : Job → Task
-task_of (jobs.Check problem proof form) = tasks.Check (sources.Problem problem form) proof
+task_of (jobs.Check problem proof formulation) = tasks.Check (sources.Problem problem formulation) proof
 task_of (jobs.LooseCheck problem high proof form) = tasks.Check (sources.Rules problem high form) proof
 task_of (jobs.Lrat formula proof) = tasks.Check (sources.Formula formula) proof
-task_of (jobs.Search problem proof form budget keep_all rle crew further) =
-    tasks.Search (sources.Problem problem form) (effort_of budget keep_all proof) (further_of rle crew further)
+task_of (jobs.Search problem proof formulation budget keep_all rle crew further) =
+    tasks.Search (sources.Problem problem formulation) (effort_of budget keep_all proof) (further_of rle crew further)
 task_of (jobs.Loose problem high proof form budget keep_all rle further) =
     tasks.Search (sources.Rules problem high form) (effort_of budget keep_all proof) (further_of rle None further)
 task_of (jobs.Sat formula proof budget keep_all further) = tasks.Search (sources.Formula formula) (effort_of budget keep_all proof) (further_of false None further)
 task_of (jobs.Judge problem pattern rle) = tasks.Judge problem pattern rle
-task_of (jobs.Cnf problem form) = tasks.Encode (sources.Problem problem form)
+task_of (jobs.Cnf problem formulation) = tasks.Encode (sources.Problem problem formulation)
 task_of (jobs.Rule rule) = tasks.Print rule
 task_of (jobs.Make seed size file proof) = tasks.Make seed size file (effort_of default_budget false proof)
-task_of (jobs.Least problem proof form budget keep_all rle further) =
-    tasks.Extremal extremes.Fewest problem form (effort_of budget keep_all proof) (further_of rle None further)
-task_of (jobs.Most problem proof form budget keep_all rle further) =
-    tasks.Extremal extremes.Most problem form (effort_of budget keep_all proof) (further_of rle None further)
+task_of (jobs.Least problem proof formulation budget keep_all rle further) =
+    tasks.Extremal extremes.Fewest problem formulation (effort_of budget keep_all proof) (further_of rle None further)
+task_of (jobs.Most problem proof formulation budget keep_all rle further) =
+    tasks.Extremal extremes.Most problem formulation (effort_of budget keep_all proof) (further_of rle None further)
 task_of (jobs.Trim formula proof output) = tasks.Trim formula proof output
 
 abbrev pub tasked : Result Job WordsError → Result Task WordsError
@@ -65,13 +65,13 @@ tasked (Err error) = Err error
 
 -- what a check or a search is about keeps to the limits of words, and two rules leave a question open
 abbrev pub KeepsSource : Source → Type 0
-KeepsSource (sources.Problem source form) = AreWithinLimits source.demands
+KeepsSource (sources.Problem source formulation) = AreWithinLimits source.demands
 KeepsSource (sources.Rules source high form) = AreOpen source.rule high source.demands
 KeepsSource (sources.Formula name) = Unit {0}
 
 -- a rule that solutions are printed with can be printed itself
 abbrev pub IsPrintable : Source → Type 0
-IsPrintable (sources.Problem source form) = IsIsotropic source.rule
+IsPrintable (sources.Problem source formulation) = IsIsotropic source.rule
 IsPrintable source = Unit {0}
 
 -- a budget within the limit
@@ -93,5 +93,5 @@ KeepsTask (tasks.Judge source pattern rle) = AreWithinLimits source.demands
 KeepsTask (tasks.Encode source) = KeepsSource source
 KeepsTask (tasks.Print rule) = IsIsotropic rule
 KeepsTask (tasks.Make seed size file effort) = (1 ≤ size) × (size ≤ most_size) × IsBudget effort
-KeepsTask (tasks.Extremal extreme source form effort further) = AreAllowed source.rule source.demands effort.budget
+KeepsTask (tasks.Extremal extreme source formulation effort further) = AreAllowed source.rule source.demands effort.budget
 KeepsTask (tasks.Trim formula proof output) = Unit {0}

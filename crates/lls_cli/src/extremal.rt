@@ -36,7 +36,7 @@ pub fn give_extremal<S: Shelf, O: Sink, E: Sink>(
         alloc,
         &asked.problem,
         extreme,
-        asked.form,
+        asked.formulation,
         approach,
         effort.budget,
         effort.keep_all,
@@ -51,7 +51,7 @@ pub fn give_extremal<S: Shelf, O: Sink, E: Sink>(
             }
         }
         Ok(Extremal::Absent { log }) => {
-            match Subject::of_problem(alloc, asked.problem, asked.form) {
+            match Subject::of_problem(alloc, asked.problem, asked.formulation) {
                 Ok(subject) => give(absence_of(alloc, &subject, &log, effort), outside),
                 Err(Memory) => lack(outside.err),
             }

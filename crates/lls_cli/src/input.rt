@@ -270,9 +270,9 @@ pub fn read_subject<S: Shelf>(
     ensures printable { IfOk result (λ subject. IsPrintable source → CanBePrinted subject) }
 {
     match source {
-        Source::Problem(source, form) => {
+        Source::Problem(source, formulation) => {
             let problem = read_problem(alloc, shelf, source)?;
-            Ok(Subject::of_problem(alloc, problem, form)?)
+            Ok(Subject::of_problem(alloc, problem, formulation)?)
         }
         Source::Rules(source, high, form) => {
             let problem = read_small_problem(alloc, shelf, source)?;

@@ -27,7 +27,7 @@ use lls_answers::{Answer, Asked, Effort, Further, Status, manners_of};
 use lls_base::{Name, Shelf, Sink};
 use lls_least::Extreme;
 use lls_outside::Outside;
-use lls_problem::Form;
+use lls_problem::Formulation;
 use lls_rule::Rule;
 use lls_solver::Approach;
 use lls_words::{ProblemSource, read_job};
@@ -73,18 +73,21 @@ fn run_extremal<S: Shelf, O: Sink, E: Sink>(
     alloc: Global,
     extreme: Extreme,
     source: ProblemSource,
-    form: Form,
+    formulation: Formulation,
     effort: Effort,
     further: Further,
     outside: &mut Outside<S, O, E>,
 ) -> Status
     requires { AreAllowed source.rule source.demands effort.budget }
-    ensures end { (end : End) × IsEnd (Ok (all_tasks.Extremal extreme source form effort further)) (moment_of S.Shelf O.Sink E.Sink outside.old) (moment_of S.Shelf O.Sink E.Sink outside.new) result end }
+    ensures end { (end : End) × IsEnd (Ok (all_tasks.Extremal extreme source formulation effort further)) (moment_of S.Shelf O.Sink E.Sink outside.old) (moment_of S.Shelf O.Sink E.Sink outside.new) result end }
     ensures same { BorrowsSame outside.old outside.new }
 {
     match read_roomy_problem(alloc, outside.shelf, source) {
         Ok(problem) => {
-            let asked = Asked { problem, form };
+            let asked = Asked {
+                problem,
+                formulation,
+            };
             let approach = Approach {
                 manners: manners_of(further.manners, asked.problem.demands()),
                 first: further.first,
@@ -163,8 +166,16 @@ fn run_task<S: Shelf, O: Sink, E: Sink>(
         Task::Make(seed, size, file, effort) => {
             run_make(alloc, seed, size, file, effort, outside)
         }
-        Task::Extremal(extreme, source, form, effort, further) => {
-            run_extremal(alloc, extreme, source, form, effort, further, outside)
+        Task::Extremal(extreme, source, formulation, effort, further) => {
+            run_extremal(
+                alloc,
+                extreme,
+                source,
+                formulation,
+                effort,
+                further,
+                outside,
+            )
         }
         Task::Trim(formula, proof, output) => {
             let answer = answer_trim(alloc, outside.shelf, &formula, &proof, output);

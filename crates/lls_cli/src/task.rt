@@ -6,7 +6,7 @@ ghost use Rattle.lls_cli.specs.Task.{KeepsTask, crew_said, further_of, manners_s
 use lls_answers::{CrewPlan, Effort, Further};
 use lls_base::Name;
 use lls_least::Extreme;
-use lls_problem::Form;
+use lls_problem::{Form, Formulation};
 use lls_rule::Rule;
 use lls_solver::{Manner, Manners};
 use lls_words::{
@@ -17,8 +17,8 @@ use lls_words::{
 /// What a check or a search is about, as words say it.
 #[derive(Drop)]
 pub enum Source {
-    /// A problem, and the form of its formula.
-    Problem(ProblemSource, Form),
+    /// A problem, and how its formula is made.
+    Problem(ProblemSource, Formulation),
     /// A problem by the low rule, the high rule, and the form of the formula.
     Rules(ProblemSource, Rule, Form),
     /// The file of a formula.
@@ -41,7 +41,7 @@ pub enum Task {
     /// Make a problem of a seed and a size, write it to a search file, and look for its solution.
     Make(u64, u32, Name, Effort),
     /// Look for a solution with the fewest live cells in generation 0, or with the most.
-    Extremal(Extreme, ProblemSource, Form, Effort, Further),
+    Extremal(Extreme, ProblemSource, Formulation, Effort, Further),
     /// Write what the empty clause of a proof rests on: the files of the formula, of the proof, and that are written.
     Trim(Name, Name, Name),
 }
@@ -97,8 +97,8 @@ pub fn task_of(job: Job) -> Task
         Job::Check {
             problem,
             proof,
-            form,
-        } => Task::Check(Source::Problem(problem, form), proof),
+            formulation,
+        } => Task::Check(Source::Problem(problem, formulation), proof),
         Job::LooseCheck {
             problem,
             high,
@@ -109,7 +109,7 @@ pub fn task_of(job: Job) -> Task
         Job::Search {
             problem,
             proof,
-            form,
+            formulation,
             budget,
             keep_all,
             rle,
@@ -117,7 +117,7 @@ pub fn task_of(job: Job) -> Task
             further,
         } => {
             let effort = Effort::new(budget, keep_all, proof);
-            let source = Source::Problem(problem, form);
+            let source = Source::Problem(problem, formulation);
             Task::Search(source, effort, further_of(rle, crew, further))
         }
         Job::Loose {
@@ -150,7 +150,10 @@ pub fn task_of(job: Job) -> Task
             pattern,
             rle,
         } => Task::Judge(problem, pattern, rle),
-        Job::Cnf { problem, form } => Task::Encode(Source::Problem(problem, form)),
+        Job::Cnf {
+            problem,
+            formulation,
+        } => Task::Encode(Source::Problem(problem, formulation)),
         Job::Rule { rule } => Task::Print(rule),
         Job::Make {
             seed,
@@ -164,7 +167,7 @@ pub fn task_of(job: Job) -> Task
         Job::Least {
             problem,
             proof,
-            form,
+            formulation,
             budget,
             keep_all,
             rle,
@@ -172,12 +175,12 @@ pub fn task_of(job: Job) -> Task
         } => {
             let effort = Effort::new(budget, keep_all, proof);
             let further = further_of(rle, None, further);
-            Task::Extremal(Extreme::Fewest, problem, form, effort, further)
+            Task::Extremal(Extreme::Fewest, problem, formulation, effort, further)
         }
         Job::Most {
             problem,
             proof,
-            form,
+            formulation,
             budget,
             keep_all,
             rle,
@@ -185,7 +188,7 @@ pub fn task_of(job: Job) -> Task
         } => {
             let effort = Effort::new(budget, keep_all, proof);
             let further = further_of(rle, None, further);
-            Task::Extremal(Extreme::Most, problem, form, effort, further)
+            Task::Extremal(Extreme::Most, problem, formulation, effort, further)
         }
         Job::Trim {
             formula,

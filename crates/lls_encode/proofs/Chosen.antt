@@ -1,14 +1,13 @@
 -- The formula of a formulation leaves the solutions that it says, and is unsatisfiable just where there is no solution.
-use Rattle.std.proofs.Common.{◌≡◌, ◌<◌, ◌≤◌, ℕ, zero, suc, ◌+◌, ℤ, pos, negsuc, Bool, true, false, not, ◌&&◌, List, [], ◌∷◌, ◌++◌, map, length, get_or, refl, sym, ap, ◌∙◌, subst, arith, length-append, nat_eq, eqb-true, nat_le}
-use Rattle.std.specs.List.{AllByRecursion as Each, list_all, range_with_len}
+use Rattle.std.proofs.Common.{◌≡◌, ◌<◌, ◌≤◌, ℕ, ◌+◌, Bool, true, false, not, ◌&&◌, List, [], ◌∷◌, ◌++◌, map, length, take, get_or, refl, sym, ap, ◌∙◌, subst, arith, append_assoc, length-append, nat_eq, eqb-true}
+use Rattle.std.specs.List.{AllByRecursion as Each, range_with_len}
 use Rattle.std.proofs.Math.Bool.{beq}
-use Rattle.std.proofs.lemmas.Bool.{and_parts, and_from, false_from_ne_true, leb-true}
-use Rattle.std.proofs.lemmas.List.{ext_get_or, get_or_append_left, get_or-append-add, get_or-take, take-append-le}
+use Rattle.std.proofs.Math.Seq.{take-append_seam}
+use Rattle.std.proofs.lemmas.Bool.{and_parts, and_from, false_from_ne_true}
+use Rattle.std.proofs.lemmas.List.{ext_get_or, get_or_append_left, get_or-append-add}
 use Rattle.std.proofs.lemmas.List.Elements.{recursion_from_All, All-from_recursion}
 use Rattle.std.proofs.lemmas.List.FromFn.{get_or-map-range_with_len, length-map-range_with_len}
-use Rattle.std.proofs.lemmas.Int.{ints}
-use Rattle.lls_lit.specs.Literal.{variable_of}
-use Rattle.lls_lit.specs.Formula.{Clause, is_true, satisfies_clause, satisfies, is_literal_of, is_within, IsUnsatisfiable}
+use Rattle.lls_lit.specs.Formula.{satisfies, IsUnsatisfiable}
 use Rattle.lls_rule.specs.Rule.{number_of}
 use Rattle.lls_grid.specs.History.{History, cells_of}
 use Rattle.lls_search_file.specs.Posed.{IsPosed, sizes_of}
@@ -21,15 +20,16 @@ use Rattle.lls_problem.specs.Problem.{PosedProblem, AreFitting}
 use Rattle.lls_problem.specs.Solution.{IsSolution, IsAbsent}
 use Rattle.lls_images.specs.Image.{image}
 use Rattle.lls_images.specs.Same.{same_motions}
-use Rattle.lls_images.specs.First.{beginning}
-use Rattle.lls_images.proofs.First.{few_motions, squares, first_law}
+use Rattle.lls_images.specs.First.{beginning, AreOfOneKind}
+use Rattle.lls_images.proofs.First.{Each-mapped, few_motions, squares, first_law}
 use Rattle.lls_images.proofs.Images.{HasSizes-image}
 use Rattle.lls_images.proofs.Patterns.{length-beginning, beginning-image, image_index-forth, below}
 use Rattle.lls_encode.specs.Formula.{generation_size, formula_of}
 use Rattle.lls_encode.specs.History.{history_of, HasAssignment}
-use Rattle.lls_encode.specs.Images.{image_of_cell, is_changed, changed_cells, comparisons, all_comparisons, all_comparison_vars, images_part, images_vars, formulated, IsLeft}
+use Rattle.lls_encode.specs.Parts.{HasExtension}
+use Rattle.lls_encode.specs.Images.{image_of_cell, is_changed, changed_cells, comparisons, all_comparisons, all_comparison_vars, images_part, images_vars, formulated, IsLeft, HasOneOfKind}
 use Rattle.lls_encode.proofs.Compared.{filter_range-below, length-all_comparisons}
-use Rattle.lls_encode.proofs.Complete.{HasAssignment-values_of}
+use Rattle.lls_encode.proofs.Complete.{HasCells-cells_of, extension_of, length-values, satisfies-formula_of}
 use Rattle.lls_encode.proofs.Differences.{cell_in_order}
 use Rattle.lls_encode.proofs.Differing.{count_of, HasCells-append}
 use Rattle.lls_encode.proofs.Leading.{leads, leads_by_le, le_by_leads, leads-filter}
@@ -128,38 +128,16 @@ satisfies-all p h values has base (motion ∷ motions) grids come are =
     (subst (λ n. AreMarks values (base + n) (all_marks p values motions)) (length-marks_from (own values) (imaged p motion values) true (changed_cells p motion))
     (marks_back values base marks (all_marks p values motions) are)))
 
--- values behind those of its variables say nothing of a formula
-is_true-more : (values more : List Bool) (l : ℤ) → is_literal_of (length values) l ≡ true → is_true (values ++ more) l ≡ is_true values l
-is_true-more values more (pos zero) within = refl
-is_true-more values more (pos (suc n)) within =
-    let high = leb-true (suc n) (length values) (and_parts (nat_le 1 (suc n)) (nat_le (suc n) (length values)) within).1 in
-    get_or_append_left values more false n (omega (arith, high))
-is_true-more values more (negsuc n) within =
-    let parts = and_parts (nat_le 1 (variable_of (negsuc n))) (nat_le (variable_of (negsuc n)) (length values)) within in
-    let high : variable_of (negsuc n) ≤ length values = leb-true (variable_of (negsuc n)) (length values) parts.1 in
-    ap not (get_or_append_left values more false n (omega (arith, ints, high)))
-
-clause-more : (values more : List Bool) (clause : Clause) → is_within (length values) clause ≡ true → satisfies_clause (values ++ more) clause ≡ satisfies_clause values clause
-clause-more values more [] within = refl
-clause-more values more (l ∷ clause) within =
-    let parts = and_parts (is_literal_of (length values) l) (is_within (length values) clause) within in
-    rw (is_true-more values more l parts.0, clause-more values more clause parts.1) refl
-
-satisfies-more : (values more : List Bool) (clauses : List Clause) → list_all (is_within (length values)) clauses ≡ true → satisfies (values ++ more) clauses ≡ satisfies values clauses
-satisfies-more values more [] within = refl
-satisfies-more values more (clause ∷ clauses) within =
-    let parts = and_parts (is_within (length values) clause) (list_all (is_within (length values)) clauses) within in
-    rw (clause-more values more clause parts.0, satisfies-more values more clauses parts.1) refl
-
 marks_from-same : (a b a' b' : ℕ → Bool) (same : Bool) (ks : List ℕ) → Each (λ k. (a k ≡ a' k) × (b k ≡ b' k)) ks → marks_from a b same ks ≡ marks_from a' b' same ks
 marks_from-same a b a' b' same [] each = refl
 marks_from-same a b a' b' same (k ∷ ks) each =
     let now : (same && beq (a k) (b k)) ≡ (same && beq (a' k) (b' k)) = ap (λ u. same && beq u (b k)) each.0.0 ∙ ap (λ v. same && beq (a' k) v) each.0.1 in
     ap (λ t. t ∷ marks_from a b t ks) now ∙ ap (λ rest. (same && beq (a' k) (b' k)) ∷ rest) (marks_from-same a b a' b' (same && beq (a' k) (b' k)) ks each.1)
 
-Each-mapped : {X : Type 0} (P Q : X → Type 0) (xs : List X) → ((x : X) → P x → Q x) → Each P xs → Each Q xs
-Each-mapped P Q [] so each = tt
-Each-mapped P Q (x ∷ xs) so each = (so x each.0, Each-mapped P Q xs so each.1)
+-- there is a variable for each cell
+pub cells_formulated : (p : PosedProblem) (f : Formulation) → length p.posed.cells ≤ (formulated p f).vars
+unfolding formulated
+cells_formulated p f = let among = cells_among p f.form in omega (arith, among)
 
 module _ (p : PosedProblem) (kept : IsPosed p.posed) (fitting : AreFitting p.posed p.demands) where
   grids : Each (λ motion. exchanges motion ≡ true → p.posed.height ≡ p.posed.width) (same_motions p)
@@ -201,38 +179,40 @@ module _ (p : PosedProblem) (kept : IsPosed p.posed) (fitting : AreFitting p.pos
       (subst (AreMarks (values ++ more) (length values)) (sym (marks_same h values more has enough (same_motions p) grids)) (λ k within. get_or-append-add values more k false))
 
   -- so a solution that is to be left has an assignment
-  pub HasAssignment-formulated : (f : Formulation) → list_all (is_within (formula_of p f.form).vars) (formula_of p f.form).clauses ≡ true → (h : History) → IsSolution p h → IsLeft f.images p h
-      → HasAssignment (formulated p f) h
+  pub HasAssignment-formulated : (f : Formulation) → (h : History) → IsSolution p h → IsLeft f.images p h → HasAssignment (formulated p f) h
   unfolding formulated
-  HasAssignment-formulated f within h solution left =
-      let plain = HasAssignment-values_of p f.form kept fitting h solution in
-      let values : List Bool = plain.values in
+  HasAssignment-formulated f h solution left =
+      let cells : List Bool = cells_of h in
+      let after : HasExtension p cells = extension_of p kept fitting h solution in
+      let values : List Bool = cells ++ after.more in
       let more : List Bool = more_of f.images values in
-      let count = count_of p h kept solution.sizes in
-      let enough : length p.posed.cells ≤ length values = subst (λ n. length p.posed.cells ≤ n) (sym plain.count) (cells_among p f.form) in
-      let has : HasCells p values h = record {
-        kept = kept;
-        sizes = solution.sizes;
-        cells = λ k k_in. sym (get_or-take (length (cells_of h)) values k false (subst (λ n. k < n) (sym count) k_in)) ∙ ap (λ cells. get_or cells k false) plain.cells;
-      } in
+      let count : length cells ≡ length p.posed.cells = count_of p h kept solution.sizes in
+      let plain : length values ≡ (formula_of p f.form).vars = length-values p f.form h kept solution.sizes after in
+      let enough : length p.posed.cells ≤ length values = subst (λ n. length p.posed.cells ≤ n) (sym plain) (cells_among p f.form) in
+      let has : HasCells p values h = HasCells-append p h cells after.more (HasCells-cells_of p h kept solution.sizes) (omega (arith, count)) in
+      let all : values ++ more ≡ cells ++ (after.more ++ more) = append_assoc cells after.more more in
       record {
         values = values ++ more;
-        count = length-append values more ∙ ap (λ n. n + length more) plain.count ∙ ap (λ n. (formula_of p f.form).vars + n) (length-more_of f.images values);
-        cells = take-append-le (length (cells_of h)) values more (subst (λ n. n ≤ length values) (sym count) enough) ∙ plain.cells;
+        count = length-append values more ∙ ap (λ n. n + length more) plain ∙ ap (λ n. (formula_of p f.form).vars + n) (length-more_of f.images values);
+        cells = ap (take (length cells)) all ∙ take-append_seam cells (after.more ++ more);
         satisfied = satisfies-append (values ++ more) (formula_of p f.form).clauses (images_part p f.images (formula_of p f.form).vars)
-            ∙ and_from _ _ (satisfies-more values more (formula_of p f.form).clauses (subst (λ n. list_all (is_within n) (formula_of p f.form).clauses ≡ true) (sym plain.count) within) ∙ plain.satisfied)
-            (subst (λ n. satisfies (values ++ more) (images_part p f.images n) ≡ true) plain.count (satisfies-part f.images h values has enough left));
+            ∙ and_from _ _ (ap (λ vs. satisfies vs (formula_of p f.form).clauses) all ∙ satisfies-formula_of p f.form h kept fitting solution after more)
+            (subst (λ n. satisfies (values ++ more) (images_part p f.images n) ≡ true) plain (satisfies-part f.images h values has enough left));
       }
 
-  -- of a solution there is one that is to be left
-  some_left : (images : Images) (h : History) → IsSolution p h → (left : History) × (IsSolution p left) × (IsLeft images p left)
-  some_left images.All h solution = (h, solution, tt)
-  some_left images.One h solution = let first = first_law p fitting kept h solution in (first.0, first.1.solution, first.1.first)
+  -- of the kind of a solution there is one that is to be left
+  some_left : (images : Images) (h : History) → IsSolution p h → (left : History) × (AreOfOneKind p h left) × (IsSolution p left) × (IsLeft images p left)
+  some_left images.All h solution = (h, record { motions = []; same = refl; taken = refl }, solution, tt)
+  some_left images.One h solution = let first = first_law p fitting kept h solution in (first.0, first.1.kind, first.1.solution, first.1.first)
 
-  pub absent_by_formulated : (f : Formulation) → list_all (is_within (formula_of p f.form).vars) (formula_of p f.form).clauses ≡ true → IsUnsatisfiable (formulated p f) → IsAbsent p
-  absent_by_formulated f within unsatisfiable h solution =
+  pub HasOneOfKind-formulated : (f : Formulation) (h : History) → IsSolution p h → HasOneOfKind p (formulated p f) h
+  HasOneOfKind-formulated f h solution =
       let some = some_left f.images h solution in
-      let assigned = HasAssignment-formulated f within some.0 some.1 some.2 in
+      record { left = some.0; kind = some.1; solution = some.2; assignment = HasAssignment-formulated f some.0 some.2 some.3 }
+
+  pub absent_by_formulated : (f : Formulation) → IsUnsatisfiable (formulated p f) → IsAbsent p
+  absent_by_formulated f unsatisfiable h solution =
+      let assigned = (HasOneOfKind-formulated f h solution).assignment in
       let none = unsatisfiable assigned.values assigned.count in
       let all = assigned.satisfied in
       cc
@@ -252,10 +232,9 @@ module _ (p : PosedProblem) (kept : IsPosed p.posed) (fitting : AreFitting p.pos
       IsLeft-by_clauses f.images (history_of p values) values (HasCells-history_of p values kept enough) (formula_of p f.form).vars (parts_of f values satisfied).1
 
   pub unsatisfiable_by_absent : (f : Formulation) → IsAbsent p → IsUnsatisfiable (formulated p f)
-  unfolding formulated
   unsatisfiable_by_absent f absent values len =
       false_from_ne_true (satisfies values (formulated p f).clauses) (λ satisfied.
-      absent (history_of p values) (IsSolution-formulated f values (let among = cells_among p f.form in omega (arith, len, among)) satisfied))
+      absent (history_of p values) (IsSolution-formulated f values (omega (arith, len, cells_formulated p f)) satisfied))
 
 -- all clauses together are few
 few_images : (p : PosedProblem) (images : Images) (base : ℕ) → IsPosed p.posed → length (images_part p images base) ≤ 86016

@@ -3,6 +3,7 @@ use Rattle.std.proofs.Common.{◌≡◌, ◌<◌, ◌≤◌, ℕ, suc, ◌+◌, 
 use Rattle.std.specs.Option.{option_map_or}
 use Rattle.std.specs.List.{flat_map, position_from}
 use Rattle.std.proofs.lemmas.Bool.{and_parts, and_from, eqb-true}
+use Rattle.std.proofs.lemmas.List.{append-nil}
 use Rattle.lls_lit.specs.Formula.{Clause, is_true, satisfies, IsUnsatisfiable}
 use Rattle.lls_grid.specs.History.{History, HasSizes, cells_of}
 use Rattle.lls_search_file.specs.declared.cell.Cell.{Cell}
@@ -28,7 +29,7 @@ use Rattle.lls_encode.proofs.Values.{HasCells, is_true-cell}
 use Rattle.lls_encode.proofs.Mirrored.{satisfies-symmetry_part}
 use Rattle.lls_encode.proofs.Returned.{satisfies-period_part}
 use Rattle.lls_encode.proofs.Differing.{marks_where, length-marks_where, count_of, HasCells-append, satisfies-asked_part}
-use Rattle.lls_encode.proofs.Unseen.{AreMarks, all_marks, length-all_marks, marks_behind, satisfies-exact_part}
+use Rattle.lls_encode.proofs.Unseen.{AreMarks, all_marks, length-all_marks, marks_front, marks_behind, satisfies-exact_part}
 use Rattle.lls_encode.proofs.Unlisted.{satisfies-listed_part}
 use Rattle.lls_encode.proofs.AllBounds.{AreBounds, HasCounters, satisfies-bounds_clauses, AllCount-append, has_counters}
 use Rattle.lls_encode.proofs.Satisfied.{satisfies-range, is_true-negation, is_literal, or_left}
@@ -170,6 +171,12 @@ satisfies-transitions_by p form cubes just h values has obeys =
 pub AreBounds-fitting : (p : PosedProblem) → AreFitting p.posed p.demands → AreBounds p p.demands.bounds
 AreBounds-fitting p fitting = record { bounded = fitting.bounded; ordered = fitting.ordered }
 
+-- the values of one part behind those of another
+gathered : (values counters asked unseen further : List Bool) → values ++ ((counters ++ (asked ++ unseen)) ++ further) ≡ (values ++ counters) ++ (asked ++ (unseen ++ further))
+gathered values counters asked unseen further =
+    ap (λ vs. values ++ vs) (append_assoc counters (asked ++ unseen) further ∙ ap (λ vs. counters ++ vs) (append_assoc asked unseen further))
+    ∙ sym (append_assoc values counters (asked ++ (unseen ++ further)))
+
 -- Behind any values whose first are the cells of a history that meets the demands behind the transitions, there are values
 -- of the counters, and where generations have to differ, the cells in which they do.
 pub has_extension : (p : PosedProblem) (h : History) (values : List Bool) → IsPosed p.posed → AreFitting p.posed p.demands → HasCells p values h → length p.posed.cells ≤ length values → MeetsAfter p h
@@ -183,38 +190,42 @@ has_extension p h values kept fitting has enough meets =
     let marks : List Bool = asked ++ unseen in
     let len : length before ≡ length values + bounds_vars p = omega (arith, length-append values counters.more, counters.count) in
     let has_before : HasCells p before h = HasCells-append p h values counters.more has enough in
-    let has_all : HasCells p (before ++ marks) h = HasCells-append p h before marks has_before (omega (arith, len, enough)) in
-    let bounds : satisfies (before ++ marks) (bounds_part p (length values)) ≡ true =
-    satisfies-bounds_clauses p h (before ++ marks) has_all (length values) enough p.demands.bounds fit
-    (AllCount-append p kept before marks (omega (arith, len, enough)) (length values) p.demands.bounds fit (omega (arith, len)) counters.counts) meets.populated in
-    let difference : satisfies (before ++ marks) (difference_part p (length values + bounds_vars p)) ≡ true =
-    ap (λ base. satisfies (before ++ marks) (difference_part p base)) (sym len)
-    ∙ satisfies-append (before ++ marks) (asked_part p (length before) ++ exact_part p (length before + asked_vars p)) (listed_part p)
-    ∙ and_from _ _ (satisfies-append (before ++ marks) (asked_part p (length before)) (exact_part p (length before + asked_vars p))
-    ∙ and_from _ _ (satisfies-asked_part p h before unseen has_before (omega (arith, len, enough)) fitting meets.differ)
-    (satisfies-exact_part p h (before ++ marks) has_all (length before + asked_vars p) fitting meets.exact
-    (subst (λ n. AreMarks (before ++ marks) (length before + n) unseen) (length-marks_where p before) (marks_behind before asked unseen))))
-    (satisfies-listed_part p h (before ++ marks) has_all fitting meets.unlisted) in
     record {
       more = counters.more ++ marks;
       count = length-append counters.more marks ∙ ap (λ n. n + length marks) counters.count
           ∙ ap (λ n. bounds_vars p + n) (length-append asked unseen ∙ ap (λ n. n + length unseen) (length-marks_where p before) ∙ ap (λ n. asked_vars p + n) (length-all_marks p h (excluded p.demands)));
-      satisfied = ap (λ vs. satisfies vs (after_part p (length values))) (sym (append_assoc values counters.more marks))
-          ∙ satisfies-append (before ++ marks) (bounds_part p (length values)) (difference_part p (length values + bounds_vars p)) ∙ and_from _ _ bounds difference;
+      satisfied = λ further.
+          let later : List Bool = unseen ++ further in
+          let behind : List Bool = asked ++ later in
+          let has_all : HasCells p (before ++ behind) h = HasCells-append p h before behind has_before (omega (arith, len, enough)) in
+          let bounds : satisfies (before ++ behind) (bounds_part p (length values)) ≡ true =
+          satisfies-bounds_clauses p h (before ++ behind) has_all (length values) enough p.demands.bounds fit
+          (AllCount-append p kept before behind (omega (arith, len, enough)) (length values) p.demands.bounds fit (omega (arith, len)) counters.counts) meets.populated in
+          let difference : satisfies (before ++ behind) (difference_part p (length values + bounds_vars p)) ≡ true =
+          ap (λ base. satisfies (before ++ behind) (difference_part p base)) (sym len)
+          ∙ satisfies-append (before ++ behind) (asked_part p (length before) ++ exact_part p (length before + asked_vars p)) (listed_part p)
+          ∙ and_from _ _ (satisfies-append (before ++ behind) (asked_part p (length before)) (exact_part p (length before + asked_vars p))
+          ∙ and_from _ _ (satisfies-asked_part p h before later has_before (omega (arith, len, enough)) fitting meets.differ)
+          (satisfies-exact_part p h (before ++ behind) has_all (length before + asked_vars p) fitting meets.exact
+          (marks_front (before ++ behind) (length before + asked_vars p) unseen further
+          (subst (λ n. AreMarks (before ++ behind) (length before + n) later) (length-marks_where p before) (marks_behind before asked later)))))
+          (satisfies-listed_part p h (before ++ behind) has_all fitting meets.unlisted) in
+          ap (λ vs. satisfies vs (after_part p (length values))) (gathered values counters.more asked unseen further)
+          ∙ satisfies-append (before ++ behind) (bounds_part p (length values)) (difference_part p (length values + bounds_vars p)) ∙ and_from _ _ bounds difference;
     }
 
 pub HasCells-cells_of : (p : PosedProblem) (h : History) → IsPosed p.posed → HasSizes p.posed.generations p.posed.height p.posed.width h → HasCells p (cells_of h) h
 HasCells-cells_of p h kept sizes = record { kept = kept; sizes = sizes; cells = λ k k_in. refl }
 
--- the theorem
-satisfies-formula_of : (p : PosedProblem) (form : Form) (h : History) → IsPosed p.posed → AreFitting p.posed p.demands → IsSolution p h → (after : HasExtension p (cells_of h))
-    → satisfies (cells_of h ++ after.more) (formula_of p form).clauses ≡ true
+-- A solution's cells and such values behind them, whatever follows, satisfy the clauses.
+pub satisfies-formula_of : (p : PosedProblem) (form : Form) (h : History) → IsPosed p.posed → AreFitting p.posed p.demands → IsSolution p h → (after : HasExtension p (cells_of h)) → (further : List Bool)
+    → satisfies (cells_of h ++ (after.more ++ further)) (formula_of p form).clauses ≡ true
 unfolding formula_of
-satisfies-formula_of p form h kept fitting s after =
-    let values : List Bool = cells_of h ++ after.more in
+satisfies-formula_of p form h kept fitting s after further =
+    let values : List Bool = cells_of h ++ (after.more ++ further) in
     let count : length (cells_of h) ≡ length p.posed.cells = count_of p h kept s.sizes in
-    let has : HasCells p values h = HasCells-append p h (cells_of h) after.more (HasCells-cells_of p h kept s.sizes) (omega (arith, count)) in
-    let satisfied : satisfies values (after_part p (length p.posed.cells)) ≡ true = ap (λ base. satisfies values (after_part p base)) (sym count) ∙ after.satisfied in
+    let has : HasCells p values h = HasCells-append p h (cells_of h) (after.more ++ further) (HasCells-cells_of p h kept s.sizes) (omega (arith, count)) in
+    let satisfied : satisfies values (after_part p (length p.posed.cells)) ≡ true = ap (λ base. satisfies values (after_part p base)) (sym count) ∙ after.satisfied further in
     let parts = and_parts _ _ (sym (satisfies-append values (bounds_part p (length p.posed.cells)) (difference_part p (difference_base p))) ∙ satisfied) in
     satisfies-append values (front_part p ++ transition_part p form ++ bounds_part p (length p.posed.cells)) (difference_part p (difference_base p))
     ∙ and_from _ _ (satisfies-append values (front_part p ++ transition_part p form) (bounds_part p (length p.posed.cells))
@@ -225,22 +236,27 @@ satisfies-formula_of p form h kept fitting s after =
     parts.1
 
 -- a value for each variable
-length-values : (p : PosedProblem) (form : Form) (h : History) → IsPosed p.posed → HasSizes p.posed.generations p.posed.height p.posed.width h → (after : HasExtension p (cells_of h))
+pub length-values : (p : PosedProblem) (form : Form) (h : History) → IsPosed p.posed → HasSizes p.posed.generations p.posed.height p.posed.width h → (after : HasExtension p (cells_of h))
     → length (cells_of h ++ after.more) ≡ (formula_of p form).vars
 unfolding formula_of
 length-values p form h kept sizes after = omega (arith, length-append (cells_of h) after.more, count_of p h kept sizes, after.count)
 
+pub extension_of : (p : PosedProblem) → IsPosed p.posed → AreFitting p.posed p.demands → (history : History) → IsSolution p history → HasExtension p (cells_of history)
+extension_of p kept fitting history solution =
+    let count : length (cells_of history) ≡ length p.posed.cells = count_of p history kept solution.sizes in
+    has_extension p history (cells_of history) kept fitting (HasCells-cells_of p history kept solution.sizes) (omega (arith, count))
+    (record { populated = solution.populated; differ = solution.differ; exact = solution.exact; unlisted = solution.unlisted })
+
+-- the theorem
 pub HasAssignment-values_of : (p : PosedProblem) (form : Form) → IsPosed p.posed → AreFitting p.posed p.demands → (history : History) → IsSolution p history → HasAssignment (formula_of p form) history
 HasAssignment-values_of p form kept fitting history solution =
     let cells : List Bool = cells_of history in
-    let count : length cells ≡ length p.posed.cells = count_of p history kept solution.sizes in
-    let after : HasExtension p cells = has_extension p history cells kept fitting (HasCells-cells_of p history kept solution.sizes) (omega (arith, count))
-    (record { populated = solution.populated; differ = solution.differ; exact = solution.exact; unlisted = solution.unlisted }) in
+    let after : HasExtension p cells = extension_of p kept fitting history solution in
     record {
       values = cells ++ after.more;
       count = length-values p form history kept solution.sizes after;
       cells = take-append_seam cells after.more;
-      satisfied = satisfies-formula_of p form history kept fitting solution after;
+      satisfied = ap (λ more. satisfies (cells ++ more) (formula_of p form).clauses) (sym (append-nil after.more)) ∙ satisfies-formula_of p form history kept fitting solution after [];
     }
 
 -- a formula that nothing satisfies has no solution

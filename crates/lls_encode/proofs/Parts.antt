@@ -5,9 +5,9 @@ use Rattle.std.specs.List.{list_all, flat_map, range_with_len}
 use Rattle.std.proofs.lemmas.List.Folds.{list_all-append}
 use Rattle.lls_lit.specs.Formula.{Clause, satisfies_clause, satisfies}
 use Rattle.lls_problem.specs.declared.demands.Edge.{Edge}
+use Rattle.lls_images.proofs.Tests.{all_from-each}
 use Rattle.lls_encode.specs.Formula.{first_framed, framed_count, framed}
 use Rattle.lls_encode.proofs.Steps.{flat_map-map}
-use Rattle.lls_encode.proofs.Satisfied.{at_in_range}
 use Rattle.lls_encode.proofs.Framed.{IsFramedLine, counted}
 
 pub satisfies-append : (values : List Bool) (a b : List Clause) → satisfies values (a ++ b) ≡ (satisfies values a && satisfies values b)
@@ -21,7 +21,7 @@ satisfies-flat_map values f (x ∷ xs) =
 pub satisfied_in_range : (values : List Bool) (f : ℕ → List Clause) (a n k : ℕ) → satisfies values (flat_map f (range_with_len a n)) ≡ true
     → a ≤ k → k < a + n → satisfies values (f k) ≡ true
 satisfied_in_range values f a n k all low high =
-    at_in_range (λ i. satisfies values (f i)) a n k (sym (satisfies-flat_map values f (range_with_len a n)) ∙ all) low high
+    all_from-each (λ i. satisfies values (f i)) a n k (sym (satisfies-flat_map values f (range_with_len a n)) ∙ all) low high
 
 pub satisfied_framed : (values : List Bool) (f : ℤ → List Clause) (edge : Edge) (size : ℕ) (y : ℤ) → satisfies values (flat_map f (framed edge size)) ≡ true
     → IsFramedLine edge size y → satisfies values (f y) ≡ true

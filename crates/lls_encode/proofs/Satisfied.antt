@@ -1,8 +1,7 @@
 -- Literals under an assignment, and clauses of a range of numbers.
-use Rattle.std.proofs.Common.{eqb, ◌≡◌, ◌<◌, ◌≤◌, ℕ, zero, suc, ◌+◌, ℤ, pos, negsuc, Bool, true, false, not, ◌||◌, List, refl, sym, ◌∙◌, subst, arith, add-one}
-use Rattle.std.specs.List.{list_all, flat_map, range_with_len}
-use Rattle.std.proofs.lemmas.Bool.{and_parts, and_from, eqb-true}
-use Rattle.std.proofs.lemmas.Bool.Decides.{nat_tests}
+use Rattle.std.proofs.Common.{◌≡◌, ◌<◌, ◌≤◌, ℕ, zero, suc, ◌+◌, ℤ, pos, negsuc, Bool, true, false, not, ◌||◌, List, refl, sym, ◌∙◌, arith, add-one}
+use Rattle.std.specs.List.{flat_map, range_with_len}
+use Rattle.std.proofs.lemmas.Bool.{and_from}
 use Rattle.std.proofs.lemmas.List.Folds.{list_all-append}
 use Rattle.lls_lit.specs.Literal.{negation}
 use Rattle.lls_lit.specs.Formula.{Clause, value_at, is_true, satisfies_clause, satisfies}
@@ -37,15 +36,3 @@ satisfies-range values f a zero each = refl
 satisfies-range values f a (suc n) each =
     list_all-append (satisfies_clause values) (f a) (flat_map f (range_with_len (a + 1) n))
     ∙ and_from _ _ (each a (omega arith) (omega arith)) (satisfies-range values f (a + 1) n (λ k low high. each k (omega arith) (omega arith)))
-
-below : (a k : ℕ) → a ≤ k → eqb a k ≡ false → a + 1 ≤ k
-below a k low other = grind (arith, nat_tests)
-
-pub at_in_range : (p : ℕ → Bool) (a n k : ℕ) → list_all p (range_with_len a n) ≡ true → a ≤ k → k < a + n → p k ≡ true
-at_in_range p a zero k all low high = absurd (omega arith)
-at_in_range p a (suc n) k all low high =
-    let parts = and_parts (p a) (list_all p (range_with_len (a + 1) n)) all in
-    elim (eqb a k) as (λ b. eqb a k ≡ b → p k ≡ true) [
-      | true ↦ λ same. subst (λ m. p m ≡ true) (eqb-true a k same) parts.0
-      | false ↦ λ other. at_in_range p (a + 1) n k parts.1 (below a k low other) (omega arith)
-    ] refl

@@ -12,7 +12,9 @@ use Rattle.lls_problem.specs.declared.form.Formulation.{Formulation}
 use Rattle.lls_problem.specs.Problem.{PosedProblem}
 use Rattle.lls_images.specs.Image.{image_index}
 use Rattle.lls_images.specs.Same.{same_motions}
-use Rattle.lls_images.specs.First.{IsFirst}
+use Rattle.lls_images.specs.First.{IsFirst, AreOfOneKind}
+use Rattle.lls_problem.specs.Solution.{IsSolution}
+use Rattle.lls_encode.specs.History.{HasAssignment}
 use Rattle.lls_encode.specs.Formula.{generation_size, cell_of_generation, difference_variable, formula_of}
 
 -- the cells of generation 0 whose images under a motion are other cells, in their order
@@ -75,3 +77,10 @@ formulated p formulation =
 abbrev pub IsLeft : Images → PosedProblem → History → Type 0
 IsLeft images.All p history = Unit {0}
 IsLeft images.One p history = IsFirst p history
+
+-- of the kind of a history there is a solution that has an assignment
+pub record HasOneOfKind (problem : PosedProblem) (formula : Cnf) (history : History) : Type 0 where
+  pub left : History
+  pub kind : AreOfOneKind problem history left
+  pub solution : IsSolution problem left
+  pub assignment : HasAssignment formula left

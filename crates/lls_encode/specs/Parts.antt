@@ -27,8 +27,8 @@ after_part p base = bounds_part p base ++ difference_part p (base + bounds_vars 
 abbrev pub after_vars : PosedProblem → ℕ
 after_vars p = bounds_vars p + difference_vars p
 
--- values of these variables, behind others, that satisfy these clauses
+-- values of these variables, behind others, that satisfy these clauses, whatever values stand behind them
 pub record HasExtension (problem : PosedProblem) (values : List Bool) : Type 0 where
   pub more : List Bool
   pub count : length more ≡ after_vars problem
-  pub satisfied : satisfies (values ++ more) (after_part problem (length values)) ≡ true
+  pub satisfied : (further : List Bool) → satisfies (values ++ (more ++ further)) (after_part problem (length values)) ≡ true

@@ -1,10 +1,10 @@
 // The history that an assignment of the formula's variables writes.
 ghost use Rattle.std.specs.Prelude.{◌≡◌, ◌≤◌, true, length, take, IfOk};
 ghost use Rattle.lls_lit.specs.Formula.{satisfies};
-ghost use Rattle.lls_problem.specs.declared.form.Form.{Form};
+ghost use Rattle.lls_problem.specs.declared.form.Formulation.{Formulation};
 ghost use Rattle.lls_problem.specs.Solution.{IsSolution};
-ghost use Rattle.lls_encode.specs.Formula.{formula_of};
 ghost use Rattle.lls_encode.specs.History.{history_of};
+ghost use Rattle.lls_encode.specs.Images.{formulated};
 
 use lls_base::Memory;
 use lls_cnf::Assignment;
@@ -13,13 +13,13 @@ use lls_problem::Problem;
 use std::alloc::{AllocError, Global};
 
 /// The history of the problem's sizes whose cells have the first values of an assignment, in the order generation, row,
-/// column. Values of variables behind those of the cells aren't looked at. Where the assignment satisfies the problem's
-/// formula of some form, the history is a solution; a variable that it has no value for is false.
+/// column. Values of variables behind those of the cells aren't looked at. Where the assignment satisfies a formula
+/// of the problem, the history is a solution; a variable that it has no value for is false.
 pub fn decode(alloc: Global, problem: &Problem, assignment: &Assignment) -> Result<History, Memory>
     requires { length problem.now.posed.cells ≤ length assignment.now }
     ensures history { IfOk result (λ history. history ≡ history_of problem.now assignment.now) }
-    ensures solution { IfOk result (λ history. (form : Form) → satisfies assignment.now (formula_of problem.now form).clauses ≡ true
-        → IsSolution problem.now history) }
+    ensures solution { IfOk result (λ history. (formulation : Formulation)
+        → satisfies assignment.now (formulated problem.now formulation).clauses ≡ true → IsSolution problem.now history) }
 {
     // That the demands fit the file is known from here on.
     let _demands = problem.demands();

@@ -1,5 +1,5 @@
 // The formula of a problem, all of its solutions left or one of each kind.
-ghost use Rattle.std.specs.Prelude.{◌≡◌, ◌<◌, ◌≤◌, ◌+◌, Bool, [], ◌∷◌, ◌++◌, if◌then◌else◌, true, All, List, length, slice_index_or, IfOk, OnOk};
+ghost use Rattle.std.specs.Prelude.{◌≡◌, ◌<◌, ◌≤◌, ◌+◌, Bool, [], ◌∷◌, ◌++◌, if◌then◌else◌, true, All, List, length, IfOk, OnOk};
 ghost use Rattle.std.specs.Option.{option_to_list};
 ghost use Rattle.lls_lit.specs.Formula.{satisfies, is_within, IsUnsatisfiable};
 ghost use Rattle.lls_grid.specs.History.{History};
@@ -8,7 +8,7 @@ ghost use Rattle.lls_transition.specs.Clause.{with_clauses};
 ghost use Rattle.lls_problem.specs.Solution.{IsSolution, IsAbsent};
 ghost use Rattle.lls_encode.specs.Formula.{generation_size};
 ghost use Rattle.lls_encode.specs.History.{history_of, HasAssignment};
-ghost use Rattle.lls_encode.specs.Images.{image_of_cell, is_changed, changed_cells, compared, before_of, comparison, comparisons, all_comparisons, all_comparison_vars, images_part, images_vars, formulated, IsLeft};
+ghost use Rattle.lls_encode.specs.Images.{image_of_cell, is_changed, changed_cells, compared, before_of, comparison, comparisons, all_comparisons, all_comparison_vars, images_part, images_vars, formulated, IsLeft, HasOneOfKind};
 ghost use Rattle.lls_encode.specs.Room.{HasRoom, with_more};
 
 use crate::difference::difference_variable;
@@ -231,6 +231,10 @@ pub fn formulate(
     ensures complete { IfOk result (λ formula. (history : History) → IsSolution problem.now history → IsLeft formulation.images problem.now history
         → HasAssignment formula history) }
 
+    // So has one of the kind of every solution.
+    ensures kinds { IfOk result (λ formula. (history : History) → IsSolution problem.now history
+        → HasOneOfKind problem.now formula history) }
+
     // Every assignment that satisfies it and has a value for each cell begins with the cells of a solution, and of one that is
     // to be left. A value past its end is false.
     ensures sound { IfOk result (λ formula. (values : List Bool) → length problem.now.posed.cells ≤ length values
@@ -244,11 +248,10 @@ pub fn formulate(
     // And where there is no solution, no assignment satisfies it.
     ensures unsatisfiable { IfOk result (λ formula. IsAbsent problem.now → IsUnsatisfiable formula) }
 {
-    // That the demands fit the file, and that all literals are of the formula's variables, is known from here on.
+    // That the demands fit the file is known from here on.
     let _posed = problem.posed();
     let _demands = problem.demands();
     let mut formula = encode(alloc, problem, formulation.form)?;
-    let _vars = formula.vars();
     push_images(alloc, &mut formula, problem, formulation.images)?;
     Ok(formula)
 }

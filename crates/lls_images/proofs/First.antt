@@ -2,7 +2,7 @@
 use Rattle.std.proofs.Common.{◌≡◌, ◌<◌, ◌≤◌, ℕ, zero, suc, ◌+◌, ◌*◌, ◌^◌, Bool, true, false, List, [], ◌∷◌, length, refl, sym, subst, arith, inl, inr, cond}
 use Rattle.std.specs.Prelude.{All, ◌⊎◌}
 use Rattle.std.specs.List.{AllByRecursion as Each, filter}
-use Rattle.std.proofs.lemmas.Bool.{and_parts, cases_lt}
+use Rattle.std.proofs.lemmas.Bool.{and_parts, and_from, cases_lt}
 use Rattle.std.proofs.lemmas.List.Elements.{All-from_recursion}
 use Rattle.std.proofs.lemmas.List.Sums.{length-filter, count_by-le-length}
 use Rattle.lls_rule.proofs.Numbers.{number_of-lt}
@@ -13,7 +13,7 @@ use Rattle.lls_symmetry.specs.Motion.{exchanges}
 use Rattle.lls_problem.specs.Problem.{PosedProblem, AreFitting}
 use Rattle.lls_problem.specs.Solution.{IsSolution}
 use Rattle.lls_images.specs.Same.{looks_the_same, tells_apart, motions, same_motions}
-use Rattle.lls_images.specs.First.{beginning, IsFirstSolution, FirstLaw}
+use Rattle.lls_images.specs.First.{beginning, IsFirstOfKind, FirstLaw}
 use Rattle.lls_images.proofs.Everywhere.{imaged}
 use Rattle.lls_images.proofs.Patterns.{length-beginning}
 use Rattle.lls_images.proofs.Solutions.{IsSame-by_test, IsSolution-image}
@@ -27,7 +27,7 @@ each_filtered f (x ∷ xs) =
       | false ↦ λ fails. each_filtered f xs
     ] refl
 
-Each-mapped : {X : Type 0} (P Q : X → Type 0) (xs : List X) → ((x : X) → P x → Q x) → Each P xs → Each Q xs
+pub Each-mapped : {X : Type 0} (P Q : X → Type 0) (xs : List X) → ((x : X) → P x → Q x) → Each P xs → Each Q xs
 Each-mapped P Q [] so each = tt
 Each-mapped P Q (x ∷ xs) so each = (so x each.0, Each-mapped P Q xs so each.1)
 
@@ -75,14 +75,25 @@ module _ (p : PosedProblem) (fitting : AreFitting p.posed p.demands) (posed : Is
       subst (λ n. beginning h < 2 ^ n) (length-beginning p.posed.generations p.posed.height p.posed.width h solution.sizes posed.generations.0) (number_of-lt (cells_of_rows (rows_at h 0)))
 
   -- going on to an image that comes before ends, for numbers have an end
-  descend : (room : ℕ) (h : History) → IsSolution p h → most ≤ beginning h + room → (first : History) × IsFirstSolution p first
+  descend : (room : ℕ) (h : History) → IsSolution p h → most ≤ beginning h + room → (first : History) × IsFirstOfKind p h first
   descend zero h solution enough = absurd (let less = beginning-lt h solution in omega (arith, less, enough))
   descend (suc room) h solution enough =
       elim (found_before h (same_motions p) all_look) [
-        | inl all ↦ (h, record { solution = solution; first = All-from_recursion (λ motion. beginning (imaged p motion h) ≤ beginning h) (same_motions p) all })
+        | inl all ↦ (h, record { kind = record { motions = []; same = refl; taken = refl }; solution = solution; first = All-from_recursion (λ motion. beginning (imaged p motion h) ≤ beginning h) (same_motions p) all })
         | inr found ↦
             let more = found.2 in
-            descend room (imaged p found.0 h) (IsSolution-image p found.0 h fitting posed found.1 solution) (omega (arith, more, enough))
+            let last = descend room (imaged p found.0 h) (IsSolution-image p found.0 h fitting posed found.1 solution) (omega (arith, more, enough)) in (
+              last.0,
+              record {
+                kind = record {
+                  motions = found.0 ∷ last.1.kind.motions;
+                  same = and_from _ _ found.1 last.1.kind.same;
+                  taken = last.1.kind.taken;
+                };
+                solution = last.1.solution;
+                first = last.1.first;
+              },
+            )
       ]
 
   pub first_law : FirstLaw p

@@ -27,7 +27,7 @@ all_fails p n k below fails =
     list_all_at p (range_with_len 0 n) k 0 (subst (λ m. k < m) (sym (length-range_with_len 0 n)) below)
     (subst (λ m. p m ≡ false) (at ∙ sym (get_or-range_with_len 0 n k 0 below)) fails)
 
-all_from-each : (p : ℕ → Bool) (a n k : ℕ) → list_all p (range_with_len a n) ≡ true → a ≤ k → k < a + n → p k ≡ true
+pub all_from-each : (p : ℕ → Bool) (a n k : ℕ) → list_all p (range_with_len a n) ≡ true → a ≤ k → k < a + n → p k ≡ true
 all_from-each p a zero k all low high = absurd (omega arith)
 all_from-each p a (suc n) k all low high =
     let parts = and_parts (p a) (list_all p (range_with_len (a + 1) n)) all in

@@ -5,7 +5,7 @@ ghost use Rattle.lls_symmetry.specs.Motion.{exchanges};
 ghost use Rattle.lls_problem.specs.Solution.{IsSolution};
 ghost use Rattle.lls_images.specs.First.{FirstLaw};
 ghost use Rattle.lls_images.specs.Image.{image};
-ghost use Rattle.lls_images.specs.Same.{keeps_grid, keeps_demands, looks_the_same, tells_apart, same_motions};
+ghost use Rattle.lls_images.specs.Same.{keeps_grid, looks_the_same, tells_apart, same_motions};
 
 use crate::cells::{keeps_cells, keeps_ties};
 use crate::listed::keeps_listed;
@@ -58,7 +58,7 @@ pub fn same_motions(alloc: Global, problem: &Problem) -> Result<Vec<Motion>, Mem
     ensures motions { IfOk result (λ motions. motions.items ≡ same_motions problem.now) }
     ensures few { IfOk result (λ motions. length motions.items ≤ 7) }
     ensures grid { IfOk result (λ motions. All (λ motion. exchanges motion ≡ true → problem.now.posed.height ≡ problem.now.posed.width) motions.items) }
-    // Turned or reflected by one of them each solution is a solution, and so some solution comes first of its images.
+    // Turned or reflected by one of them each solution is a solution, and so of each kind some solution comes first.
     ensures images { IfOk result (λ motions. (history : History) → IsSolution problem.now history
         → All (λ motion. IsSolution problem.now (image motion problem.now.posed.height problem.now.posed.width history)) motions.items) }
     ensures first { FirstLaw problem.now }

@@ -5,11 +5,11 @@ use Rattle.lls_prooflog.specs.declared.step.Step.{Step}
 use Rattle.lls_prooflog.specs.Log.{Logged}
 use Rattle.lls_prooflog.specs.Spent.{IsSpent}
 use Rattle.lls_problem.specs.declared.bounds.Bound.{Bound}
-use Rattle.lls_problem.specs.declared.form.Form.{Form}
+use Rattle.lls_problem.specs.declared.form.Formulation.{Formulation}
 use Rattle.lls_problem.specs.Bounds.{grid_size}
 use Rattle.lls_problem.specs.Problem.{PosedProblem}
 use Rattle.lls_problem.specs.Solution.{IsSolution, IsAbsent}
-use Rattle.lls_encode.specs.Formula.{formula_of}
+use Rattle.lls_encode.specs.Images.{formulated}
 use Rattle.lls_solver.specs.Searching.{IsRefutation}
 use Rattle.lls_least.specs.declared.answer.Extremal.{Extremal}
 use Rattle.lls_least.specs.declared.answer.Extremal.TheVariants.{Shown, Absent, Reached, Unsettled}
@@ -28,31 +28,31 @@ IsExtreme extreme p history = (other : History) → IsSolution p other → NotBe
 
 -- steps that show that there is no solution within this bound: the log of a search that refuted the formula of the problem with it. Where there is
 -- no bound nothing has to be shown, and there are none
-abbrev pub Certifies : PosedProblem → Form → ℕ → List Step → Option Bound → Type 0
-Certifies p form budget steps None = steps ≡ []
-Certifies p form budget steps (Some bound) = IsRefutation (formula_of (bounded p bound) form) budget steps
+abbrev pub Certifies : PosedProblem → Formulation → ℕ → List Step → Option Bound → Type 0
+Certifies p formulation budget steps None = steps ≡ []
+Certifies p formulation budget steps (Some bound) = IsRefutation (formulated (bounded p bound) formulation) budget steps
 
 -- the bound that a solution beyond a history would keep
 abbrev pub beyond_it : Extreme → PosedProblem → History → Option Bound
 beyond_it extreme p history = beyond extreme (grid_size p.posed) (live_cells history)
 
 -- a solution, and steps that show that there is none beyond it
-pub record IsShown (extreme : Extreme) (p : PosedProblem) (form : Form) (budget : ℕ) (history : History) (steps : List Step) : Type 0 where
+pub record IsShown (extreme : Extreme) (p : PosedProblem) (formulation : Formulation) (budget : ℕ) (history : History) (steps : List Step) : Type 0 where
   pub solution : IsSolution p history
-  pub certified : Certifies p form budget steps (beyond_it extreme p history)
+  pub certified : Certifies p formulation budget steps (beyond_it extreme p history)
 
 -- a solution, and the log of a budget that was spent on the question for one beyond it
-pub record IsReached (extreme : Extreme) (p : PosedProblem) (form : Form) (budget : ℕ) (history : History) (steps : List Step) : Type 0 where
+pub record IsReached (extreme : Extreme) (p : PosedProblem) (formulation : Formulation) (budget : ℕ) (history : History) (steps : List Step) : Type 0 where
   pub solution : IsSolution p history
   pub bound : Bound
   pub asked : beyond_it extreme p history ≡ Some bound
-  pub spent : IsSpent (formula_of (bounded p bound) form) steps budget
+  pub spent : IsSpent (formulated (bounded p bound) formulation) steps budget
 
-abbrev pub IsExtremal : Extreme → PosedProblem → Form → ℕ → Extremal → Type 0
-IsExtremal extreme p form budget (Shown history log) = IsShown extreme p form budget history log.steps
-IsExtremal extreme p form budget (Absent log) = IsRefutation (formula_of p form) budget log.steps
-IsExtremal extreme p form budget (Reached history log) = IsReached extreme p form budget history log.steps
-IsExtremal extreme p form budget (Unsettled log) = IsSpent (formula_of p form) log.steps budget
+abbrev pub IsExtremal : Extreme → PosedProblem → Formulation → ℕ → Extremal → Type 0
+IsExtremal extreme p formulation budget (Shown history log) = IsShown extreme p formulation budget history log.steps
+IsExtremal extreme p formulation budget (Absent log) = IsRefutation (formulated p formulation) budget log.steps
+IsExtremal extreme p formulation budget (Reached history log) = IsReached extreme p formulation budget history log.steps
+IsExtremal extreme p formulation budget (Unsettled log) = IsSpent (formulated p formulation) log.steps budget
 
 -- what it says of all histories, whatever formula was searched
 abbrev pub Settles : Extreme → PosedProblem → Extremal → Type 0

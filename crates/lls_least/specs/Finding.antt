@@ -4,7 +4,7 @@ use Rattle.lls_prooflog.specs.declared.step.Step.{Step}
 use Rattle.lls_prooflog.specs.Spent.{IsSpent}
 use Rattle.lls_problem.specs.Problem.{PosedProblem}
 use Rattle.lls_problem.specs.Solution.{IsSolution, IsAbsent}
-use Rattle.lls_encode.specs.Formula.{formula_of}
+use Rattle.lls_encode.specs.Images.{formulated}
 use Rattle.lls_solver.specs.Searching.{IsRefutation, KeepsAll}
 use Rattle.lls_least.specs.declared.effort.Effort.{Effort}
 use Rattle.lls_least.specs.declared.looking.Finding.{Finding}
@@ -12,13 +12,13 @@ use Rattle.lls_least.specs.declared.looking.Finding.TheVariants.{Found, Absent, 
 
 -- the log of a search that refuted the formula, so there is no solution
 pub record ShowsAbsence (p : PosedProblem) (effort : Effort) (steps : List Step) : Type 0 where
-  pub proof : IsRefutation (formula_of p effort.form) effort.budget steps
+  pub proof : IsRefutation (formulated p effort.formulation) effort.budget steps
   pub absent : IsAbsent p
   pub all_kept : KeepsAll effort.keep_all steps
 
 -- the log of a budget that was spent
 pub record IsOpen (p : PosedProblem) (effort : Effort) (steps : List Step) : Type 0 where
-  pub spent : IsSpent (formula_of p effort.form) steps effort.budget
+  pub spent : IsSpent (formulated p effort.formulation) steps effort.budget
   pub all_kept : KeepsAll effort.keep_all steps
 
 abbrev pub IsFinding : PosedProblem → Effort → Finding → Type 0

@@ -1,11 +1,11 @@
 // How a problem is searched.
-use lls_problem::Form;
+use lls_problem::Formulation;
 use lls_solver::Approach;
 
 /// Which formula a problem gets, and how and how far that is searched.
 #[derive(Clone, Copy)]
 pub(crate) struct Effort {
-    pub(crate) form: Form,
+    pub(crate) formulation: Formulation,
     pub(crate) approach: Approach,
     /// So many clauses may be learnt.
     pub(crate) budget: u32,

@@ -6,7 +6,7 @@ ghost use Rattle.lls_least.specs.Finding.{IsFinding};
 use crate::effort::Effort;
 use lls_base::Memory;
 use lls_cnf::Assignment;
-use lls_encode::{decode, encode};
+use lls_encode::{decode, formulate};
 use lls_grid::History;
 use lls_problem::Problem;
 use lls_prooflog::Log;
@@ -41,7 +41,7 @@ pub(crate) fn look(
     requires { effort.budget ≤ MOST_BUDGET }
     ensures { IfOk result (IsFinding problem.now effort) }
 {
-    let formula = encode(alloc, problem, effort.form)?;
+    let formula = formulate(alloc, problem, effort.formulation)?;
     let mut log = Log::new(alloc);
     match solve_from(
         alloc,

@@ -14,7 +14,7 @@ use crate::looking::{Finding, look};
 use lls_base::Memory;
 use lls_cnf::Assignment;
 use lls_grid::History;
-use lls_problem::{Form, Problem};
+use lls_problem::{Formulation, Problem};
 use lls_prooflog::Log;
 use lls_solver::Approach;
 use std::alloc::Global;
@@ -25,21 +25,21 @@ pub fn extremal(
     alloc: Global,
     problem: &Problem,
     extreme: Extreme,
-    form: Form,
+    formulation: Formulation,
     approach: Approach,
     budget: u32,
     keep_all: bool,
 ) -> Result<Extremal, Memory>
     requires room { LeavesRoom problem.now }
     requires budget { budget ≤ MOST_BUDGET }
-    ensures answer { IfOk result (IsExtremal extreme problem.now form budget) }
+    ensures answer { IfOk result (IsExtremal extreme problem.now formulation budget) }
 
     // What is shown has the fewest live cells of all solutions, or the most, and what is absent has none.
     ensures settles { IfOk result (Settles extreme problem.now) }
     ensures all_kept { IfOk result (λ extremal. KeepsAll keep_all (log_of extremal).steps) }
 {
     let effort = Effort {
-        form,
+        formulation,
         approach,
         budget,
         keep_all,
@@ -65,7 +65,7 @@ fn tighten(
     requires room { LeavesRoom problem.now }
     requires budget { effort.budget ≤ MOST_BUDGET }
     requires solution { IsSolution problem.now history }
-    ensures answer { IfOk result (IsExtremal extreme problem.now effort.form effort.budget) }
+    ensures answer { IfOk result (IsExtremal extreme problem.now effort.formulation effort.budget) }
     ensures settles { IfOk result (Settles extreme problem.now) }
     ensures all_kept { IfOk result (λ extremal. KeepsAll effort.keep_all (log_of extremal).steps) }
 {

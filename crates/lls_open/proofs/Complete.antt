@@ -100,7 +100,7 @@ HasOpenAssignment-values_of p form high kept fitting ends history rule found =
     let given : Gives p high rule values = λ k inside. gives-behind cells after.more rule classes (length p.posed.cells) k count inside in
     let front : satisfies values (front_part p) ≡ true = satisfies-front_part p history values has_all fitting meets_before in
     let transitions = satisfies-open_part p form high rule history values ends found.between has_all given solution.rule same in
-    let behind : satisfies values (after_part p base) ≡ true = ap (λ n. satisfies values (after_part p n)) (sym len) ∙ after.satisfied in
+    let behind : satisfies values (after_part p base) ≡ true = ap (λ n. satisfies values (after_part p n)) (sym len) ∙ ap (λ more. satisfies (before ++ more) (after_part p (length before))) (sym (append-nil after.more)) ∙ after.satisfied [] in
     record {
       more = after.more;
       values = values;

@@ -1,5 +1,5 @@
 // Command lines and the jobs that they are read as. Their faults are compared with worked rows over the program.
-use lls_problem::{Bound, Edge, Form, Period};
+use lls_problem::{Bound, Edge, Form, Formulation, Images, Period};
 use lls_rule::Rule;
 use lls_symmetry::Symmetry;
 use lls_words::{CrewPlan, Job, ProblemSource, WordsError, read_job};
@@ -23,7 +23,7 @@ fn job_of(alloc: Global, line: &str) -> Result<Job, Fail> {
 
 // Options, each with a value that it may have.
 const OPTIONS: &str = "\
-formula=1 rule=B3/S23 low=B3/S2 high=B3/S23 edge=open symmetry=C2 period=2 exact=no live=0:1- differ=0,1 but=l as=rle budget=7 keep=all manner=steady first=7 crew=3 turns=5 best=1";
+images=one formula=1 rule=B3/S23 low=B3/S2 high=B3/S23 edge=open symmetry=C2 period=2 exact=no live=0:1- differ=0,1 but=l as=rle budget=7 keep=all manner=steady first=7 crew=3 turns=5 best=1";
 
 // Whether a command line takes an option that stands behind it, which is the only fault that it may have.
 fn takes(alloc: Global, line: &str, option: &str) -> Result<bool, Fail> {
@@ -63,11 +63,11 @@ fn each_command_takes_its_options_alone(rt: HostRuntime) -> Result<(), Fail> {
     let rows = [
         (
             "check f p",
-            "formula rule edge symmetry period exact live differ but as ",
+            "images formula rule edge symmetry period exact live differ but as ",
         ),
         (
             "search f p",
-            "formula rule edge symmetry period exact live differ but as budget keep manner first crew turns ",
+            "images formula rule edge symmetry period exact live differ but as budget keep manner first crew turns ",
         ),
         (
             "judge f p",
@@ -75,7 +75,7 @@ fn each_command_takes_its_options_alone(rt: HostRuntime) -> Result<(), Fail> {
         ),
         (
             "cnf f",
-            "formula rule edge symmetry period exact live differ but as ",
+            "images formula rule edge symmetry period exact live differ but as ",
         ),
         ("sat f p", "budget keep manner first "),
         ("lrat f p", ""),
@@ -83,11 +83,11 @@ fn each_command_takes_its_options_alone(rt: HostRuntime) -> Result<(), Fail> {
         ("make 1 8 f p", ""),
         (
             "least f p",
-            "formula rule edge symmetry period exact live differ but as budget keep manner first ",
+            "images formula rule edge symmetry period exact live differ but as budget keep manner first ",
         ),
         (
             "most f p",
-            "formula rule edge symmetry period exact live differ but as budget keep manner first ",
+            "images formula rule edge symmetry period exact live differ but as budget keep manner first ",
         ),
         (
             "open f p",
@@ -282,44 +282,64 @@ fn crews_of_searches(rt: HostRuntime) -> Result<(), Fail> {
     Ok(())
 }
 
-// The form of a job's formula, where it has one.
-fn form_of(job: Job) -> Option<Form> {
+// The form of a job's formula, and which solutions that leaves, where it has one. Of a rule that is left open all are.
+fn formulation_of(job: Job) -> Option<Formulation> {
     match job {
-        Job::Check { form, .. } => Some(form),
-        Job::Search { form, .. } => Some(form),
-        Job::Cnf { form, .. } => Some(form),
-        Job::Least { form, .. } => Some(form),
-        Job::Most { form, .. } => Some(form),
-        Job::Loose { form, .. } => Some(form),
-        Job::LooseCheck { form, .. } => Some(form),
+        Job::Check { formulation, .. } => Some(formulation),
+        Job::Search { formulation, .. } => Some(formulation),
+        Job::Cnf { formulation, .. } => Some(formulation),
+        Job::Least { formulation, .. } => Some(formulation),
+        Job::Most { formulation, .. } => Some(formulation),
+        Job::Loose { form, .. } => Some(of_all(form)),
+        Job::LooseCheck { form, .. } => Some(of_all(form)),
         _ => None,
     }
 }
 
+fn of_all(form: Form) -> Formulation {
+    Formulation {
+        form,
+        images: Images::All,
+    }
+}
+
+fn of_one(form: Form) -> Formulation {
+    Formulation {
+        form,
+        images: Images::One,
+    }
+}
+
 #[test]
-fn forms_of_formulas(rt: HostRuntime) -> Result<(), Fail> {
+fn formulas_of_jobs(rt: HostRuntime) -> Result<(), Fail> {
     let alloc = rt.alloc();
     let rows = [
-        ("check f p", Some(Form::Cover)),
-        ("check f p --formula 1", Some(Form::Rows)),
-        ("check --formula=2 f p", Some(Form::Cover)),
-        ("search f p", Some(Form::Cover)),
+        ("check f p", Some(of_all(Form::Cover))),
+        ("check f p --formula 1", Some(of_all(Form::Rows))),
         (
-            "search --as rle f --formula=1 p --keep all",
-            Some(Form::Rows),
+            "check --formula=2 f p --images one",
+            Some(of_one(Form::Cover)),
         ),
-        ("cnf f", Some(Form::Cover)),
-        ("cnf --formula 1 f", Some(Form::Rows)),
+        ("search f p --images=all", Some(of_all(Form::Cover))),
+        (
+            "search --as rle f --formula=1 p --images one --keep all",
+            Some(of_one(Form::Rows)),
+        ),
+        ("cnf f", Some(of_all(Form::Cover))),
+        ("cnf --images one --formula 1 f", Some(of_one(Form::Rows))),
         ("judge f p", None),
         ("make 1 8 f p", None),
         ("trim f p o", None),
-        ("least f p", Some(Form::Cover)),
-        ("most f p --formula=1", Some(Form::Rows)),
-        ("open f p --formula 1", Some(Form::Rows)),
-        ("opencheck --formula=1 f f", Some(Form::Rows)),
+        ("least f p --images one", Some(of_one(Form::Cover))),
+        (
+            "most f p --formula=1 --images=one",
+            Some(of_one(Form::Rows)),
+        ),
+        ("open f p --formula 1", Some(of_all(Form::Rows))),
+        ("opencheck --formula=1 f f", Some(of_all(Form::Rows))),
     ];
     for (line, want) in rows {
-        assert!(rt; form_of(job_of(alloc, line)?) == want, "at {line:?}");
+        assert!(rt; formulation_of(job_of(alloc, line)?) == want, "at {line:?}");
     }
     Ok(())
 }

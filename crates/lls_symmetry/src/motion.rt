@@ -1,6 +1,6 @@
 // The motions of a grid.
 ghost use Rattle.std.specs.Prelude.{◌≡◌, ◌<◌, pos, true};
-ghost use Rattle.lls_symmetry.specs.Motion.{image_of, cell_place, exchanges, inverse};
+ghost use Rattle.lls_symmetry.specs.Motion.{image_of, cell_place, exchanges};
 
 /// A map of the places of a grid to themselves that isn't nothing: one of the seven turns and mirrors of a square.
 #[derive(Clone, Copy, Debug, PartialEq, Eq)]
@@ -39,21 +39,6 @@ impl Motion {
         match self {
             Motion::HalfTurn | Motion::RowMirror | Motion::ColumnMirror => false,
             Motion::QuarterTurn | Motion::BackTurn | Motion::DownMirror | Motion::UpMirror => true,
-        }
-    }
-
-    /// The motion that takes all places back.
-    pub fn inverse(self) -> Motion
-        ensures { result ≡ inverse self }
-    {
-        match self {
-            Motion::QuarterTurn => Motion::BackTurn,
-            Motion::BackTurn => Motion::QuarterTurn,
-            Motion::HalfTurn
-            | Motion::RowMirror
-            | Motion::ColumnMirror
-            | Motion::DownMirror
-            | Motion::UpMirror => self,
         }
     }
 

@@ -18,21 +18,22 @@ pub by_table : {X : Type 0} (f g : Setting → X) → map f all_options ≡ map 
 by_table f g same settings.Rule = ap (λ xs. get_or xs 0 (f settings.Rule)) same
 by_table f g same settings.Low = ap (λ xs. get_or xs 1 (f settings.Rule)) same
 by_table f g same settings.High = ap (λ xs. get_or xs 2 (f settings.Rule)) same
-by_table f g same settings.Formula = ap (λ xs. get_or xs 3 (f settings.Rule)) same
-by_table f g same settings.Edge = ap (λ xs. get_or xs 4 (f settings.Rule)) same
-by_table f g same settings.Symmetry = ap (λ xs. get_or xs 5 (f settings.Rule)) same
-by_table f g same settings.Period = ap (λ xs. get_or xs 6 (f settings.Rule)) same
-by_table f g same settings.Exact = ap (λ xs. get_or xs 7 (f settings.Rule)) same
-by_table f g same settings.Live = ap (λ xs. get_or xs 8 (f settings.Rule)) same
-by_table f g same settings.Differ = ap (λ xs. get_or xs 9 (f settings.Rule)) same
-by_table f g same settings.But = ap (λ xs. get_or xs 10 (f settings.Rule)) same
-by_table f g same settings.As = ap (λ xs. get_or xs 11 (f settings.Rule)) same
-by_table f g same settings.Budget = ap (λ xs. get_or xs 12 (f settings.Rule)) same
-by_table f g same settings.Keep = ap (λ xs. get_or xs 13 (f settings.Rule)) same
-by_table f g same settings.Manner = ap (λ xs. get_or xs 14 (f settings.Rule)) same
-by_table f g same settings.First = ap (λ xs. get_or xs 15 (f settings.Rule)) same
-by_table f g same settings.Crew = ap (λ xs. get_or xs 16 (f settings.Rule)) same
-by_table f g same settings.Turns = ap (λ xs. get_or xs 17 (f settings.Rule)) same
+by_table f g same settings.Images = ap (λ xs. get_or xs 3 (f settings.Rule)) same
+by_table f g same settings.Formula = ap (λ xs. get_or xs 4 (f settings.Rule)) same
+by_table f g same settings.Edge = ap (λ xs. get_or xs 5 (f settings.Rule)) same
+by_table f g same settings.Symmetry = ap (λ xs. get_or xs 6 (f settings.Rule)) same
+by_table f g same settings.Period = ap (λ xs. get_or xs 7 (f settings.Rule)) same
+by_table f g same settings.Exact = ap (λ xs. get_or xs 8 (f settings.Rule)) same
+by_table f g same settings.Live = ap (λ xs. get_or xs 9 (f settings.Rule)) same
+by_table f g same settings.Differ = ap (λ xs. get_or xs 10 (f settings.Rule)) same
+by_table f g same settings.But = ap (λ xs. get_or xs 11 (f settings.Rule)) same
+by_table f g same settings.As = ap (λ xs. get_or xs 12 (f settings.Rule)) same
+by_table f g same settings.Budget = ap (λ xs. get_or xs 13 (f settings.Rule)) same
+by_table f g same settings.Keep = ap (λ xs. get_or xs 14 (f settings.Rule)) same
+by_table f g same settings.Manner = ap (λ xs. get_or xs 15 (f settings.Rule)) same
+by_table f g same settings.First = ap (λ xs. get_or xs 16 (f settings.Rule)) same
+by_table f g same settings.Crew = ap (λ xs. get_or xs 17 (f settings.Rule)) same
+by_table f g same settings.Turns = ap (λ xs. get_or xs 18 (f settings.Rule)) same
 
 -- how an option's word is read
 pub long_of-option : (s : Setting) (value : List ℕ) → long_of (option_word s value) ≡ Some (option_name s, Some value)

@@ -57,6 +57,10 @@ one_rule = settings.Rule ∷ []
 abbrev pub two_rules : List Setting
 two_rules = settings.Low ∷ settings.High ∷ []
 
+-- which solutions a problem's formula leaves
+abbrev pub image_options : List Setting
+image_options = settings.Images ∷ []
+
 -- the form of a problem's formula
 abbrev pub formula_options : List Setting
 formula_options = settings.Formula ∷ []
@@ -77,12 +81,19 @@ effort_options = settings.Budget ∷ settings.Keep ∷ settings.Manner ∷ setti
 abbrev pub crew_options : List Setting
 crew_options = settings.Crew ∷ settings.Turns ∷ []
 
--- the options of a check besides its rules, those of a search, and those of one by several searchers
+-- the options of a check by rules between two, besides these, and those of a search
+abbrev pub loose_check_options : List Setting
+loose_check_options = formula_options ++ demand_options ++ pattern_options
+
+abbrev pub loose_search_options : List Setting
+loose_search_options = loose_check_options ++ effort_options
+
+-- those of a check by one rule, those of a search, and those of one by several searchers
 abbrev pub check_options : List Setting
-check_options = formula_options ++ demand_options ++ pattern_options
+check_options = image_options ++ loose_check_options
 
 abbrev pub search_options : List Setting
-search_options = check_options ++ effort_options
+search_options = image_options ++ loose_search_options
 
 abbrev pub crewed_options : List Setting
 crewed_options = search_options ++ crew_options
@@ -118,8 +129,8 @@ other_options commands.Rule = []
 other_options commands.Make = []
 other_options commands.Least = search_options
 other_options commands.Most = search_options
-other_options commands.Open = search_options
-other_options commands.OpenCheck = check_options
+other_options commands.Open = loose_search_options
+other_options commands.OpenCheck = loose_check_options
 other_options commands.Trim = []
 
 -- the options that a command takes
@@ -131,6 +142,7 @@ abbrev pub option_name : Setting → List ℕ
 option_name settings.Rule = codes "rule"
 option_name settings.Low = codes "low"
 option_name settings.High = codes "high"
+option_name settings.Images = codes "images"
 option_name settings.Formula = codes "formula"
 option_name settings.Edge = codes "edge"
 option_name settings.Symmetry = codes "symmetry"

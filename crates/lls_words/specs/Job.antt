@@ -11,6 +11,7 @@ use Rattle.lls_hensel.specs.Entries.{next_of}
 use Rattle.lls_symmetry.specs.Symmetry.{symmetry_of}
 use Rattle.lls_problem.specs.declared.demands.Edge.TheVariants.{Framed}
 use Rattle.lls_problem.specs.declared.form.Form.TheVariants.{Cover}
+use Rattle.lls_problem.specs.declared.form.Images.TheVariants as images
 use Rattle.lls_problem.specs.declared.demands.Demands.{Demands}
 use Rattle.lls_problem.specs.Bounds.{HasEnds}
 use Rattle.lls_problem.specs.Problem.{edge_alone, IsPeriod}
@@ -29,7 +30,7 @@ use Rattle.lls_words.specs.declared.error.WordsError.TheVariants.{NoCommand, Unk
 use Rattle.lls_words.specs.Command.{command_of, operand_count, same_setting}
 use Rattle.lls_base.specs.Results.{and_then}
 use Rattle.lls_words.specs.Scan.{Operand, Given, scan}
-use Rattle.lls_words.specs.Values.{edge_in, period_in, bounds_in, generations_in, exact_in, budget_in, keep_all_in, manner_in, rle_in, form_in, seed_in, size_in, searchers_in, most_budget, most_size, most_searchers, default_budget, default_further}
+use Rattle.lls_words.specs.Values.{edge_in, period_in, bounds_in, generations_in, exact_in, budget_in, keep_all_in, manner_in, rle_in, images_in, form_in, seed_in, size_in, searchers_in, most_budget, most_size, most_searchers, default_budget, default_further}
 
 -- a rule text at a place
 abbrev pub rule_or : ℕ → Result (List Bool) RuleError → Result (List Bool) WordsError
@@ -74,7 +75,10 @@ setting_value s place text settings.Manner =
     and_then (value_or place (manner_in text)) (λ manner. Ok (record s { further = record s.further { manner = Some manner } }))
 setting_value s place text settings.First = and_then (value_or place (seed_in text)) (λ seed. Ok (record s { further = record s.further { first = Some seed } }))
 setting_value s place text settings.As = and_then (value_or place (rle_in text)) (λ rle. Ok (record s { rle = rle }))
-setting_value s place text settings.Formula = and_then (value_or place (form_in text)) (λ form. Ok (record s { form = form }))
+setting_value s place text settings.Images =
+    and_then (value_or place (images_in text)) (λ images. Ok (record s { formulation = record s.formulation { images = images } }))
+setting_value s place text settings.Formula =
+    and_then (value_or place (form_in text)) (λ form. Ok (record s { formulation = record s.formulation { form = form } }))
 setting_value s place text settings.Crew = and_then (value_or place (searchers_in text)) (λ searchers. Ok (record s { crew = Some searchers }))
 setting_value s place text settings.Turns = and_then (value_or place (seed_in text)) (λ seed. Ok (record s { turns = seed }))
 
@@ -103,9 +107,9 @@ abbrev pub life : List Bool
 life = table_of (by_counts 8 12)
 
 -- Life for each rule, under a closed edge, and nothing else demanded; half of the learnt clauses are kept, patterns are
--- rows, and formulas are by cover; there is no crew, and turns would be drawn from 0; a search is restless
+-- rows, and formulas are by cover and leave all solutions; there is no crew, and turns would be drawn from 0; a search is restless
 abbrev pub defaults : Settings
-defaults = record { rule = life; low = life; high = life; demands = edge_alone Framed; but = None; budget = default_budget; keep_all = false; rle = false; form = Cover; crew = None; turns = 0; further = default_further }
+defaults = record { rule = life; low = life; high = life; demands = edge_alone Framed; but = None; budget = default_budget; keep_all = false; rle = false; formulation = record { form = Cover; images = images.All }; crew = None; turns = 0; further = default_further }
 
 -- the names of a file and of one that is written later, which have to differ
 abbrev pub names_apart : Operand → Operand → Result (List ℕ × List ℕ) WordsError
@@ -141,14 +145,14 @@ crew_of s = option_map (λ searchers. record { searchers = searchers; seed = s.t
 -- the job of a command by its operands, whose number is the first test, and its options
 abbrev pub job_with : Command → List Operand → List Given → Result Job WordsError
 job_with commands.Check (search_file ∷ proof ∷ []) givens =
-    and_then (settled defaults givens) (λ s. Ok (jobs.Check (source_by search_file.word s.rule s) proof.word s.form))
+    and_then (settled defaults givens) (λ s. Ok (jobs.Check (source_by search_file.word s.rule s) proof.word s.formulation))
 job_with commands.Search (search_file ∷ proof ∷ []) givens =
     and_then (settled defaults givens) (λ s.
-    and_then (search_names search_file proof s.but) (λ names. Ok (jobs.Search (source_by names.0 s.rule s) names.1 s.form s.budget s.keep_all s.rle (crew_of s) s.further)))
+    and_then (search_names search_file proof s.but) (λ names. Ok (jobs.Search (source_by names.0 s.rule s) names.1 s.formulation s.budget s.keep_all s.rle (crew_of s) s.further)))
 job_with commands.Judge (search_file ∷ pattern ∷ []) givens =
     and_then (settled defaults givens) (λ s. Ok (jobs.Judge (source_by search_file.word s.rule s) pattern.word s.rle))
 job_with commands.Cnf (search_file ∷ []) givens =
-    and_then (settled defaults givens) (λ s. Ok (jobs.Cnf (source_by search_file.word s.rule s) s.form))
+    and_then (settled defaults givens) (λ s. Ok (jobs.Cnf (source_by search_file.word s.rule s) s.formulation))
 job_with commands.Sat (formula ∷ proof ∷ []) givens =
     and_then (settled defaults givens) (λ s.
     and_then (search_names formula proof s.but) (λ names. Ok (jobs.Sat names.0 names.1 s.budget s.keep_all s.further)))
@@ -160,17 +164,17 @@ job_with commands.Make (seed ∷ size ∷ search_file ∷ proof ∷ []) givens =
     and_then (names_apart search_file proof) (λ names. Ok (jobs.Make number rows names.0 names.1))))
 job_with commands.Least (search_file ∷ proof ∷ []) givens =
     and_then (settled defaults givens) (λ s.
-    and_then (search_names search_file proof s.but) (λ names. Ok (jobs.Least (source_by names.0 s.rule s) names.1 s.form s.budget s.keep_all s.rle s.further)))
+    and_then (search_names search_file proof s.but) (λ names. Ok (jobs.Least (source_by names.0 s.rule s) names.1 s.formulation s.budget s.keep_all s.rle s.further)))
 job_with commands.Most (search_file ∷ proof ∷ []) givens =
     and_then (settled defaults givens) (λ s.
-    and_then (search_names search_file proof s.but) (λ names. Ok (jobs.Most (source_by names.0 s.rule s) names.1 s.form s.budget s.keep_all s.rle s.further)))
+    and_then (search_names search_file proof s.but) (λ names. Ok (jobs.Most (source_by names.0 s.rule s) names.1 s.formulation s.budget s.keep_all s.rle s.further)))
 job_with commands.Open (search_file ∷ proof ∷ []) givens =
     and_then (settled defaults givens) (λ s.
     and_then (search_names search_file proof s.but) (λ names.
-    and_then (checked_ends s.low s.high) (λ _. Ok (jobs.Loose (source_by names.0 s.low s) s.high names.1 s.form s.budget s.keep_all s.rle s.further))))
+    and_then (checked_ends s.low s.high) (λ _. Ok (jobs.Loose (source_by names.0 s.low s) s.high names.1 s.formulation.form s.budget s.keep_all s.rle s.further))))
 job_with commands.OpenCheck (search_file ∷ proof ∷ []) givens =
     and_then (settled defaults givens) (λ s.
-    and_then (checked_ends s.low s.high) (λ _. Ok (jobs.LooseCheck (source_by search_file.word s.low s) s.high proof.word s.form)))
+    and_then (checked_ends s.low s.high) (λ _. Ok (jobs.LooseCheck (source_by search_file.word s.low s) s.high proof.word s.formulation.form)))
 job_with commands.Trim (formula ∷ proof ∷ output ∷ []) givens =
     and_then (names_apart formula output) (λ names.
     and_then (names_apart proof output) (λ others. Ok (jobs.Trim names.0 others.0 others.1)))
@@ -220,16 +224,16 @@ pub record AreSettled (s : Settings) : Type 0 where
 -- what the words keep: demands, budgets, sizes and numbers of searchers are within the limits, a rule that is to be printed is isotropic, and two
 -- rules leave a question open
 abbrev pub KeepsLimits : Job → Type 0
-KeepsLimits (jobs.Check problem proof form) = AreWithinLimits problem.demands
-KeepsLimits (jobs.Search problem proof form budget keep_all rle crew further) = AreAllowed problem.rule problem.demands budget × ForSome crew IsCrew
+KeepsLimits (jobs.Check problem proof formulation) = AreWithinLimits problem.demands
+KeepsLimits (jobs.Search problem proof formulation budget keep_all rle crew further) = AreAllowed problem.rule problem.demands budget × ForSome crew IsCrew
 KeepsLimits (jobs.Judge problem pattern rle) = AreWithinLimits problem.demands
-KeepsLimits (jobs.Cnf problem form) = AreWithinLimits problem.demands
+KeepsLimits (jobs.Cnf problem formulation) = AreWithinLimits problem.demands
 KeepsLimits (jobs.Sat formula proof budget keep_all further) = budget ≤ most_budget
 KeepsLimits (jobs.Lrat formula proof) = Unit {0}
 KeepsLimits (jobs.Rule rule) = IsIsotropic rule
 KeepsLimits (jobs.Make seed size search_file proof) = (1 ≤ size) × (size ≤ most_size)
-KeepsLimits (jobs.Least problem proof form budget keep_all rle further) = AreAllowed problem.rule problem.demands budget
-KeepsLimits (jobs.Most problem proof form budget keep_all rle further) = AreAllowed problem.rule problem.demands budget
+KeepsLimits (jobs.Least problem proof formulation budget keep_all rle further) = AreAllowed problem.rule problem.demands budget
+KeepsLimits (jobs.Most problem proof formulation budget keep_all rle further) = AreAllowed problem.rule problem.demands budget
 KeepsLimits (jobs.Loose problem high proof form budget keep_all rle further) = AreOpen problem.rule high problem.demands × (budget ≤ most_budget)
 KeepsLimits (jobs.LooseCheck problem high proof form) = AreOpen problem.rule high problem.demands
 KeepsLimits (jobs.Trim formula proof output) = Unit {0}

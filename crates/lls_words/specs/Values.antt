@@ -13,6 +13,8 @@ use Rattle.lls_problem.specs.declared.demands.Edge.TheVariants.{Framed, Bare}
 use Rattle.lls_problem.specs.declared.demands.Period.{Period}
 use Rattle.lls_problem.specs.declared.form.Form.{Form}
 use Rattle.lls_problem.specs.declared.form.Form.TheVariants.{Rows, Cover}
+use Rattle.lls_problem.specs.declared.form.Images.{Images}
+use Rattle.lls_problem.specs.declared.form.Images.TheVariants as images
 use Rattle.lls_problem.specs.Bounds.{most_end}
 use Rattle.lls_words.specs.declared.further.Further.{Further}
 use Rattle.lls_words.specs.declared.further.Manner.{Manner}
@@ -115,6 +117,12 @@ abbrev pub rle_in : List ℕ → Option Bool
 rle_in text =
     if bytes_eq text (codes "rle") then Some true else
     if bytes_eq text (codes "rows") then Some false else None
+
+-- which solutions are left
+abbrev pub images_in : List ℕ → Option Images
+images_in text =
+    if bytes_eq text (codes "all") then Some images.All else
+    if bytes_eq text (codes "one") then Some images.One else None
 
 -- the form of a formula, by its number
 abbrev pub form_in : List ℕ → Option Form

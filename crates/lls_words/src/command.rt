@@ -29,6 +29,7 @@ pub enum Setting {
     Rule,
     Low,
     High,
+    Images,
     Formula,
     Edge,
     Symmetry,
@@ -151,13 +152,15 @@ impl Command {
         ensures { result.now ≡ other_options self }
     {
         match self {
-            Command::Search => &Setting::ALL[Setting::Formula as usize..],
-            Command::Least | Command::Most | Command::Open => {
-                &Setting::ALL[Setting::Formula as usize..=Setting::First as usize]
+            Command::Search => &Setting::ALL[Setting::Images as usize..],
+            Command::Least | Command::Most => {
+                &Setting::ALL[Setting::Images as usize..=Setting::First as usize]
             }
-            Command::Check | Command::Cnf | Command::OpenCheck => {
-                &Setting::ALL[Setting::Formula as usize..=Setting::As as usize]
+            Command::Open => &Setting::ALL[Setting::Formula as usize..=Setting::First as usize],
+            Command::Check | Command::Cnf => {
+                &Setting::ALL[Setting::Images as usize..=Setting::As as usize]
             }
+            Command::OpenCheck => &Setting::ALL[Setting::Formula as usize..=Setting::As as usize],
             Command::Judge => &Setting::ALL[Setting::Edge as usize..=Setting::As as usize],
             Command::Sat => &Setting::ALL[Setting::Budget as usize..=Setting::First as usize],
             Command::Lrat | Command::Rule | Command::Make | Command::Trim => &[],
@@ -181,10 +184,11 @@ fn is_among(options: &[Setting], setting: Setting) -> bool
 
 impl Setting {
     // The table of options.
-    const ALL: [Setting; 18] = [
+    const ALL: [Setting; 19] = [
         Setting::Rule,
         Setting::Low,
         Setting::High,
+        Setting::Images,
         Setting::Formula,
         Setting::Edge,
         Setting::Symmetry,
@@ -210,6 +214,7 @@ impl Setting {
             Setting::Rule => "rule",
             Setting::Low => "low",
             Setting::High => "high",
+            Setting::Images => "images",
             Setting::Formula => "formula",
             Setting::Edge => "edge",
             Setting::Symmetry => "symmetry",

@@ -3,7 +3,7 @@ use crate::crew_plan::CrewPlan;
 use crate::further::Further;
 use crate::problem_source::ProblemSource;
 use lls_base::Name;
-use lls_problem::Form;
+use lls_problem::{Form, Formulation};
 use lls_rule::Rule;
 
 /// What a command line asks for.
@@ -13,15 +13,15 @@ pub enum Job {
     Check {
         problem: ProblemSource,
         proof: Name,
-        /// The form of the problem's formula, of which it is a proof.
-        form: Form,
+        /// How the problem's formula is made, of which it is a proof.
+        formulation: Formulation,
     },
     /// Look for a solution of a search file, or write a proof that there is none.
     Search {
         problem: ProblemSource,
         proof: Name,
-        /// The form of the problem's formula.
-        form: Form,
+        /// How the problem's formula is made.
+        formulation: Formulation,
         /// How many clauses may be learnt.
         budget: u32,
         /// Whether no learnt clause may be deleted.
@@ -42,8 +42,8 @@ pub enum Job {
     /// Print the formula of a search file.
     Cnf {
         problem: ProblemSource,
-        /// The form of the formula.
-        form: Form,
+        /// How the formula is made.
+        formulation: Formulation,
     },
     /// Look for an assignment that satisfies a formula, or write a proof that there is none.
     Sat {
@@ -77,8 +77,8 @@ pub enum Job {
     Least {
         problem: ProblemSource,
         proof: Name,
-        /// The form of the formulas.
-        form: Form,
+        /// How the formulas are made.
+        formulation: Formulation,
         /// How many clauses each look may learn.
         budget: u32,
         /// Whether no learnt clause may be deleted.
@@ -91,8 +91,8 @@ pub enum Job {
     Most {
         problem: ProblemSource,
         proof: Name,
-        /// The form of the formulas.
-        form: Form,
+        /// How the formulas are made.
+        formulation: Formulation,
         /// How many clauses each look may learn.
         budget: u32,
         /// Whether no learnt clause may be deleted.

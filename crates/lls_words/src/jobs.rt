@@ -134,7 +134,7 @@ pub fn check_job(
         demands,
         but,
         rle,
-        form,
+        formulation,
         ..
     } = settings;
     let problem = ProblemSource {
@@ -146,7 +146,7 @@ pub fn check_job(
     Ok(Job::Check {
         problem,
         proof,
-        form,
+        formulation,
     })
 }
 
@@ -169,7 +169,7 @@ pub fn search_job(
         budget,
         keep_all,
         rle,
-        form,
+        formulation,
         crew,
         turns,
         further,
@@ -184,7 +184,7 @@ pub fn search_job(
     Ok(Job::Search {
         problem,
         proof,
-        form,
+        formulation,
         budget,
         keep_all,
         rle,
@@ -236,7 +236,7 @@ pub fn cnf_job(alloc: Global, search: &Operand, givens: &[Given]) -> Result<Job,
         demands,
         but,
         rle,
-        form,
+        formulation,
         ..
     } = settle(alloc, givens)?;
     let problem = ProblemSource {
@@ -245,7 +245,10 @@ pub fn cnf_job(alloc: Global, search: &Operand, givens: &[Given]) -> Result<Job,
         demands,
         but: list_source(but, rle),
     };
-    Ok(Job::Cnf { problem, form })
+    Ok(Job::Cnf {
+        problem,
+        formulation,
+    })
 }
 
 /// The job of `sat`.
@@ -346,7 +349,7 @@ pub fn least_job(
         budget,
         keep_all,
         rle,
-        form,
+        formulation,
         further,
         ..
     } = settings;
@@ -359,7 +362,7 @@ pub fn least_job(
     Ok(Job::Least {
         problem,
         proof,
-        form,
+        formulation,
         budget,
         keep_all,
         rle,
@@ -386,7 +389,7 @@ pub fn most_job(
         budget,
         keep_all,
         rle,
-        form,
+        formulation,
         further,
         ..
     } = settings;
@@ -399,7 +402,7 @@ pub fn most_job(
     Ok(Job::Most {
         problem,
         proof,
-        form,
+        formulation,
         budget,
         keep_all,
         rle,
@@ -427,7 +430,7 @@ pub fn open_job(
         budget,
         keep_all,
         rle,
-        form,
+        formulation,
         further,
         ..
     } = with_ends(settings)?;
@@ -441,7 +444,7 @@ pub fn open_job(
         problem,
         high,
         proof,
-        form,
+        form: formulation.form,
         budget,
         keep_all,
         rle,
@@ -467,7 +470,7 @@ pub fn open_check_job(
         demands,
         but,
         rle,
-        form,
+        formulation,
         ..
     } = with_ends(settings)?;
     let problem = ProblemSource {
@@ -480,7 +483,7 @@ pub fn open_check_job(
         problem,
         high,
         proof,
-        form,
+        form: formulation.form,
     })
 }
 

@@ -16,11 +16,11 @@ use crate::further::Further;
 use crate::scan::Given;
 use crate::values::{
     DEFAULT_BUDGET, MOST_BUDGET, MOST_SEARCHERS, bounds_in, budget_in, edge_in, exact_in, form_in,
-    generations_in, keep_all_in, manner_in, period_in, rle_in, searchers_in, seed_in,
+    generations_in, images_in, keep_all_in, manner_in, period_in, rle_in, searchers_in, seed_in,
 };
 use lls_base::Name;
 use lls_hensel::read_rule;
-use lls_problem::{Bounds, Demands, Edge, Form, Period};
+use lls_problem::{Bounds, Demands, Edge, Form, Formulation, Images, Period};
 use lls_rule::Rule;
 use lls_symmetry::read_symmetry;
 use std::alloc::{AllocError, Global};
@@ -45,7 +45,7 @@ pub struct Settings {
     pub budget: u32,
     pub keep_all: bool,
     pub rle: bool,
-    pub form: Form,
+    pub formulation: Formulation,
     /// How many searchers take turns, where there are several.
     pub crew: Option<u32>,
     /// The number from which is drawn whose turn it is.
@@ -55,7 +55,7 @@ pub struct Settings {
 
 impl Settings {
     // Life, `B3/S23`, for each rule, under a closed edge, with no other demand; the default budget, half of the learnt clauses
-    // kept, and patterns as rows; formulas by cover; no crew, and turns that are drawn from 0; a restless search.
+    // kept, and patterns as rows; formulas by cover, of all solutions; no crew, and turns that are drawn from 0; a restless search.
     fn default_values(alloc: Global) -> Settings
         ensures value { result ≡ defaults }
         ensures allowed { AreSettled result }
@@ -70,7 +70,10 @@ impl Settings {
             budget: DEFAULT_BUDGET,
             keep_all: false,
             rle: false,
-            form: Form::Cover,
+            formulation: Formulation {
+                form: Form::Cover,
+                images: Images::All,
+            },
             crew: None,
             turns: 0,
             further: Further::DEFAULT,
@@ -112,7 +115,8 @@ impl Settings {
             Setting::Manner => settings.further.manner = Some(manner_in(value).ok_or(fault)?),
             Setting::First => settings.further.first = Some(seed_in(&given.value).ok_or(fault)?),
             Setting::As => settings.rle = rle_in(value).ok_or(fault)?,
-            Setting::Formula => settings.form = form_in(value).ok_or(fault)?,
+            Setting::Images => settings.formulation.images = images_in(value).ok_or(fault)?,
+            Setting::Formula => settings.formulation.form = form_in(value).ok_or(fault)?,
             Setting::Crew => settings.crew = Some(searchers_at(given.place, value)?),
             Setting::Turns => settings.turns = seed_in(&given.value).ok_or(fault)?,
         }

@@ -4,12 +4,12 @@ ghost use Rattle.std.specs.Option.{ForSome, option_map};
 ghost use Rattle.lls_grid.specs.Place.{IsWithin};
 ghost use Rattle.lls_problem.specs.Bounds.{HasEnds};
 ghost use Rattle.lls_problem.specs.Problem.{IsPeriod};
-ghost use Rattle.lls_words.specs.Values.{edge_in, budget_in, seed_in, size_in, searchers_in, exact_in, keep_all_in, manner_in, rle_in, form_in, cut_at, number_in, shift_in, period_in, generation_in, generations_in, low_in, high_in, bound_in, bounds_in};
+ghost use Rattle.lls_words.specs.Values.{edge_in, budget_in, seed_in, size_in, searchers_in, exact_in, keep_all_in, manner_in, rle_in, images_in, form_in, cut_at, number_in, shift_in, period_in, generation_in, generations_in, low_in, high_in, bound_in, bounds_in};
 ghost use Rattle.lls_words.specs.Seen.{seen_pair};
 
 use crate::further::Manner;
 use lls_grid::History;
-use lls_problem::{Bound, Bounds, Edge, Form, Period};
+use lls_problem::{Bound, Bounds, Edge, Form, Images, Period};
 use lls_symmetry::{MOST_PERIOD, MOST_SHIFT};
 use lls_text::digits_number;
 use std::alloc::{AllocError, Global};
@@ -150,6 +150,19 @@ pub fn rle_in(text: &[u8]) -> Option<bool>
         Some(true)
     } else if text == b"rows".as_slice() {
         Some(false)
+    } else {
+        None
+    }
+}
+
+/// Which solutions a text leaves.
+pub fn images_in(text: &[u8]) -> Option<Images>
+    ensures { result ≡ images_in text.now }
+{
+    if text == b"all".as_slice() {
+        Some(Images::All)
+    } else if text == b"one".as_slice() {
+        Some(Images::One)
     } else {
         None
     }

@@ -20,7 +20,7 @@ pub absence_of-requires : goal.absence_of-requires
 absence_of-requires g c =
     let asked = c.args.asked in
     let effort = c.args.effort in
-    let Says : Extremal → Type 0 = IsExtremal c.args.extreme asked.problem asked.form effort.budget in
+    let Says : Extremal → Type 0 = IsExtremal c.args.extreme asked.problem asked.formulation effort.budget in
     let Keeps : Extremal → Type 0 = λ l. KeepsAll effort.keep_all (log_of l).steps in
     let steps = c.in-Ok-Absent.log.steps in
     let proof = subst Says c.in-Ok-Absent.field-0-is c.in-Ok-Absent.ensures.answer in
@@ -42,7 +42,7 @@ pub returns-in-Ok-Unsettled-clause-end : goal.returns-in-Ok-Unsettled-clause-end
 returns-in-Ok-Unsettled-clause-end g c =
     let asked = c.args.asked in
     let effort = c.args.effort in
-    let Says : Extremal → Type 0 = IsExtremal c.args.extreme asked.problem asked.form effort.budget in
+    let Says : Extremal → Type 0 = IsExtremal c.args.extreme asked.problem asked.formulation effort.budget in
     let Keeps : Extremal → Type 0 = λ l. KeepsAll effort.keep_all (log_of l).steps in
     let spent = subst Says c.in-Ok-Unsettled.field-0-is c.in-Ok-Unsettled.ensures.answer in
     let kept = subst Keeps c.in-Ok-Unsettled.field-0-is c.in-Ok-Unsettled.ensures.all_kept in

@@ -14,9 +14,9 @@ pub returns-in-Ok-clause-end : goal.returns-in-Ok-clause-end
 returns-in-Ok-clause-end g c =
     let source = c.args.source in
     let read = c.in-Ok.ensures.read in
-    let next : PosedProblem → Asking Question = λ problem. come_to (Ok (questions.Extremal c.args.extreme (asked_with c.args.form problem) c.args.effort c.args.further.rle)) in
-    let task = tasks.Extremal c.args.extreme source c.args.form c.args.effort c.args.further in
-    let question = questions.Extremal c.args.extreme (asked_with c.args.form c.in-Ok.problem) c.args.effort c.args.further.rle in
+    let next : PosedProblem → Asking Question = λ problem. come_to (Ok (questions.Extremal c.args.extreme (asked_with c.args.formulation problem) c.args.effort c.args.further.rle)) in
+    let task = tasks.Extremal c.args.extreme source c.args.formulation c.args.effort c.args.further in
+    let question = questions.Extremal c.args.extreme (asked_with c.args.formulation c.in-Ok.problem) c.args.effort c.args.further.rle in
     task_ended task question _ _ _ _ _ _ _ _
     (AsksBy-then _ (problem_asked with_room source) next c.in-Ok.problem (Ok question) read.ok.0 refl)
     tt tt read.kept read.ok.1 c.give_extremal.ensures.end
@@ -24,8 +24,8 @@ returns-in-Ok-clause-end g c =
 pub returns-in-Err-clause-end : goal.returns-in-Err-clause-end
 returns-in-Err-clause-end g c =
     let source = c.args.source in
-    let next : PosedProblem → Asking Question = λ problem. come_to (Ok (questions.Extremal c.args.extreme (asked_with c.args.form problem) c.args.effort c.args.further.rle)) in
-    let task = tasks.Extremal c.args.extreme source c.args.form c.args.effort c.args.further in
+    let next : PosedProblem → Asking Question = λ problem. come_to (Ok (questions.Extremal c.args.extreme (asked_with c.args.formulation problem) c.args.effort c.args.further.rle)) in
+    let task = tasks.Extremal c.args.extreme source c.args.formulation c.args.effort c.args.further in
     let read = Reads-stopped (problem_asked with_room source) next c.in-Err.fault _ _ c.in-Err.ensures.read in
     stopped task c.in-Err.fault _ _ _ _ _ _ tt read.kept read.counts tt read.err c.refuse.ensures
 

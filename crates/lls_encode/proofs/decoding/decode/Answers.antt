@@ -5,11 +5,11 @@ use Rattle.lls_grid.specs.declared.sizes.Sizes.{Sizes}
 use Rattle.lls_search_file.specs.Posed.{PosedFile, sizes_of}
 use Rattle.lls_problem.specs.Solution.{IsSolution}
 use Rattle.lls_encode.specs.History.{history_of}
-use Rattle.lls_encode.proofs.Sound.{IsSolution-history_of}
+use Rattle.lls_encode.proofs.Chosen.{IsSolution-formulated}
 use Rattle.lls_encode.proofs.decoding.decode.Goals as goal
 
 pub returns-clause-solution : goal.returns-clause-solution
-returns-clause-solution c = λ form satisfied.
+returns-clause-solution c = λ formulation satisfied.
     let p = c.args.problem.now in
     let a = c.args.assignment.now in
     let posed = c.posed-posed.ensures.value in
@@ -21,4 +21,4 @@ returns-clause-solution c = λ form satisfied.
     c.from_cells.ensures
     ∙ ap (λ (s : Sizes). folded s.generations s.height s.width c.in_ok-cells.cells.items) sizes
     ∙ ap (folded p.posed.generations p.posed.height p.posed.width) values in
-    subst (IsSolution p) (sym history) (IsSolution-history_of p form c.posed-posed.ensures.kept c.demands-demands.ensures.kept a c.requires satisfied)
+    subst (IsSolution p) (sym history) (IsSolution-formulated p c.posed-posed.ensures.kept c.demands-demands.ensures.kept formulation a c.requires satisfied)

@@ -2,7 +2,7 @@ use Rattle.std.proofs.Common.{◌≤◌, subst, sym}
 use Rattle.lls_problem.specs.Problem.{PosedProblem}
 use Rattle.lls_problem.specs.Bounds.{grid_size}
 use Rattle.lls_problem.specs.Solution.{IsAbsent, IsSolution}
-use Rattle.lls_encode.specs.Formula.{formula_of}
+use Rattle.lls_encode.specs.Images.{formulated}
 use Rattle.lls_prooflog.specs.Spent.{IsSpent}
 use Rattle.lls_least.specs.Finding.{IsFinding, IsOpen, ShowsAbsence}
 use Rattle.lls_least.proofs.Solutions.{bound_beyond, extreme_where_no_bound, extreme_where_none, live_cells-le, nearer, no_problem_beyond, solution-bounded}
@@ -39,7 +39,7 @@ returns-in-Undecided-clause-answer c =
       solution = c.tighter.invariant;
       bound = own.0;
       asked = own.1;
-      spent = subst (λ (q : PosedProblem). IsSpent (formula_of q effort.form) steps effort.budget) own.2 spent.spent;
+      spent = subst (λ (q : PosedProblem). IsSpent (formulated q effort.formulation) steps effort.budget) own.2 spent.spent;
     }
 
 pub tighter-smaller : goal.tighter-smaller

@@ -5,7 +5,7 @@ use Rattle.lls_problem.specs.declared.demands.Period.{Period}
 use Rattle.lls_problem.specs.Problem.{IsPeriod}
 use Rattle.lls_words.specs.Job.{AreSearchers, AreSettled}
 use Rattle.lls_words.proofs.settings.Settings.with_value.Goals as goal
-use Rattle.lls_words.proofs.settings.Settings.with_value.Goals.{in-Rule+in_ok-settings-in-Rule, in-Low+in_ok-settings-in-Low, in-High+in_ok-settings-in-High, in-Edge+in_ok-settings-in-Edge, in-Symmetry+in_ok-settings-in-Symmetry, in-Period+in_ok-period_at-in-Period, in-Exact+in_ok-settings-in-Exact, in-Live+in_ok-settings-in-Live, in-Differ+in_ok-ok_or-in-Differ, in-But+in_ok-file-in-But+in-None-1, in-But+in_ok-file-in-But+in-Some-1, in-Budget+in_ok-settings-in-Budget, in-Keep+in_ok-settings-in-Keep, in-Manner+in_ok-ok_or-in-Manner, in-First+in_ok-ok_or-in-First, in-As+in_ok-settings-in-As, in-Formula+in_ok-settings-in-Formula, in-Crew+in_ok-searchers_at-in-Crew, in-Turns+in_ok-settings-in-Turns}
+use Rattle.lls_words.proofs.settings.Settings.with_value.Goals.{in-Rule+in_ok-settings-in-Rule, in-Low+in_ok-settings-in-Low, in-High+in_ok-settings-in-High, in-Edge+in_ok-settings-in-Edge, in-Symmetry+in_ok-settings-in-Symmetry, in-Period+in_ok-period_at-in-Period, in-Exact+in_ok-settings-in-Exact, in-Live+in_ok-settings-in-Live, in-Differ+in_ok-ok_or-in-Differ, in-But+in_ok-file-in-But+in-None-1, in-But+in_ok-file-in-But+in-Some-1, in-Budget+in_ok-settings-in-Budget, in-Keep+in_ok-settings-in-Keep, in-Manner+in_ok-ok_or-in-Manner, in-First+in_ok-ok_or-in-First, in-As+in_ok-settings-in-As, in-Images+in_ok-settings-in-Images, in-Formula+in_ok-settings-in-Formula, in-Crew+in_ok-searchers_at-in-Crew, in-Turns+in_ok-settings-in-Turns}
 
 just : (read : Period) → IsPeriod read → ForSome (Some read) IsPeriod
 just read is = λ period same. let read_is : read ≡ period = cc in subst IsPeriod read_is is
@@ -40,6 +40,7 @@ returns-clause-allowed c =
       | in-Manner+in_ok-ok_or-in-Manner w ↦ subst AreSettled (sym w.settings-is) (record { allowed = record { demanded = record { period = period; bounds = bounds; unlisted = none }; isotropic = isotropic; budgeted = budgeted }; low = low; high = high; crew = crew })
       | in-First+in_ok-ok_or-in-First w ↦ subst AreSettled (sym w.settings-is) (record { allowed = record { demanded = record { period = period; bounds = bounds; unlisted = none }; isotropic = isotropic; budgeted = budgeted }; low = low; high = high; crew = crew })
       | in-As+in_ok-settings-in-As w ↦ subst AreSettled (sym w.settings-is) (record { allowed = record { demanded = record { period = period; bounds = bounds; unlisted = none }; isotropic = isotropic; budgeted = budgeted }; low = low; high = high; crew = crew })
+      | in-Images+in_ok-settings-in-Images w ↦ subst AreSettled (sym w.settings-is) (record { allowed = record { demanded = record { period = period; bounds = bounds; unlisted = none }; isotropic = isotropic; budgeted = budgeted }; low = low; high = high; crew = crew })
       | in-Formula+in_ok-settings-in-Formula w ↦ subst AreSettled (sym w.settings-is) (record { allowed = record { demanded = record { period = period; bounds = bounds; unlisted = none }; isotropic = isotropic; budgeted = budgeted }; low = low; high = high; crew = crew })
       | in-Crew+in_ok-searchers_at-in-Crew w ↦ subst AreSettled (sym w.settings-is) (record { allowed = record { demanded = record { period = period; bounds = bounds; unlisted = none }; isotropic = isotropic; budgeted = budgeted }; low = low; high = high; crew = many _ w.in_ok-searchers_at-in-Crew.ensures.within })
       | in-Turns+in_ok-settings-in-Turns w ↦ subst AreSettled (sym w.settings-is) (record { allowed = record { demanded = record { period = period; bounds = bounds; unlisted = none }; isotropic = isotropic; budgeted = budgeted }; low = low; high = high; crew = crew })
