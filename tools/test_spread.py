@@ -105,6 +105,25 @@ class Pieces(unittest.TestCase):
             self.assertIn("here has another program" if "other" in ended else "its proof is cut off", said.getvalue())
             self.assertEqual(os.listdir(f"{self.folder}/pieces"), [])
 
+    def test_pieces_by_the_formula_of_the_whole(self):
+        self.write("asked.json", json.dumps({"options": ["--period=1", "--images=one"], "budget": 100, "cells": 1, "clauses": 50, "lls": "lls"}))
+        self.assertEqual(spread.text_of(self.piece("r10")), "2 0\n-8 0\n")
+        # What fixes the cells stands behind the formula, and a piece's own clauses behind that.
+        self.assertEqual(spread.unit_places(self.piece("r10")), {51, 52})
+        self.write("pieces/r0.proof", "52 4 0 2 51 7 0\n53 0 52 50 0\n")
+        self.write("pieces/r1.proof", "52 0 1 2 51 0\n")
+        joined = f"{self.folder}/joined"
+        with open(joined, "w", encoding="ascii") as file:
+            spread.Joined(spread.Spread(self.folder), file).piece(self.piece("r"))
+        with open(joined, encoding="ascii") as file:
+            self.assertEqual(file.read(), "51 4 2 0 2 7 0\n52 2 0 51 50 0\n52 d 51 0\n53 -2 0 1 2 0\n54 0 52 53 0\n54 d 52 53 0\n")
+        # A model begins with the cells.
+        self.write("pieces/r0.ended", "10 sum here 2\ns SATISFIABLE\nv 1 -2 3 4 -5 -6 -7 -8 -9\nv 10 -11 12 -13 -14 15 -16 17 -18 19 0\n")
+        piece = self.piece("r0")
+        self.assertEqual(spread.take_ended(piece.spread, piece), 10)
+        with open(piece.path("pattern"), encoding="ascii") as file:
+            self.assertEqual(file.read(), "1 0 1\n1 0 0\n0 0 0\n\n1 0 1\n0 0 1\n0 1 0\n")
+
     def test_the_other_manner(self):
         for options, manner in [([], "steady"), (["--edge=open"], "restless"), (["--period=3"], "restless"), (["--period=3,1,0"], "steady"), (["--period=4,1,1"], "restless"), (["--period=2"], "steady")]:
             self.assertEqual(spread.manners_of(options)[1], manner, options)
