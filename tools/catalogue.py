@@ -31,7 +31,7 @@ import tempfile
 import time
 
 import ending
-from with_solver import LLS
+from with_solver import LLS, without_making
 
 TOP = os.path.dirname(os.path.dirname(os.path.abspath(__file__)))
 FIELDS = ("name", "sentence", "besides", "answer", "words", "additions", "bytes", "seconds", "sha256", "known")
@@ -102,7 +102,7 @@ class Entry:
         begun = time.monotonic()
         if self.answer == "pattern":
             same_sum(self, self.pattern)
-            answer_is(0, "meets", program, "judge", self.search, self.pattern, *self.options(), "--as", "rle")
+            answer_is(0, "meets", program, "judge", self.search, self.pattern, *without_making(self.options()), "--as", "rle")
             return f"pattern, meets, {time.monotonic() - begun:.2f} s"
         if self.answer != "none":
             raise Stop(f"'{self.answer}' is no answer: none or pattern")

@@ -15,8 +15,8 @@ program under the same name, and `rsync`. A piece whose budget is spent is tried
 killed at any time and begun again; a piece counts only where its answer stands whole and comes from the program that `start` had: its sum goes with each answer. It ends with 20 where every piece is closed,
 and with 10 where one has a pattern, which fits the whole file too and is judged against it.
 
-With --images one all pieces are searched by the formula of the whole, with the clauses that leave one solution of each kind, and what fixes their cells behind it: a piece that has
-none to leave is refuted by them soon.
+With --images one the cells are fixed row by row, as a generation is compared with its images, and all pieces are searched by the formula of the whole, with the clauses that leave one solution of each
+kind, and what fixes their cells behind it: a piece that has none to leave is refuted by them soon.
 
 `next` is for queues of jobs, and needs no GNU parallel: it searches one open piece and ends with 0, or with 30 where none is free just now, and as `run` does where
 nothing is left. Any number of them may run at once over a folder that their machines share, but not beside `run`. A piece is locked by a file, which counts no more when it
@@ -44,10 +44,9 @@ import time
 import ending
 from pattern import pattern_of
 from refute import read_search_file
+from with_solver import without_making
 
 OPTIONS = ("rule", "edge", "symmetry", "period", "exact", "live", "differ", "images", "formula")
-# Those that say how the formula is made, which a history is judged without.
-MAKING = ("--images=", "--formula=")
 FIRST_BUDGET, MOST_BUDGET = 10_000, 10_000_000
 # the seconds of a day
 MOST_AGE = 86_400
@@ -127,9 +126,9 @@ class Spread:
         with open(f"{folder}/search.lls", encoding="utf-8") as file:
             self.text = file.read()
         self.generations = read_search_file(self.text)
-        self.order = splitting_order(self.generations[0])
         # Whether pieces are searched by the formula of the whole.
         self.is_of_kinds = "--images=one" in self.options
+        self.order = (unknown_cells if self.is_of_kinds else splitting_order)(self.generations[0])
 
     def asks(self):
         """Returns how the names of files end that say what is asked of a piece."""
@@ -169,11 +168,15 @@ def sum_of(name):
         return hashlib.sha256(file.read()).hexdigest()
 
 
+def unknown_cells(rows):
+    """Returns the unknown cells of a generation, as row and column, by rows: so a generation is compared with its images."""
+    return [(y, x) for y, row in enumerate(rows) for x, word in enumerate(row) if word.rstrip("'") == "*"]
+
+
 def splitting_order(rows):
     """Returns the unknown cells of a generation, as row and column, the nearest to the middle first."""
     height, width = len(rows), len(rows[0])
-    unknown = [(y, x) for y in range(height) for x in range(width) if rows[y][x].rstrip("'") == "*"]
-    return sorted(unknown, key=lambda cell: ((2 * cell[0] - height + 1) ** 2 + (2 * cell[1] - width + 1) ** 2, cell))
+    return sorted(unknown_cells(rows), key=lambda cell: ((2 * cell[0] - height + 1) ** 2 + (2 * cell[1] - width + 1) ** 2, cell))
 
 
 def write_whole(path, text):
@@ -329,8 +332,7 @@ def stands(leaves):
 
 def judged(spread, piece):
     """Says what the whole file's judge says of a piece's pattern."""
-    options = [option for option in spread.options if not option.startswith(MAKING)]
-    said = spread.lls("judge", f"{spread.folder}/search.lls", piece.path("pattern"), *options)
+    said = spread.lls("judge", f"{spread.folder}/search.lls", piece.path("pattern"), *without_making(spread.options))
     if said.stdout != "meets\n":
         raise Stop(f"the pattern of {piece.name} doesn't fit the whole file: {said.stdout.strip() or said.stderr.strip()}")
     print(f"pattern: {piece.path('pattern')}, judged by `lls judge` against the whole file")

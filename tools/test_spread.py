@@ -107,7 +107,8 @@ class Pieces(unittest.TestCase):
 
     def test_pieces_by_the_formula_of_the_whole(self):
         self.write("asked.json", json.dumps({"options": ["--period=1", "--images=one"], "budget": 100, "cells": 1, "clauses": 50, "lls": "lls"}))
-        self.assertEqual(spread.text_of(self.piece("r10")), "2 0\n-8 0\n")
+        self.assertEqual(spread.Spread(self.folder).order, [(0, 1), (0, 2), (2, 0), (2, 1), (2, 2)])
+        self.assertEqual(spread.text_of(self.piece("r10")), "2 0\n-3 0\n")
         # What fixes the cells stands behind the formula, and a piece's own clauses behind that.
         self.assertEqual(spread.unit_places(self.piece("r10")), {51, 52})
         self.write("pieces/r0.proof", "52 4 0 2 51 7 0\n53 0 52 50 0\n")

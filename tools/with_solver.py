@@ -83,6 +83,12 @@ class Solver:
         return begun.returncode, out.decode("utf-8", errors="replace")
 
 
+def without_making(words):
+    """Returns options without those that say how a formula is made."""
+    making = ("--images", "--formula")
+    return [word for word, last in zip(words, ["", *words]) if last not in making and word.partition("=")[0] not in making]
+
+
 class Question:
     """A search file and the words for it, which the program is asked about."""
 
@@ -93,11 +99,7 @@ class Question:
 
     def words_for(self, command):
         """The words of a command: `judge` makes no formula, and takes no word on how one is made."""
-        if command != "judge":
-            return self.words
-        before = ["", *self.words]
-        made = ("--formula", "--images")
-        return [word for word, last in zip(self.words, before) if last not in made and word.partition("=")[0] not in made]
+        return without_making(self.words) if command == "judge" else self.words
 
     def ask(self, command, *files):
         """Runs a command of the program. Returns its status and what it prints."""
