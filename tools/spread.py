@@ -30,6 +30,7 @@ space that is open over that which is closed.
 Nothing here has to be trusted: `lls check SEARCH PROOF [options]` shows the absence, and `lls judge` a pattern.
 """
 import argparse
+import bisect
 import hashlib
 import json
 import os
@@ -461,57 +462,65 @@ def next_of(leaves, ending_):
 # One proof.
 
 
+class Ids(dict):
+    """The ids that the clauses of a piece have in the joined proof, as words: those of its formula by their places, and others as they are added. Those that fix its cells
+    have none, and an empty word."""
+
+    def __init__(self, piece):
+        super().__init__()
+        self.units, self.count, self.path = sorted(unit_places(piece)), piece.spread.clauses, piece.path("proof")
+
+    def __missing__(self, word):
+        number = int(word)
+        if number > self.count + len(self.units):
+            raise Stop(f"{self.path}: clause {number} isn't there")
+        self[word] = b"" if number in self.units else b"%d" % (number - bisect.bisect(self.units, number))
+        return self[word]
+
+
 class Joined:
-    """The proof that is written: its clauses have ids of their own, one after the other."""
+    """The proof that is written: its clauses have ids of their own, one after the other. All is words as bytes, since few of them change."""
 
     def __init__(self, spread, file):
         self.spread, self.file, self.last = spread, file, spread.clauses
 
     def add(self, lits, hints):
         self.last += 1
-        print(self.last, *lits, 0, *hints, 0, file=self.file)
-        return self.last
+        added = b"%d" % self.last
+        self.file.write(b" ".join([added, *lits, b"0", *hints, b"0\n"]))
+        return added
 
     def delete(self, ids):
         if ids:
-            print(self.last, "d", *ids, 0, file=self.file)
+            self.file.write(b" ".join([b"%d d" % self.last, *ids, b"0\n"]))
 
     def piece(self, piece):
         """Writes what closes a piece, and returns the id of the clause that says so: not all of its cells are fixed that way."""
         if not piece.has("split") and piece.depth() >= self.spread.cells:
             return self.leaf(piece)
         closing = [self.piece(part) for part in piece.parts()]
-        last = self.add(negations(piece), closing)
+        last = self.add([b"%d" % lit for lit in negations(piece)], closing)
         self.delete(closing)
         return last
 
     def leaf(self, piece):
-        outside = negations(piece)
-        units = unit_places(piece)
-        known = {}
-
-        def joined(hint):
-            """The id here of a clause of the piece. The units that fix its cells have none."""
-            if hint in known:
-                return known[hint]
-            if hint > self.spread.clauses + len(units):
-                raise Stop(f"{piece.path('proof')}: clause {hint} isn't there")
-            return None if hint in units else hint - sum(unit < hint for unit in units)
-
-        with open(piece.path("proof"), encoding="ascii") as file:
+        outside = [b"%d" % lit for lit in negations(piece)]
+        ids, own = Ids(piece), {}
+        with open(piece.path("proof"), "rb") as file:
             for line in file:
                 words = line.split()
-                if words[1] == "d":
-                    self.delete([known.pop(number) for number in map(int, words[2:-1]) if number in known])
+                if words[1] == b"d":
+                    gone = [word for word in words[2:-1] if word in own]
+                    self.delete([own.pop(word) and ids.pop(word) for word in gone])
                     continue
-                end = words.index("0", 1)
-                lits = list(map(int, words[1:end]))
-                hints = [number for number in (joined(int(word)) for word in words[end + 1 : -1]) if number is not None]
+                end = words.index(b"0", 1)
+                lits = words[1:end]
+                hints = filter(None, map(ids.__getitem__, words[end + 1 : -1]))
                 added = self.add(lits + [lit for lit in outside if lit not in lits], hints)
                 if not lits:
-                    self.delete(list(known.values()))
+                    self.delete(list(own.values()))
                     return added
-                known[int(words[0])] = added
+                own[words[0]] = ids[words[0]] = added
         raise Stop(f"{piece.path('proof')} adds no empty clause")
 
 
@@ -554,7 +563,7 @@ def join(words):
     count = stands(list(spread.leaves()))[0]
     if count:
         raise Stop(f"{count} pieces are open; `run` goes on with them")
-    with open(f"{words.proof}.new", "w", encoding="ascii") as file:
+    with open(f"{words.proof}.new", "wb") as file:
         Joined(spread, file).piece(Piece(spread, "r"))
     os.replace(f"{words.proof}.new", words.proof)
     if words.trimmed:
