@@ -467,6 +467,7 @@ class Building(unittest.TestCase):
         self.write("loose.lls", "#! --low B3/S2 --high=B3/S23\n* *\n")
         self.write("returns.lls", "#! --edge open --symmetry D4+\r\n* *\r\n")
         self.write("kinds.lls", "#! --edge open --images one\n* *\n")
+        self.write("between.lls", "#! --low B3/S2 --images one --high=B3/S23\n* *\n")
         taken = ["--period", "4,1,1", "--live", "0:1-", "--rule", "B2-a/S12"]
         for words, ran_with in [
             (["search", "q.lls", "p"], ["search", "q.lls", "p", *taken]),
@@ -477,8 +478,8 @@ class Building(unittest.TestCase):
             (["judge", "form.lls", "p"], ["judge", "form.lls", "p", "--edge", "open"]),
             (["least", "kinds.lls", "p"], ["least", "kinds.lls", "p", "--edge", "open", "--images", "one"]),
             (["judge", "kinds.lls", "p"], ["judge", "kinds.lls", "p", "--edge", "open"]),
-            (["open", "kinds.lls", "p"], ["open", "kinds.lls", "p", "--edge", "open"]),
-            (["opencheck", "kinds.lls", "p"], ["opencheck", "kinds.lls", "p", "--edge", "open"]),
+            (["open", "between.lls", "p"], ["open", "between.lls", "p", "--low", "B3/S2", "--high", "B3/S23"]),
+            (["opencheck", "between.lls", "p"], ["opencheck", "between.lls", "p", "--low", "B3/S2", "--high", "B3/S23"]),
             (["open", "loose.lls", "p"], ["open", "loose.lls", "p", "--low", "B3/S2", "--high", "B3/S23"]),
         ]:
             said = f"lls: {' '.join(ran_with)}\n"
