@@ -9,7 +9,7 @@
 
 `start` takes the search file, the options of its question (--rule, --edge, --symmetry, --period, --exact, --live, --differ) and how its
 formula is made (--images, --formula), which are those of the file's line `#!` where the words have none and not --bare, and lays out the first pieces in FOLDER: each is the search file with the N unknown cells of generation 0 that
-are nearest to the middle (1 where --cells isn't given) fixed one way. `run` searches all open pieces in rounds, each within its budget (10,000 for the first ones), by GNU
+are nearest to the middle (as many as make four pieces for each processor here, where --cells isn't given) fixed one way. `run` searches all open pieces in rounds, each within its budget (40,000 for the first ones), by GNU
 parallel (Debian's package `parallel`): over this machine's processors, or with `-- --sshloginfile HOSTS` over many machines that have the
 program under the same name, and `rsync`. A piece whose budget is spent is tried in the other manner, and where that spends it too it is split by one more cell, and its parts get twice the budget. `run` can be
 killed at any time and begun again; a piece counts only where its answer stands whole and comes from the program that `start` had: its sum goes with each answer. It ends with 20 where every piece is closed,
@@ -48,7 +48,7 @@ from refute import read_search_file
 from with_solver import without_making
 
 OPTIONS = ("rule", "edge", "symmetry", "period", "exact", "live", "differ", "images", "formula")
-FIRST_BUDGET, MOST_BUDGET = 10_000, 10_000_000
+FIRST_BUDGET, MOST_BUDGET = 40_000, 10_000_000
 # the seconds of a day
 MOST_AGE = 86_400
 PATTERN, ABSENT, UNDECIDED = 10, 20, 30
@@ -200,6 +200,11 @@ def clause_count(program, search, options):
     return int(head[3])
 
 
+def cells_for(processors):
+    """Returns how many cells to fix, so that there are four pieces for each processor or more: they aren't equally hard."""
+    return (4 * processors - 1).bit_length()
+
+
 def options_in(text):
     """Returns the options that a search file has on its line `#!`, each as one word, as `lls` takes them."""
     line = next((line[2:].strip() for line in text.split("\n") if line.startswith("#!")), "")
@@ -226,6 +231,8 @@ def start(words):
     text = "".join(line for line in text.splitlines(keepends=True) if not line.startswith("#!"))
     clauses = clause_count(words.lls, words.search, options)
     free = len(splitting_order(read_search_file(text)[0]))
+    if words.cells is None:
+        words.cells = min(free, cells_for(os.cpu_count() or 1))
     if words.cells > free:
         raise Stop(f"generation 0 has {free} unknown cells to fix, and not {words.cells}")
     os.makedirs(f"{words.folder}/pieces")
@@ -663,7 +670,7 @@ def words_given():
                 words.add_argument(f"--{option}")
             words.add_argument("--bare", action="store_true")
             words.add_argument("--budget", type=number(1), default=FIRST_BUDGET)
-            words.add_argument("--cells", type=number(0), default=1)
+            words.add_argument("--cells", type=number(0))
             words.add_argument("--lls", default=f"{os.path.dirname(os.path.abspath(__file__))}/../lls")
         if kind is next_piece:
             words.add_argument("--age", type=number(0), default=MOST_AGE)

@@ -125,6 +125,9 @@ class Pieces(unittest.TestCase):
         with open(piece.path("pattern"), encoding="ascii") as file:
             self.assertEqual(file.read(), "1 0 1\n1 0 0\n0 0 0\n\n1 0 1\n0 0 1\n0 1 0\n")
 
+    def test_four_pieces_for_each_processor(self):
+        self.assertEqual([spread.cells_for(processors) for processors in (1, 2, 3, 4, 5, 64)], [2, 3, 4, 4, 5, 8])
+
     def test_the_other_manner(self):
         for options, manner in [([], "steady"), (["--edge=open"], "restless"), (["--period=3"], "restless"), (["--period=3,1,0"], "steady"), (["--period=4,1,1"], "restless"), (["--period=2"], "steady")]:
             self.assertEqual(spread.manners_of(options)[1], manner, options)
