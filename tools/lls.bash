@@ -47,6 +47,7 @@ _lls() {
     [ "${COMP_WORDS[1]-}" != --quiet ] || first=2
     [ "${COMP_WORDS[first]-}" != --as-built ] || first=$((first + 1))
     [[ ${COMP_WORDS[first]-} != --@(trimmed|race) ]] || first=$((first + 1))
+    while [[ ${COMP_WORDS[first]-} = --@(seconds|from) ]]; do first=$((first + 2)); done
     [ "${COMP_WORDS[first]-}" != --unproved ] || first=$((first + 1))
     [[ ${COMP_WORDS[first]-} != --@(bare|posed) ]] || first=$((first + 1))
     # `--edge=open` comes as three words.
@@ -57,8 +58,8 @@ _lls() {
     fi
     if [ "$COMP_CWORD" -eq "$first" ]; then
         case $first,${COMP_WORDS[1]} in
-        1,*) commands="$commands help --help --version --as-built --bare --page --posed --quiet --race --trimmed --unproved" ;;
-        2,--quiet) commands="$commands --as-built --bare --posed --race --trimmed --unproved" ;;
+        1,*) commands="$commands help --help --version --as-built --bare --from --page --posed --quiet --race --seconds --trimmed --unproved" ;;
+        2,--quiet) commands="$commands --as-built --bare --from --posed --race --seconds --trimmed --unproved" ;;
         esac
         read -ra words <<<"$commands"
     elif [[ $previous = --help || $previous = help && $COMP_CWORD -eq 2 ]]; then

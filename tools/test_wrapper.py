@@ -326,6 +326,19 @@ class Forms(Case):
         self.assertEqual(self.given("1 *\n", "search", "q.lls", "-", FILE="q.lls")[2], "search q.lls -")
         self.assertEqual(self.given("1 *\n", "check", "-", "-", FILE="q.lls")[2], "check - -")
 
+    def test_rounds_have_the_options_of_the_file(self):
+        # The formula of any question, which the first round refutes.
+        self.program("#!/bin/bash\necho \"$@\" >>words\n[[ $1 = sat ]] || { [[ $1 = cnf ]] && echo 'p cnf 0 0'; exit 0; }\ntouch \"$3\"\nexit 20\n")
+        self.write("p.lls", "#! --period 3\n*\n")
+        for words in (("--seconds", "60"), ("--seconds", "60", "--seconds", "50"), ("--quiet", "--as-built", "--seconds", "60", "--bare")):
+            self.write("words", "")
+            status, out, _ = self.lls(*words, "search", "p.lls", "p")
+            with open(f"{self.top}/words", encoding="utf-8") as file:
+                asked = [line.split(" ", 1)[1] for line in file if line.startswith("cnf")]
+            self.assertEqual((status, out, asked), (20, b"no pattern\n", ["p.lls --period=3\n"] if words[-1] != "--bare" else ["p.lls\n"]), words)
+        self.assertEqual(self.lls("--seconds"), (2, b"", "lls: --seconds has no value\n"))
+        self.assertEqual(self.lls("--from", "p", "least", "p.lls", "p")[0], 2)
+
     def test_plaintext_is_printed(self):
         self.write("answer", "least 2\n0 1\n1 0\n\n1 0\n0 0\n")
         want = "!least 2\n!Generation 0\n.O\nO.\n!Generation 1\nO.\n..\n"
