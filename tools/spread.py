@@ -23,7 +23,7 @@ nothing is left. Any number of them may run at once over a folder that their mac
 is older than --age (a day): whoever made it is gone then.
 
 `join` writes the proof that no generations fit SEARCH and the options, and has `lls check` look at it. It reads the pieces' proofs
-line by line, so its memory goes with the clauses that are in use at a time. With --trimmed it has `lls trim` leave out what the whole doesn't need, which takes memory for the whole.
+line by line, as many at once as there are processors, so its memory goes with the clauses that are in use at a time. With --trimmed it has `lls trim` leave out what the whole doesn't need, which takes memory for the whole.
 `look` says how a search stands: which pieces are open, what runs where and since when, and how long the rest may take, which is the time of the closed pieces times the share of the
 space that is open over that which is closed.
 
@@ -33,6 +33,7 @@ import argparse
 import bisect
 import hashlib
 import json
+import multiprocessing
 import os
 import re
 import shlex
@@ -40,6 +41,7 @@ import shutil
 import socket
 import subprocess
 import sys
+import tempfile
 import time
 
 import ending
@@ -486,10 +488,10 @@ class Ids(dict):
 
 
 class Joined:
-    """The proof that is written: its clauses have ids of their own, one after the other. All is words as bytes, since few of them change."""
+    """The proof that is written, behind the additions up to an id: its clauses have ids of their own, one after the other. All is words as bytes, since few of them change."""
 
-    def __init__(self, spread, file):
-        self.spread, self.file, self.last = spread, file, spread.clauses
+    def __init__(self, spread, file, last):
+        self.spread, self.file, self.last = spread, file, last
 
     def add(self, lits, hints):
         self.last += 1
@@ -531,6 +533,52 @@ class Joined:
         raise Stop(f"{piece.path('proof')} adds no empty clause")
 
 
+class JoinedTogether(Joined):
+    """The same with leaves that several processes write at once, each into a file of its own, which is put behind the others then."""
+
+    def __init__(self, spread, file, pool, room):
+        super().__init__(spread, file, spread.clauses)
+        leaves = list(spread.leaves())
+        self.counts = dict(zip([leaf.name for leaf in leaves], pool.map(additions_of, leaves)))
+        begins = []
+        self.number(Piece(spread, "r"), self.last, begins)
+        self.written = pool.imap(write_leaf, [(leaf, last, f"{room}/{leaf.name}") for leaf, last in begins])
+
+    def number(self, piece, last, begins):
+        """Lists the leaves of a piece, each with the last id before it, and returns the last one of the piece."""
+        if piece.name in self.counts:
+            begins.append((piece, last))
+            return last + self.counts[piece.name]
+        for part in piece.parts():
+            last = self.number(part, last, begins)
+        return last + 1
+
+    def leaf(self, piece):
+        name = next(self.written)
+        with open(name, "rb") as file:
+            shutil.copyfileobj(file, self.file, 1 << 20)
+        os.remove(name)
+        self.last += self.counts[piece.name]
+        return b"%d" % self.last
+
+
+def additions_of(piece):
+    """Returns how many additions the proof of a piece has."""
+    count = 0
+    with open(piece.path("proof"), "rb") as file:
+        while text := file.read(1 << 22) + file.readline():
+            count += text.count(b"\n") - text.count(b" d ")
+    return count
+
+
+def write_leaf(task):
+    """Writes what a piece's proof is in the whole, and returns the file's name."""
+    piece, last, name = task
+    with open(name, "wb") as file:
+        Joined(piece.spread, file, last).leaf(piece)
+    return name
+
+
 def negations(piece):
     """Returns the literals that say that not all of a piece's cells are fixed as they are."""
     width = len(piece.spread.generations[0][0])
@@ -565,13 +613,19 @@ def trim_joined(spread, proof):
         os.remove(formula)
 
 
+def join_to(spread, name):
+    """Writes the joined proof to a file."""
+    rooms = tempfile.TemporaryDirectory(prefix="joining-", dir=spread.folder)
+    with open(name, "wb") as file, rooms as room, multiprocessing.Pool(len(os.sched_getaffinity(0))) as pool:
+        JoinedTogether(spread, file, pool, room).piece(Piece(spread, "r"))
+
+
 def join(words):
     spread = Spread(words.folder)
     count = stands(list(spread.leaves()))[0]
     if count:
         raise Stop(f"{count} pieces are open; `run` goes on with them")
-    with open(f"{words.proof}.new", "wb") as file:
-        Joined(spread, file).piece(Piece(spread, "r"))
+    join_to(spread, f"{words.proof}.new")
     os.replace(f"{words.proof}.new", words.proof)
     if words.trimmed:
         trim_joined(spread, words.proof)

@@ -56,8 +56,7 @@ class Pieces(unittest.TestCase):
         self.write("pieces/r0.proof", "52 4 0 2 1 7 0\n53 5 0 52 3 0\n53 d 52 9 0\n54 0 53 51 0\n")
         self.write("pieces/r1.proof", "52 0 1 2 51 0\n")
         joined = f"{self.folder}/joined"
-        with open(joined, "wb") as file:
-            spread.Joined(spread.Spread(self.folder), file).piece(self.piece("r"))
+        spread.join_to(spread.Spread(self.folder), joined)
         with open(joined, encoding="ascii") as file:
             lines = file.read().split("\n")
         self.assertEqual(lines, [
@@ -114,8 +113,7 @@ class Pieces(unittest.TestCase):
         self.write("pieces/r0.proof", "52 4 0 2 51 7 0\n53 0 52 50 0\n")
         self.write("pieces/r1.proof", "52 0 1 2 51 0\n")
         joined = f"{self.folder}/joined"
-        with open(joined, "wb") as file:
-            spread.Joined(spread.Spread(self.folder), file).piece(self.piece("r"))
+        spread.join_to(spread.Spread(self.folder), joined)
         with open(joined, encoding="ascii") as file:
             self.assertEqual(file.read(), "51 4 2 0 2 7 0\n52 2 0 51 50 0\n52 d 51 0\n53 -2 0 1 2 0\n54 0 52 53 0\n54 d 52 53 0\n")
         # A model begins with the cells.
