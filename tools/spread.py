@@ -8,15 +8,17 @@
     spread.py look FOLDER
 
 `start` takes the search file, the options of its question (--rule, --edge, --symmetry, --period, --exact, --live, --differ) and how its
-formula is made (--images, --formula), which are those of the file's line `#!` where the words have none and not --bare, and lays out the first pieces in FOLDER: each is the search file with the N unknown cells of generation 0 that
-are nearest to the middle (as many as make four pieces for each processor here, where --cells isn't given) fixed one way. `run` searches all open pieces in rounds, each within its budget (40,000 for the first ones), by GNU
+formula is made (--images, --formula), which are those of the file's line `#!` where the words have none and not --bare, and lays out the first pieces in FOLDER: in each N unknown cells of generation 0 are
+fixed one way, those that stand most often in the first 2,000 clauses that a search learns. Where --cells isn't given, short searches of a few parts say whether there is a piece for each processor here, or whether there are four.
+`run` searches all open pieces in rounds, each within its budget (100,000 for the first ones), by GNU
 parallel (Debian's package `parallel`): over this machine's processors, or with `-- --sshloginfile HOSTS` over many machines that have the
-program under the same name, and `rsync`. A piece whose budget is spent is tried in the other manner, and where that spends it too it is split by one more cell, and its parts get twice the budget. `run` can be
+program under the same name, and `rsync`. A piece whose budget is spent goes on in the other manner, and where that spends it too it is split, by one more cell or by three at once where short searches close neither half of it; its parts get twice the budget.
+Nothing of this begins anew: the 2,000 shortest clauses that were learnt go along, and what they rest on is part of the proof in the end. `run` can be
 killed at any time and begun again; a piece counts only where its answer stands whole and comes from the program that `start` had: its sum goes with each answer. It ends with 20 where every piece is closed,
 and with 10 where one has a pattern, which fits the whole file too and is judged against it.
 
-With --images one the cells are fixed row by row, as a generation is compared with its images, and all pieces are searched by the formula of the whole, with the clauses that leave one solution of each
-kind, and what fixes their cells behind it: a piece that has none to leave is refuted by them soon.
+All pieces are searched by the formula of the whole, with what fixes their cells behind it. With --images one the cells are fixed row by row, as a generation is compared with its images: a piece that has no
+first one of its kind to leave is refuted by the clauses that say so, soon.
 
 `next` is for queues of jobs, and needs no GNU parallel: it searches one open piece and ends with 0, or with 30 where none is free just now, and as `run` does where
 nothing is left. Any number of them may run at once over a folder that their machines share, but not beside `run`. A piece is locked by a file, which counts no more when it
@@ -30,11 +32,15 @@ space that is open over that which is closed.
 Nothing here has to be trusted: `lls check SEARCH PROOF [options]` shows the absence, and `lls judge` a pattern.
 """
 import argparse
-import bisect
+import collections
+import concurrent.futures
+import functools
 import hashlib
+import itertools
 import json
 import multiprocessing
 import os
+import random
 import re
 import shlex
 import shutil
@@ -45,17 +51,23 @@ import tempfile
 import time
 
 import ending
+from learnt import live_behind, shortest
 from pattern import pattern_of
 from refute import read_search_file
 from with_solver import without_making
 
 OPTIONS = ("rule", "edge", "symmetry", "period", "exact", "live", "differ", "images", "formula")
-FIRST_BUDGET, MOST_BUDGET = 40_000, 10_000_000
+FIRST_BUDGET, MOST_BUDGET = 100_000, 10_000_000
+# What a short search may learn, how many parts of a piece are searched so at most, and by how many cells the whole is split where half of its parts end so if it is small.
+PROBE_BUDGET, PROBES, SMALL_PARTS = 2_000, 8, 6
+# So many clauses a search takes from those of a piece before it.
+MOST_CARRIED = 2_000
 # the seconds of a day
 MOST_AGE = 86_400
 PATTERN, ABSENT, UNDECIDED = 10, 20, 30
-# An addition of the empty clause, which ends the proof of an absence.
+# An addition of the empty clause, which ends the proof of an absence, and any step.
 EMPTY = re.compile(r"\d+ 0( \d+)* 0\n?$")
+STEP = re.compile(r"\d+ .*\b0\n$")
 
 
 class Stop(Exception):
@@ -79,6 +91,33 @@ class Piece:
 
     def parts(self):
         return [Piece(self.spread, self.name + digit) for digit in "01"]
+
+    def above(self):
+        """Returns the pieces of which it is a part, the whole first."""
+        return [Piece(self.spread, self.name[:end]) for end in range(1, len(self.name))]
+
+    def learnt(self):
+        """Returns in how many searches it wasn't decided, and the clauses that the next one takes from them."""
+        if not self.has("live"):
+            return 0, []
+        with open(self.path("live"), "rb") as file:
+            return int(file.readline()), file.read().splitlines()
+
+    def searches(self):
+        """Returns the names of the files with what its searches learnt, one after the other."""
+        undecided = [self.path(str(number + 1)) for number in range(self.learnt()[0])]
+        return undecided + [self.path("proof")] * self.has("proof")
+
+    def handed(self):
+        """Returns the clauses that were learnt of the pieces above it, which hold for it too."""
+        return [clause for piece in self.above() for clause in piece.learnt()[1]]
+
+    def split_by(self):
+        """Returns by how many cells at once it is split, 0 where it isn't."""
+        if not self.has("split"):
+            return 0
+        with open(self.path("split"), encoding="ascii") as file:
+            return int(file.read())
 
     def fixed(self):
         """Returns the fixed cells with their values, by place."""
@@ -111,7 +150,8 @@ class Piece:
         return machine, float(seconds)
 
     def budget(self):
-        return min(MOST_BUDGET, self.spread.budget * 2 ** (self.depth() - self.spread.cells + self.tries()))
+        splits = sum(piece.has("split") for piece in self.above())
+        return min(MOST_BUDGET, self.spread.budget * 2 ** (splits + self.tries()))
 
 
 class Spread:
@@ -129,24 +169,27 @@ class Spread:
         with open(f"{folder}/search.lls", encoding="utf-8") as file:
             self.text = file.read()
         self.generations = read_search_file(self.text)
-        # Whether pieces are searched by the formula of the whole.
-        self.is_of_kinds = "--images=one" in self.options
-        self.order = (unknown_cells if self.is_of_kinds else splitting_order)(self.generations[0])
+        if "order" not in asked:
+            raise Stop(f"{folder}: it was laid out by another spread.py; `start` does that anew")
+        self.order = list(map(tuple, asked["order"]))
 
-    def asks(self):
-        """Returns how the names of files end that say what is asked of a piece."""
-        return "fixed" if self.is_of_kinds else "lls"
+    @functools.cached_property
+    def formula(self):
+        """The head of the whole's formula, but for how many clauses it has, and its clauses."""
+        header, _, clauses = self.lls("cnf", f"{self.folder}/search.lls", *self.options).stdout.partition("\n")
+        return " ".join(header.split()[:3]), clauses
 
     def lls(self, *words):
         return subprocess.run([self.program, *words], capture_output=True, text=True, encoding="utf-8", check=False)
 
     def leaves(self):
         """Yields the pieces that aren't split, from the left."""
-        waiting = [Piece(self, "r")]
+        waiting = [(Piece(self, "r"), self.cells)]
         while waiting:
-            piece = waiting.pop()
-            if piece.depth() < self.cells or piece.has("split"):
-                waiting += reversed(piece.parts())
+            piece, cells = waiting.pop()
+            cells = cells or piece.split_by()
+            if cells:
+                waiting += [(part, cells - 1) for part in reversed(piece.parts())]
             else:
                 yield piece
 
@@ -202,11 +245,6 @@ def clause_count(program, search, options):
     return int(head[3])
 
 
-def cells_for(processors):
-    """Returns how many cells to fix, so that there are four pieces for each processor or more: they aren't equally hard."""
-    return (4 * processors - 1).bit_length()
-
-
 def options_in(text):
     """Returns the options that a search file has on its line `#!`, each as one word, as `lls` takes them."""
     line = next((line[2:].strip() for line in text.split("\n") if line.startswith("#!")), "")
@@ -232,24 +270,118 @@ def start(words):
     # What the file says of its options stands in asked.json, and nowhere else.
     text = "".join(line for line in text.splitlines(keepends=True) if not line.startswith("#!"))
     clauses = clause_count(words.lls, words.search, options)
-    free = len(splitting_order(read_search_file(text)[0]))
-    if words.cells is None:
-        words.cells = min(free, cells_for(os.cpu_count() or 1))
-    if words.cells > free:
+    free = len(unknown_cells(read_search_file(text)[0]))
+    if words.cells is not None and words.cells > free:
         raise Stop(f"generation 0 has {free} unknown cells to fix, and not {words.cells}")
     os.makedirs(f"{words.folder}/pieces")
-    write_whole(f"{words.folder}/search.lls", text)
-    asked = {"options": options, "budget": words.budget, "cells": words.cells, "clauses": clauses, "lls": os.path.abspath(words.lls), "sum": sum_of(made_of(words.lls))}
-    write_whole(f"{words.folder}/asked.json", json.dumps(asked, indent=1) + "\n")
-    print(f"{2 ** words.cells} pieces, each with a budget of {words.budget:,}")
+    try:
+        write_whole(f"{words.folder}/search.lls", text)
+        words.text = text
+        asked = {"options": options, "budget": words.budget, "cells": words.cells or 0, "clauses": clauses, "lls": os.path.abspath(words.lls), "sum": sum_of(made_of(words.lls))}
+        lay_out(words, asked)
+    except BaseException:
+        shutil.rmtree(words.folder)
+        raise
     return 0
+
+
+def lay_out(words, asked):
+    """Chooses the cells to split by, and how many of them, by short searches, and writes down what is asked."""
+    generation = read_search_file(words.text)[0]
+    # With one solution of each kind a generation is compared with its images in this order.
+    asked["order"] = unknown_cells(generation)
+    if "--images=one" not in asked["options"]:
+        asked["order"] = busiest_cells(laid_out(words, asked), generation)
+    if words.cells is None:
+        asked["cells"] = cells_to_begin_with(laid_out(words, asked), len(os.sched_getaffinity(0)))
+    laid_out(words, asked)
+    print(f"{2 ** asked['cells']} pieces, each with a budget of {words.budget:,}")
+
+
+def laid_out(words, asked):
+    write_whole(f"{words.folder}/asked.json", json.dumps(asked) + "\n")
+    return Spread(words.folder)
+
+
+# Short searches.
+
+
+class Search:
+    """A search of a piece, with its files, which are gone behind it."""
+
+    def __init__(self, piece):
+        self.piece, self.spread = piece, piece.spread
+        self.formula, self.part, self.out = (piece.path(f"{name}.{whose()}") for name in ("cnf", "part", "out"))
+
+    def __enter__(self):
+        (head, clauses), more = self.spread.formula, text_of(self.piece)
+        with open(self.formula, "w", encoding="ascii") as file:
+            file.write(f"{head} {self.spread.clauses + more.count(chr(10))}\n{clauses}{more}")
+        return self
+
+    def __exit__(self, *_):
+        for path in (self.formula, self.part, self.out):
+            if os.path.exists(path):
+                os.remove(path)
+
+    def run(self, budget):
+        """Searches within a budget, and returns the status. What is learnt stands in `part` then, and what is printed in `out`."""
+        words = [self.spread.program, "sat", self.formula, self.part, f"--budget={budget}", f"--manner={self.piece.manner()}"]
+        with open(self.out, "wb") as file:
+            done = subprocess.run(words, stdin=subprocess.DEVNULL, stdout=file, stderr=subprocess.PIPE, check=False)
+        if done.returncode not in (PATTERN, ABSENT, UNDECIDED):
+            raise Stop(f"{self.piece.name}: {done.stderr.decode(errors='replace').strip() or f'status {done.returncode}'}")
+        return done.returncode
+
+
+def busiest_cells(spread, generation):
+    """Returns the unknown cells of generation 0, as row and column, those first that stand most often in the first clauses that a search learns."""
+    width, counts = len(generation[0]), collections.Counter()
+    with Search(Piece(spread, "r")) as search:
+        if search.run(PROBE_BUDGET) != PATTERN:
+            with open(search.part, encoding="ascii") as file:
+                for words in map(str.split, file):
+                    if words[1] != "d":
+                        counts.update(word.lstrip("-") for word in words[1 : words.index("0", 1)])
+    return sorted(splitting_order(generation), key=lambda cell: -counts[str(1 + cell[1] + width * cell[0])])
+
+
+def is_soon_done(piece):
+    """Says whether a short search closes a piece, or finds a pattern in it."""
+    with Search(piece) as search:
+        return search.run(PROBE_BUDGET) != UNDECIDED
+
+
+def share_done(piece, cells):
+    """Returns which share of a piece's parts a short search closes, where it is split by so many cells, of a few that are drawn."""
+    cells = min(cells, len(piece.spread.order) - piece.depth())
+    chosen = random.Random(piece.name).sample(range(2**cells), min(PROBES, 2**cells))
+    parts = [Piece(piece.spread, piece.name + f"{number:0{cells}b}" * bool(cells)) for number in chosen]
+    with concurrent.futures.ThreadPoolExecutor(len(os.sched_getaffinity(0))) as threads:
+        return sum(threads.map(is_soon_done, parts)) / len(parts)
+
+
+def cells_for(pieces):
+    """Returns how many cells to fix for so many pieces or more."""
+    return (pieces - 1).bit_length()
+
+
+def cells_to_begin_with(spread, processors):
+    """Returns how many cells are fixed at first: for a piece on each processor, and for four of them where the whole is large, since they aren't equally hard."""
+    is_small = share_done(Piece(spread, "r"), SMALL_PARTS) >= 0.5
+    return min(len(spread.order), cells_for(processors if is_small else 4 * processors))
+
+
+def cells_to_split(piece):
+    """Returns by how many cells at once a piece is split that isn't decided: by more where it is far from done, so that no half of it is."""
+    is_far = share_done(piece, 1) == 0
+    return min(len(piece.spread.order) - piece.depth(), 3 if is_far else 1)
 
 
 # Rounds.
 
-# What searches a piece: of its file, or of the formula of the whole and of what fixes its cells.
-SEARCH = "{lls} search pieces/{{1}}.lls pieces/{{1}}.part {options}"
-SEARCH_OF_KINDS = (
+# What searches a piece: the formula of the whole, and behind it what fixes its cells and what is known of it.
+SEARCH = (
     "{lls} cnf search.lls {options} 2>pieces/{{1}}.err | awk -v name=pieces/{{1}}.fixed "
     "'BEGIN {{ while ((getline clause <name) > 0) fixed[count++] = clause }} NR == 1 {{ $4 += count }} {{ print }} "
     "END {{ for (k = 0; k < count; k++) print fixed[k] }}' >pieces/{{1}}.cnf; "
@@ -261,30 +393,29 @@ SEARCH_OF_KINDS = (
 JOB = (
     "b=$(date +%s); echo $(hostname) $b >pieces/{{1}}.runs; "
     "{search} --budget={{2}} --manner={{3}} >pieces/{{1}}.out 2>>pieces/{{1}}.err; s=$?; rm -f pieces/{{1}}.runs pieces/{{1}}.cnf; "
-    "case $s in 10) f=pieces/{{1}}.out;; 20) f=pieces/{{1}}.part;; 30) f=/dev/null;; *) cat pieces/{{1}}.err >&2; exit $s;; esac; "
+    "case $s in 10) f=pieces/{{1}}.out;; 20|30) f=pieces/{{1}}.part;; *) cat pieces/{{1}}.err >&2; exit $s;; esac; "
     "m=$(sha256sum <{made}); ( echo $s ${{m%% *}} $(hostname) $(($(date +%s) - b)) && cat $f ) >pieces/{{1}}.new && mv pieces/{{1}}.new pieces/{{1}}.ended; "
     "rm -f pieces/{{1}}.new pieces/{{1}}.part pieces/{{1}}.out pieces/{{1}}.err"
 )
 
 
 def text_of(piece):
-    """Returns a piece's search file, or of one that is searched by the formula of the whole the clauses that fix its cells."""
-    if piece.spread.is_of_kinds:
-        return "".join(f"{-lit} 0\n" for lit in negations(piece))
-    return "\n\n".join("\n".join(map(" ".join, rows)) for rows in piece.generations()) + "\n"
+    """Returns the clauses of a piece behind those of the whole: what fixes its cells, what was learnt of the pieces above it, and what was learnt of itself."""
+    fixed = [b"%d" % -lit for lit in negations(piece)]
+    return "".join(f"{clause.decode('ascii')} 0\n" for clause in [*fixed, *piece.handed(), *piece.learnt()[1]])
 
 
 def search_round(spread, pieces, more):
     """Searches pieces by GNU parallel, and returns whether it could."""
     for piece in pieces:
-        write_whole(piece.path(spread.asks()), text_of(piece))
+        write_whole(piece.path("fixed"), text_of(piece))
     write_whole(f"{spread.folder}/round", "".join(f"{piece.name}\t{piece.budget()}\t{piece.manner()}\n" for piece in pieces))
     options = " ".join(map(shlex.quote, spread.options))
-    search = (SEARCH_OF_KINDS if spread.is_of_kinds else SEARCH).format(lls=shlex.quote(spread.program), options=options)
+    search = SEARCH.format(lls=shlex.quote(spread.program), options=options)
     job = JOB.format(search=search, made=shlex.quote(made_of(spread.program)))
     words = ["parallel", "--will-cite", "--joblog", "joblog", "--colsep", "\t", "-a", "round"]
     if any(word.startswith(("--sshlogin", "-S")) for word in more):
-        words += ["--basefile", "search.lls", "--transferfile", f"pieces/{{1}}.{spread.asks()}", "--return", "pieces/{1}.ended", "--cleanup"]
+        words += ["--basefile", "search.lls", "--transferfile", "pieces/{1}.fixed", "--return", "pieces/{1}.ended", "--cleanup"]
     with subprocess.Popen([*words, *more, job], cwd=spread.folder) as parallel:
         show_round(spread, pieces, parallel)
 
@@ -293,34 +424,71 @@ def take_ended(spread, piece):
     """Takes what a job left of a piece, if it ended, and returns its status."""
     if not piece.has("ended"):
         return None
-    with open(piece.path("ended"), encoding="ascii") as file:
-        head = file.readline().split()
+    with open(piece.path("ended"), "rb") as file:
+        head = file.readline().decode("ascii").split()
         status, is_ours = int(head[0]), spread.sum in (None, head[1])
-        whole = status != ABSENT or EMPTY.match(last_line(piece.path("ended")))
-        if not is_ours or not whole:
+        if not is_ours or not is_whole(piece, status):
             os.remove(piece.path("ended"))
-            print(f"{piece.name} is searched again: {'its proof is cut off' if is_ours else f'{head[2]} has another program'}", file=sys.stderr)
+            print(f"{piece.name} is searched again: {'what it learnt is cut off' if is_ours else f'{head[2]} has another program'}", file=sys.stderr)
             return None
-        if status in (PATTERN, ABSENT):
-            kept = piece.path("pattern" if status == PATTERN else "proof")
-            with open(f"{kept}.new", "w", encoding="ascii") as to:
-                if status == PATTERN and spread.is_of_kinds:
-                    to.write("\n".join(pattern_of(spread.text, file.read())) + "\n")
-                else:
-                    shutil.copyfileobj(file, to)
-            os.replace(f"{kept}.new", kept)
+        if status == UNDECIDED:
+            keep_learnt(piece, file)
+        else:
+            keep_answer(piece, status, file)
             write_whole(piece.path("took"), f"{head[2]} {head[3]}\n")
-    if status == UNDECIDED and not piece.has("other"):
-        write_whole(piece.path("other"), "")
-    elif status == UNDECIDED and piece.depth() < len(spread.order):
-        write_whole(piece.path("split"), "")
-    elif status == UNDECIDED:
-        if piece.budget() == MOST_BUDGET:
-            raise Stop(f"{piece.name} has no cell left to fix, and is undecided with the greatest budget")
-        write_whole(piece.path("tries"), str(piece.tries() + 1))
-        os.remove(piece.path("other"))
+    if status == UNDECIDED:
+        go_further(spread, piece)
     os.remove(piece.path("ended"))
     return status
+
+
+def is_whole(piece, status):
+    """Says whether what a job left ends as it has to."""
+    end = last_line(piece.path("ended"))
+    return status == PATTERN or bool((EMPTY if status == ABSENT else STEP).match(end))
+
+
+def keep_answer(piece, status, file):
+    """Keeps a proof, or makes a pattern of a model."""
+    kept = piece.path("pattern" if status == PATTERN else "proof")
+    if status == PATTERN:
+        write_whole(kept, "\n".join(pattern_of(piece.spread.text, file.read().decode("ascii"))) + "\n")
+        return
+    with open(f"{kept}.new", "wb") as to:
+        shutil.copyfileobj(file, to)
+    os.replace(f"{kept}.new", kept)
+
+
+def keep_learnt(piece, file):
+    """Keeps what a search learnt that didn't decide a piece, and which of it the next one takes."""
+    many, clauses = piece.learnt()
+    with open(piece.path("new"), "wb") as to:
+        shutil.copyfileobj(file, to)
+    live = dict(zip(own_ids(piece), clauses))
+    with open(piece.path("new"), "rb") as steps:
+        live_behind(steps, live)
+    os.replace(piece.path("new"), piece.path(str(many + 1)))
+    # What stands here counts: a file of steps without it is written anew.
+    write_whole(piece.path("live"), "".join(f"{line}\n" for line in [many + 1, *(live[word].decode("ascii") for word in shortest(live, MOST_CARRIED))]))
+
+
+def own_ids(piece, handed=None):
+    """Yields the ids, in its formula, of the clauses that a search of a piece takes from those before it: behind those of the whole, of its cells, and of the pieces above it."""
+    first = piece.spread.clauses + piece.depth() + (len(piece.handed()) if handed is None else handed) + 1
+    return (b"%d" % number for number in itertools.count(first))
+
+
+def go_further(spread, piece):
+    """Says how a piece is gone on with that isn't decided: in the other manner, in parts, or with a greater budget."""
+    if not piece.has("other"):
+        write_whole(piece.path("other"), "")
+    elif piece.depth() < len(spread.order):
+        write_whole(piece.path("split"), str(cells_to_split(piece)))
+    elif piece.budget() == MOST_BUDGET:
+        raise Stop(f"{piece.name} has no cell left to fix, and is undecided with the greatest budget")
+    else:
+        write_whole(piece.path("tries"), str(piece.tries() + 1))
+        os.remove(piece.path("other"))
 
 
 def last_line(path):
@@ -410,37 +578,14 @@ def whose():
     return f"{socket.gethostname()}.{os.getpid()}"
 
 
-def write_formula(piece, name):
-    """Writes the formula of the whole, and behind it what fixes a piece's cells."""
-    said = piece.spread.lls("cnf", f"{piece.spread.folder}/search.lls", *piece.spread.options)
-    header, _, clauses = said.stdout.partition("\n")
-    fixed = text_of(piece)
-    with open(name, "w", encoding="ascii") as file:
-        file.write(f"{' '.join(header.split()[:3])} {piece.spread.clauses + fixed.count(chr(10))}\n{clauses}{fixed}")
-
-
 def search_one(spread, piece):
     """Searches a piece and takes what comes of it."""
-    write_whole(piece.path(spread.asks()), text_of(piece))
-    part, out, formula = (piece.path(f"{name}.{whose()}") for name in ("part", "out", "cnf"))
-    try:
-        with open(out, "wb") as file:
-            began, words = time.time(), [spread.program, "search", piece.path("lls"), part, *spread.options]
-            if spread.is_of_kinds:
-                write_formula(piece, formula)
-                words = [spread.program, "sat", formula, part]
-            words += [f"--budget={piece.budget()}", f"--manner={piece.manner()}"]
-            done = subprocess.run(words, stdin=subprocess.DEVNULL, stdout=file, stderr=subprocess.PIPE, check=False)
-        if done.returncode not in (PATTERN, ABSENT, UNDECIDED):
-            raise Stop(f"{piece.name}: {done.stderr.decode(errors='replace').strip() or f'status {done.returncode}'}")
-        found = {PATTERN: out, ABSENT: part, UNDECIDED: os.devnull}[done.returncode]
-        with open(found, encoding="ascii") as file:
-            head = f"{done.returncode} {sum_of(made_of(spread.program))} {socket.gethostname()} {time.time() - began:.1f}"
+    began = time.time()
+    with Search(piece) as search:
+        status = search.run(piece.budget())
+        with open(search.out if status == PATTERN else search.part, encoding="ascii") as file:
+            head = f"{status} {sum_of(made_of(spread.program))} {socket.gethostname()} {time.time() - began:.1f}"
             write_whole(piece.path("ended"), f"{head}\n{file.read()}")
-    finally:
-        for path in (part, out, formula):
-            if os.path.exists(path):
-                os.remove(path)
     take_ended(spread, piece)
 
 
@@ -472,26 +617,27 @@ def next_of(leaves, ending_):
 
 
 class Ids(dict):
-    """The ids that the clauses of a piece have in the joined proof, as words: those of its formula by their places, and others as they are added. Those that fix its cells
-    have none, and an empty word."""
+    """The ids that the clauses of a piece's search have in the joined proof, as words: those of the whole's formula keep theirs, and those that fix its cells have none, and an
+    empty word."""
 
-    def __init__(self, piece):
+    def __init__(self, piece, handed):
         super().__init__()
-        self.units, self.count, self.path = sorted(unit_places(piece)), piece.spread.clauses, piece.path("proof")
+        self.count, self.path = piece.spread.clauses, piece.path("proof")
+        self.update((b"%d" % number, b"") for number in range(self.count + 1, self.count + piece.depth() + 1))
+        self.update(zip((b"%d" % number for number in itertools.count(self.count + piece.depth() + 1)), handed))
 
     def __missing__(self, word):
-        number = int(word)
-        if number > self.count + len(self.units):
-            raise Stop(f"{self.path}: clause {number} isn't there")
-        self[word] = b"" if number in self.units else b"%d" % (number - bisect.bisect(self.units, number))
-        return self[word]
+        if int(word) > self.count:
+            raise Stop(f"{self.path}: clause {int(word)} isn't there")
+        return word
 
 
-class Joined:
-    """The proof that is written, behind the additions up to an id: its clauses have ids of their own, one after the other. All is words as bytes, since few of them change."""
+class Steps:
+    """Steps of the proof that is written, behind the additions up to an id: its clauses have ids of their own, one after the other. All is words as bytes, since few of them
+    change."""
 
-    def __init__(self, spread, file, last):
-        self.spread, self.file, self.last = spread, file, last
+    def __init__(self, file, last):
+        self.file, self.last = file, last
 
     def add(self, lits, hints):
         self.last += 1
@@ -503,100 +649,113 @@ class Joined:
         if ids:
             self.file.write(b" ".join([b"%d d" % self.last, *ids, b"0\n"]))
 
-    def piece(self, piece):
-        """Writes what closes a piece, and returns the id of the clause that says so: not all of its cells are fixed that way."""
-        if not piece.has("split") and piece.depth() >= self.spread.cells:
-            return self.leaf(piece)
-        closing = [self.piece(part) for part in piece.parts()]
-        last = self.add([b"%d" % lit for lit in negations(piece)], closing)
-        self.delete(closing)
-        return last
-
-    def leaf(self, piece):
+    def search(self, piece, path, handed, taken):
+        """Writes the steps of a search of a piece that had clauses of these ids from the pieces above it, and these of its own, each an id and its literals. Returns those
+        that its next search takes, none where this one closes it."""
         outside = [b"%d" % lit for lit in negations(piece)]
-        ids, own = Ids(piece), {}
-        with open(piece.path("proof"), "rb") as file:
-            for line in file:
-                words = line.split()
+        ids, live = Ids(piece, [*handed, *(added for added, _ in taken)]), {}
+        live.update(zip(own_ids(piece, len(handed)), (lits for _, lits in taken)))
+        with open(path, "rb") as file:
+            for words in map(bytes.split, file):
                 if words[1] == b"d":
-                    gone = [word for word in words[2:-1] if word in own]
-                    self.delete([own.pop(word) and ids.pop(word) for word in gone])
+                    gone = [word for word in words[2:-1] if word in live]
+                    self.delete([live.pop(word) and ids.pop(word) for word in gone])
                     continue
                 end = words.index(b"0", 1)
                 lits = words[1:end]
                 hints = filter(None, map(ids.__getitem__, words[end + 1 : -1]))
-                added = self.add(lits + [lit for lit in outside if lit not in lits], hints)
+                ids[words[0]] = self.add(lits + [lit for lit in outside if lit not in lits], hints)
                 if not lits:
-                    self.delete(list(own.values()))
-                    return added
-                own[words[0]] = ids[words[0]] = added
-        raise Stop(f"{piece.path('proof')} adds no empty clause")
+                    self.delete([ids[word] for word in live])
+                    return []
+                live[words[0]] = b" ".join(lits)
+        kept = dict.fromkeys(shortest(live, MOST_CARRIED))
+        self.delete([ids[word] for word in live if word not in kept])
+        return [(ids[word], live[word]) for word in kept]
+
+    def searches(self, piece, handed):
+        """Writes the steps of all searches of a piece, and returns the ids of what they leave for its parts."""
+        taken = []
+        for path in piece.searches():
+            taken = self.search(piece, path, handed, taken)
+        return [added for added, _ in taken]
 
 
-class JoinedTogether(Joined):
-    """The same with leaves that several processes write at once, each into a file of its own, which is put behind the others then."""
+class Counted(Steps):
+    """The same, of which only the ids are wanted."""
+
+    def add(self, lits, hints):
+        self.last += 1
+        return b"%d" % self.last
+
+    def delete(self, ids):
+        pass
+
+
+class Joined(Steps):
+    """The joined proof. Several processes write the steps of its pieces at once, each into a file of its own, which is put behind the others then."""
 
     def __init__(self, spread, file, pool, room):
-        super().__init__(spread, file, spread.clauses)
-        leaves = list(spread.leaves())
-        self.counts = dict(zip([leaf.name for leaf in leaves], pool.map(additions_of, leaves)))
-        begins = []
-        self.number(Piece(spread, "r"), self.last, begins)
-        self.written = pool.imap(write_leaf, [(leaf, last, f"{room}/{leaf.name}") for leaf, last in begins])
+        super().__init__(file, spread.clauses)
+        self.leaves, self.room, self.tasks, self.left = {leaf.name for leaf in spread.leaves()}, room, [], {}
+        self.plan(Piece(spread, "r"), self.last, [])
+        self.written = pool.imap(write_steps, self.tasks)
 
-    def number(self, piece, last, begins):
-        """Lists the leaves of a piece, each with the last id before it, and returns the last one of the piece."""
-        if piece.name in self.counts:
-            begins.append((piece, last))
-            return last + self.counts[piece.name]
+    def plan(self, piece, last, handed):
+        """Lists the pieces that were searched, each with the last id before its steps and the ids that it is handed, and returns the last id of the piece."""
+        if searches := piece.searches():
+            self.tasks.append((piece, last, handed, f"{self.room}/{piece.name}"))
+        if piece.name in self.leaves:
+            return last + sum(map(additions_of, searches))
+        counted = Counted(None, last)
+        self.left[piece.name] = counted.searches(piece, handed)
+        last = counted.last
         for part in piece.parts():
-            last = self.number(part, last, begins)
+            last = self.plan(part, last, handed + self.left[piece.name])
         return last + 1
 
-    def leaf(self, piece):
-        name = next(self.written)
+    def piece(self, piece):
+        """Writes what closes a piece, and returns the id of the clause that says so: not all of its cells are fixed that way."""
+        if piece.searches():
+            self.take()
+        if piece.name in self.leaves:
+            return b"%d" % self.last
+        closing = [self.piece(part) for part in piece.parts()]
+        last = self.add([b"%d" % lit for lit in negations(piece)], closing)
+        self.delete(closing + self.left[piece.name])
+        return last
+
+    def take(self):
+        """Puts the next steps behind the others."""
+        name, self.last = next(self.written)
         with open(name, "rb") as file:
             shutil.copyfileobj(file, self.file, 1 << 20)
         os.remove(name)
-        self.last += self.counts[piece.name]
-        return b"%d" % self.last
 
 
-def additions_of(piece):
-    """Returns how many additions the proof of a piece has."""
+def additions_of(path):
+    """Returns how many additions a proof has."""
     count = 0
-    with open(piece.path("proof"), "rb") as file:
+    with open(path, "rb") as file:
         while text := file.read(1 << 22) + file.readline():
             count += text.count(b"\n") - text.count(b" d ")
     return count
 
 
-def write_leaf(task):
-    """Writes what a piece's proof is in the whole, and returns the file's name."""
-    piece, last, name = task
+def write_steps(task):
+    """Writes the steps of a piece behind an id into a file, and returns its name and the last id then."""
+    piece, last, handed, name = task
     with open(name, "wb") as file:
-        Joined(piece.spread, file, last).leaf(piece)
-    return name
+        steps = Steps(file, last)
+        if steps.searches(piece, handed) and piece.has("proof"):
+            raise Stop(f"{piece.path('proof')} adds no empty clause")
+    return name, steps.last
 
 
 def negations(piece):
     """Returns the literals that say that not all of a piece's cells are fixed as they are."""
     width = len(piece.spread.generations[0][0])
     return [(1 + x + width * y) * (1 if digit == "0" else -1) for (y, x), digit in piece.fixed().items()]
-
-
-def unit_places(piece):
-    """Returns the ids of the clauses that fix a piece's cells: known cells come first in a formula, by row and column. Of one that is searched by the
-    formula of the whole they stand behind that."""
-    fixed, places, count = piece.fixed(), set(), 0
-    if piece.spread.is_of_kinds:
-        return set(range(piece.spread.clauses + 1, piece.spread.clauses + len(fixed) + 1))
-    for y, row in enumerate(piece.generations()[0]):
-        for x, word in enumerate(row):
-            count += word.rstrip("'") in ("0", "1")
-            if (y, x) in fixed:
-                places.add(count)
-    return places
 
 
 def trim_joined(spread, proof):
@@ -617,7 +776,7 @@ def join_to(spread, name):
     """Writes the joined proof to a file."""
     rooms = tempfile.TemporaryDirectory(prefix="joining-", dir=spread.folder)
     with open(name, "wb") as file, rooms as room, multiprocessing.Pool(len(os.sched_getaffinity(0))) as pool:
-        JoinedTogether(spread, file, pool, room).piece(Piece(spread, "r"))
+        Joined(spread, file, pool, room).piece(Piece(spread, "r"))
 
 
 def join(words):
