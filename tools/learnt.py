@@ -1,6 +1,14 @@
 """What a search learnt, as its log has it: which clauses are live behind it, and which of them a search that goes on takes with it."""
 
 
+def clause_and_hints(rest):
+    """Parts what stands behind the id of an addition: its literals, and its hints with the 0 at their end."""
+    if rest.startswith(b"0 "):
+        return b"", rest[2:]
+    lits, _, hints = rest.partition(b" 0 ")
+    return lits, hints
+
+
 def live_behind(lines, live):
     """Changes the literals of live clauses, by id, to those that are live behind the lines of a log. All is words as bytes."""
     for line in lines:
@@ -8,10 +16,8 @@ def live_behind(lines, live):
         if rest.startswith(b"d "):
             for word in rest.split()[1:-1]:
                 live.pop(word, None)
-        elif rest.startswith(b"0 "):
-            live[added] = b""
         else:
-            live[added] = rest.partition(b" 0 ")[0]
+            live[added] = clause_and_hints(rest)[0]
 
 
 def shortest(live, most):

@@ -114,6 +114,7 @@ class Names(dict):
     """The ids that the clauses of a round have in PROOF, as words: those of the formula keep theirs."""
 
     def __missing__(self, word):
+        self[word] = word
         return word
 
 

@@ -51,15 +51,15 @@ import tempfile
 import time
 
 import ending
-from learnt import live_behind, shortest
+from learnt import clause_and_hints, live_behind, shortest
 from pattern import pattern_of
 from refute import read_search_file
 from with_solver import without_making
 
 OPTIONS = ("rule", "edge", "symmetry", "period", "exact", "live", "differ", "images", "formula")
 FIRST_BUDGET, MOST_BUDGET = 100_000, 10_000_000
-# What a short search may learn, how many parts of a piece are searched so at most, and by how many cells the whole is split where half of its parts end so if it is small.
-PROBE_BUDGET, PROBES, SMALL_PARTS = 2_000, 8, 6
+# What a short search may learn, how many parts of a piece are searched so at most, and by how many cells the whole is split where more than half of its parts end so if it is small.
+PROBE_BUDGET, PROBES, SMALL_PARTS = 2_000, 8, 9
 # So many clauses a search takes from those of a piece before it.
 MOST_CARRIED = 2_000
 # the seconds of a day
@@ -368,7 +368,7 @@ def cells_for(pieces):
 
 def cells_to_begin_with(spread, processors):
     """Returns how many cells are fixed at first: for a piece on each processor, and for four of them where the whole is large, since they aren't equally hard."""
-    is_small = share_done(Piece(spread, "r"), SMALL_PARTS) >= 0.5
+    is_small = share_done(Piece(spread, "r"), SMALL_PARTS) > 0.5
     return min(len(spread.order), cells_for(processors if is_small else 4 * processors))
 
 
@@ -629,6 +629,7 @@ class Ids(dict):
     def __missing__(self, word):
         if int(word) > self.count:
             raise Stop(f"{self.path}: clause {int(word)} isn't there")
+        self[word] = word
         return word
 
 
@@ -639,10 +640,10 @@ class Steps:
     def __init__(self, file, last):
         self.file, self.last = file, last
 
-    def add(self, lits, hints):
+    def add(self, clause, hints):
         self.last += 1
         added = b"%d" % self.last
-        self.file.write(b" ".join([added, *lits, b"0", *hints, b"0\n"]))
+        self.file.write(b" ".join([added, clause, b"0", *hints, b"0\n"] if clause else [added, b"0", *hints, b"0\n"]))
         return added
 
     def delete(self, ids):
@@ -656,19 +657,20 @@ class Steps:
         ids, live = Ids(piece, [*handed, *(added for added, _ in taken)]), {}
         live.update(zip(own_ids(piece, len(handed)), (lits for _, lits in taken)))
         with open(path, "rb") as file:
-            for words in map(bytes.split, file):
-                if words[1] == b"d":
-                    gone = [word for word in words[2:-1] if word in live]
+            for line in file:
+                added, _, rest = line.partition(b" ")
+                if rest.startswith(b"d "):
+                    gone = [word for word in rest.split()[1:-1] if word in live]
                     self.delete([live.pop(word) and ids.pop(word) for word in gone])
                     continue
-                end = words.index(b"0", 1)
-                lits = words[1:end]
-                hints = filter(None, map(ids.__getitem__, words[end + 1 : -1]))
-                ids[words[0]] = self.add(lits + [lit for lit in outside if lit not in lits], hints)
+                lits, hints = clause_and_hints(rest)
+                spaced = b" %s " % lits
+                more = [lit for lit in outside if b" %s " % lit not in spaced]
+                ids[added] = self.add(b" ".join([lits, *more] if lits else more), filter(None, map(ids.__getitem__, hints.split()[:-1])))
                 if not lits:
                     self.delete([ids[word] for word in live])
                     return []
-                live[words[0]] = b" ".join(lits)
+                live[added] = lits
         kept = dict.fromkeys(shortest(live, MOST_CARRIED))
         self.delete([ids[word] for word in live if word not in kept])
         return [(ids[word], live[word]) for word in kept]
@@ -684,7 +686,7 @@ class Steps:
 class Counted(Steps):
     """The same, of which only the ids are wanted."""
 
-    def add(self, lits, hints):
+    def add(self, clause, hints):
         self.last += 1
         return b"%d" % self.last
 
@@ -721,7 +723,7 @@ class Joined(Steps):
         if piece.name in self.leaves:
             return b"%d" % self.last
         closing = [self.piece(part) for part in piece.parts()]
-        last = self.add([b"%d" % lit for lit in negations(piece)], closing)
+        last = self.add(b" ".join(b"%d" % lit for lit in negations(piece)), closing)
         self.delete(closing + self.left[piece.name])
         return last
 

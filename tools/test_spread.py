@@ -151,7 +151,7 @@ class Pieces(unittest.TestCase):
 
     def test_how_many_cells(self):
         self.assertEqual([spread.cells_for(pieces) for pieces in (1, 2, 3, 4, 5, 64)], [0, 1, 2, 2, 3, 6])
-        for share, begun, split in ((0, 5, 3), (0.4, 5, 1), (0.5, 3, 1), (1, 3, 1)):
+        for share, begun, split in ((0, 5, 3), (0.5, 5, 1), (0.6, 3, 1), (1, 3, 1)):
             with unittest.mock.patch("spread.share_done", return_value=share):
                 self.assertEqual((spread.cells_to_begin_with(self.piece("r").spread, 8), spread.cells_to_split(self.piece("r0"))), (begun, split), share)
                 self.assertEqual(spread.cells_to_split(self.piece("r0101")), 1)
