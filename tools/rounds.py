@@ -11,7 +11,7 @@ by --seconds or by a machine that goes away, what is lost is one round at most. 
 
 Prints what the command prints: a pattern (status 10), which `lls judge` judged, `no pattern` (20), or where `least K` is said (10) that there is none with fewer, where PROOF is a proof that
 `lls check` accepted, or `undecided` or `at most K` (30), where PROOF is a log. It isn't said to be spent, as the log of one search is: a round is a search for itself, and what is let
-go between two rounds, all but the shortest 20,000 clauses, may be learnt again. Nothing here has to be trusted. A refusal of the program is printed with its status.
+go between two rounds, all but the shortest 4,000 clauses, may be learnt again. Nothing here has to be trusted. A refusal of the program is printed with its status.
 """
 import os
 import re
@@ -19,18 +19,17 @@ import shutil
 import signal
 import subprocess
 import sys
-import tempfile
 import time
 
 import ending
 from pattern import BadInput, pattern_of
-from spread import manners_of
+from spread import manners_of, whose
 from with_solver import LLS, NoAnswer, run, without_making
 
 PATTERN, ABSENT, UNDECIDED, INTERRUPTED = 10, 20, 30, 130
 FIRST_BUDGET, MOST_BUDGET = 10_000, 10_000_000
 # So many clauses a round takes from those before it, the shortest ones.
-MOST_CARRIED = 20_000
+MOST_CARRIED = 4_000
 COMMANDS = ("search", "sat", "least", "most")
 # Words on the search that are no words on the question.
 OF_SEARCH = ("budget", "keep", "manner", "first")
@@ -320,6 +319,25 @@ def find_extreme(command, rounds_of, room):
         return INTERRUPTED
 
 
+class Room:
+    """A folder beside PROOF for what is under way, which is gone at the end. One that was left by a process of this machine that was killed is gone at the begin."""
+
+    def __init__(self, proof):
+        folder, last = os.path.split(os.path.abspath(proof))
+        self.name = f"{folder}/.{last}.rounds.{whose()}"
+        front = self.name.rpartition(".")[0] + "."
+        for name in (f"{folder}/{it}" for it in os.listdir(folder)):
+            if name.startswith(front) and not os.path.exists(f"/proc/{name.removeprefix(front)}"):
+                shutil.rmtree(name)
+
+    def __enter__(self):
+        os.mkdir(self.name)
+        return self.name
+
+    def __exit__(self, *_):
+        shutil.rmtree(self.name)
+
+
 def stop(*_):
     raise KeyboardInterrupt
 
@@ -333,9 +351,8 @@ def main():
         say(f"rounds are of {', '.join(COMMANDS)}, without --{' and --'.join(OF_CREW)}, and --from is of search and sat")
         return 2
     signal.signal(signal.SIGTERM, stop)
-    folder = os.path.dirname(os.path.abspath(proof))
     try:
-        with tempfile.TemporaryDirectory(prefix=".rounds-", dir=folder) as room:
+        with Room(proof) as room:
 
             def rounds_of(bound):
                 return Rounds(Question(program, command, search, words, bound), proof, room, end, budget)

@@ -4,9 +4,11 @@
     test_rounds.py
 """
 import os
+import socket
 import tempfile
 import unittest
 
+import rounds
 from test_tools import TOP, ran
 
 # Its formula has three clauses. Round N answers what stands in `N.said`, with the status in its first line, and writes `N.part`; a formula that it is handed is
@@ -125,6 +127,15 @@ class Searches(unittest.TestCase):
             self.assertEqual((done[:2], self.read("asked").split(), self.read("proof")), (ends, [f"--live={bound}" for bound in bounds], proof), (rounds, done))
         done = self.searched([(10, MODEL), (*UNDECIDED, FIRST)], asked=("most", "q.lls"), words=("--budget", "2"))
         self.assertEqual((done[:2], self.read("proof")), ((30, "at least 2\n0 1 0 1\n"), FIRST), done)
+
+    def test_what_a_process_that_was_killed_left(self):
+        front = f".proof.rounds.{socket.gethostname()}."
+        with tempfile.TemporaryDirectory() as folder:
+            for name in (f"{front}{2**30}", f"{front}1", ".other.rounds.1"):
+                os.mkdir(f"{folder}/{name}")
+            with rounds.Room(f"{folder}/proof"):
+                self.assertEqual(sorted(os.listdir(folder)), sorted([f"{front}1", f"{front}{os.getpid()}", ".other.rounds.1"]))
+            self.assertEqual(sorted(os.listdir(folder)), sorted([f"{front}1", ".other.rounds.1"]))
 
     def test_what_cant_be(self):
         for asked, words, status in ((("open", "q.lls"), (), 2), (("search", "q.lls"), ("--crew", "2"), 2), (("search", "other.lls"), (), 3), (("search", "q.lls"), ("--budget", "x"), 1)):
