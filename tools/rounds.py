@@ -231,8 +231,8 @@ class Rounds:
         if done.returncode in (ABSENT, UNDECIDED):
             self.log.take(part, carried)
             self.put()
-        took = time.monotonic() - self.began
-        say(f"{self.log.additions:,} clauses learnt, {len(self.log.live):,} of them live, {took:.1f} s")
+            took = time.monotonic() - self.began
+            say(f"{self.log.additions:,} clauses learnt, {len(self.log.live):,} of them live, {took:.1f} s")
         return done.returncode, done.stdout.decode("ascii", errors="replace")
 
     def run(self):

@@ -25,7 +25,7 @@ esac
 PIECES = """#!/bin/bash
 case $1 in
 cnf) echo 'p cnf 4 5' ;;
-search) echo '7 0 1 2 0' >"$3"; echo 'no pattern'; exit 20 ;;
+sat) echo '7 0 1 6 0' >"$3"; echo 's UNSATISFIABLE'; exit 20 ;;
 check) echo accepted ;;
 esac
 """
@@ -123,7 +123,7 @@ class Entries(unittest.TestCase):
             self.assertEqual(sorted(os.listdir(self.folder)), before)
 
     def test_in_pieces(self):
-        """Two pieces, each refuted by its first clause and the second one behind the clause that fixes its cell."""
+        """Two pieces, each refuted by the formula's first clause and the one behind the formula that fixes its cell."""
         self.write("lls", PIECES)
         self.write("none.lls", "#! --period 1\n* *\n\n* *\n")
         joined = "6 1 0 1 0\n7 -1 0 1 0\n8 0 6 7 0\n8 d 6 7 0\n"
