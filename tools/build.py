@@ -23,6 +23,33 @@ CRATES = f"{TOP}/crates"
 # What a proof may take of memory, in bytes, with one job.
 ROOM = 4_500_000_000
 PARTS = ("src", "specs", "proofs")
+# What proofs took, in processor seconds on a slow machine (1 December 2026): an order goes by them, and nothing else. `tools/costs.py` measures them.
+SECONDS = {
+    "lls_analyse": 174,
+    "lls_answers": 222,
+    "lls_arena": 84,
+    "lls_base": 108,
+    "lls_cli": 318,
+    "lls_cnf": 102,
+    "lls_crew": 96,
+    "lls_encode": 174,
+    "lls_hensel": 132,
+    "lls_least": 66,
+    "lls_lrat": 312,
+    "lls_open": 72,
+    "lls_order": 180,
+    "lls_problem": 156,
+    "lls_prooflog": 240,
+    "lls_rle": 126,
+    "lls_search_file": 174,
+    "lls_solver": 438,
+    "lls_store": 90,
+    "lls_symmetry": 90,
+    "lls_trim": 174,
+    "lls_watch": 120,
+    "lls_words": 246,
+}
+LINES_A_SECOND = 30
 
 
 def uses_of(text):
@@ -40,17 +67,17 @@ def below(uses, crate):
     return found
 
 
-def lines_of(crate):
-    """Returns how many lines a crate has, by which its cost is guessed."""
+def seconds_of(crate):
+    """Returns about how many seconds a crate takes: as many as were measured, or else by its lines."""
     files = [f"{at}/{name}" for part in PARTS for at, _, names in os.walk(f"{CRATES}/{crate}/{part}") for name in names]
-    return sum(open(it, "rb").read().count(b"\n") for it in files)
+    return SECONDS.get(crate) or sum(open(it, "rb").read().count(b"\n") for it in files) / LINES_A_SECOND
 
 
 def waiting(uses, crates):
-    """Returns for each crate how many lines the longest chain has that begins with it."""
+    """Returns for each crate how many seconds the longest chain has that begins with it."""
     chain = {}
     for it in reversed(crates):
-        chain[it] = lines_of(it) + max((chain[other] for other in crates if it in uses[other]), default=0)
+        chain[it] = seconds_of(it) + max((chain[other] for other in crates if it in uses[other]), default=0)
     return chain
 
 
