@@ -1,6 +1,5 @@
 pub mod Answered
 pub mod FirstNumbers
-pub mod FirstEnds
 pub mod ProofParts
 pub mod ReaderParts
 pub mod WrittenNumbers

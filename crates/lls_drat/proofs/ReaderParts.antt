@@ -14,7 +14,7 @@ use Rattle.lls_drat.specs.declared.reader.Taken.{Taken}
 use Rattle.lls_drat.specs.declared.reader.Taken.TheVariants as takings
 use Rattle.lls_drat.specs.Proof.{no_more, before_proof, with_next, proof_from}
 use Rattle.lls_drat.specs.Reading.{Reading, to_come, taken, has_end, MeetsFault}
-use Rattle.lls_drat.specs.Waiting.{Waits, IsFirstEnd}
+use Rattle.lls_text.specs.WaitingBytes.{WaitingState, IsFirstEnd}
 use Rattle.lls_drat.specs.Piece.{piece, tail}
 use Rattle.lls_drat.specs.Takings.{Came}
 use Rattle.lls_drat.proofs.ProofParts.{proof_from-first, proof_from-last, proof_from-none}
@@ -38,31 +38,30 @@ taken_of None = takings.Blank
 taken_of (Some kind) = takings.Lemma kind
 
 -- the same as a reader has it: the bytes that wait, as they are when the first is found, and what is left of them
-comes : (w w' : Waits) (form : Form) (bytes : List ℕ) (count before len : ℕ) (lits lits' : List ℤ) (answer : Result (Option Lemma) DratFault) → w' ≡ w → form ≡ w'.form → bytes ≡ w'.bytes → IsFirstEnd (end_byte w.form) w.bytes len → piece form (count + 1) before (take len bytes) ≡ answer
-    → (more : List ℕ) → to_come (at w.form count before w.bytes lits) more ≡ with_next (count + 1) answer (to_come (at w.form (count + 1) (before + (len + 1)) (drop (len + 1) w.bytes) lits') more)
-comes w w' form bytes count before len lits lits' answer same is_form is_bytes h e =
-    let f : w.form ≡ form = sym (is_form ∙ ap (λ (v : Waits). v.form) same) in
-    let b : w.bytes ≡ bytes = sym (is_bytes ∙ ap (λ (v : Waits). v.bytes) same) in
-    comes-first w.form count before len w.bytes lits lits' answer h (ap (λ (g : Form). piece g (count + 1) before (take len w.bytes)) f ∙ ap (λ (t : List ℕ). piece form (count + 1) before (take len t)) b ∙ e)
+comes : (form : Form) (w w' : WaitingState) (bytes : List ℕ) (count before len : ℕ) (lits lits' : List ℤ) (answer : Result (Option Lemma) DratFault) → w.end ≡ end_byte form → w' ≡ w → bytes ≡ w'.bytes → IsFirstEnd w.end w.bytes len → piece form (count + 1) before (take len bytes) ≡ answer
+    → (more : List ℕ) → to_come (at form count before w.bytes lits) more ≡ with_next (count + 1) answer (to_come (at form (count + 1) (before + (len + 1)) (drop (len + 1) w.bytes) lits') more)
+comes form w w' bytes count before len lits lits' answer ends same is_bytes h e =
+    let b : w.bytes ≡ bytes = sym (is_bytes ∙ ap (λ (v : WaitingState). v.bytes) same) in
+    comes-first form count before len w.bytes lits lits' answer (rw (← ends) h) (ap (λ (t : List ℕ). piece form (count + 1) before (take len t)) b ∙ e)
 
-abbrev left : Waits → ℕ → Waits
+abbrev left : WaitingState → ℕ → WaitingState
 left w count = record w { bytes = drop count w.bytes }
 
-pub taken_first : (w w' w'' : Waits) (form : Form) (bytes : List ℕ) (count before len : ℕ) (lits lits' : List ℤ) (kind : Option Kind) (came : Taken) → w' ≡ w → form ≡ w'.form → bytes ≡ w'.bytes → w'' ≡ left w' (len + 1) → IsFirstEnd (end_byte w.form) w.bytes len → piece form (count + 1) before (take len bytes) ≡ Ok (option_map (λ k. record { kind = k; lits = lits' }) kind)
-    → came ≡ taken_of kind → Came came (at w.form count before w.bytes lits) (at w''.form (count + 1) (before + (len + 1)) w''.bytes lits')
-taken_first w w' w'' form bytes count before len lits lits' None came same is_form is_bytes rest h e is =
-    let next : w'' ≡ left w (len + 1) = rest ∙ ap (λ (v : Waits). left v (len + 1)) same in
+pub taken_first : (form : Form) (w w' w'' : WaitingState) (bytes : List ℕ) (count before len : ℕ) (lits lits' : List ℤ) (kind : Option Kind) (came : Taken) → w.end ≡ end_byte form → w' ≡ w → bytes ≡ w'.bytes → w'' ≡ left w' (len + 1) → IsFirstEnd w.end w.bytes len → piece form (count + 1) before (take len bytes) ≡ Ok (option_map (λ k. record { kind = k; lits = lits' }) kind)
+    → came ≡ taken_of kind → Came came (at form count before w.bytes lits) (at form (count + 1) (before + (len + 1)) w''.bytes lits')
+taken_first form w w' w'' bytes count before len lits lits' None came ends same is_bytes rest h e is =
+    let next : w'' ≡ left w (len + 1) = rest ∙ ap (λ (v : WaitingState). left v (len + 1)) same in
     rw (is, next) (record {
-      keeps = comes w w' form bytes count before len lits lits' (Ok None) same is_form is_bytes h e;
+      keeps = comes form w w' bytes count before len lits lits' (Ok None) ends same is_bytes h e;
       shorter = omega (arith, h.within, length-drop (len + 1) w.bytes);
     })
-taken_first w w' w'' form bytes count before len lits lits' (Some kind) came same is_form is_bytes rest h e is =
-    let next : w'' ≡ left w (len + 1) = rest ∙ ap (λ (v : Waits). left v (len + 1)) same in
-    rw (is, next) (comes w w' form bytes count before len lits lits' (Ok (Some (record { kind = kind; lits = lits' }))) same is_form is_bytes h e)
+taken_first form w w' w'' bytes count before len lits lits' (Some kind) came ends same is_bytes rest h e is =
+    let next : w'' ≡ left w (len + 1) = rest ∙ ap (λ (v : WaitingState). left v (len + 1)) same in
+    rw (is, next) (comes form w w' bytes count before len lits lits' (Ok (Some (record { kind = kind; lits = lits' }))) ends same is_bytes h e)
 
 -- a fault of the first
-pub meets_first : (w w' : Waits) (form : Form) (bytes : List ℕ) (count before len : ℕ) (lits : List ℤ) (fault : DratFault) → w' ≡ w → form ≡ w'.form → bytes ≡ w'.bytes → IsFirstEnd (end_byte w.form) w.bytes len → piece form (count + 1) before (take len bytes) ≡ Err fault → MeetsFault fault (at w.form count before w.bytes lits)
-meets_first w w' form bytes count before len lits fault same is_form is_bytes h e = comes w w' form bytes count before len lits lits (Err fault) same is_form is_bytes h e
+pub meets_first : (form : Form) (w w' : WaitingState) (bytes : List ℕ) (count before len : ℕ) (lits : List ℤ) (fault : DratFault) → w.end ≡ end_byte form → w' ≡ w → bytes ≡ w'.bytes → IsFirstEnd w.end w.bytes len → piece form (count + 1) before (take len bytes) ≡ Err fault → MeetsFault fault (at form count before w.bytes lits)
+meets_first form w w' bytes count before len lits fault ends same is_bytes h e = comes form w w' bytes count before len lits lits (Err fault) ends same is_bytes h e
 
 -- the error that a call passes on
 pub passed_on : {X : Type 0} (result : Result X DratError) (error : DratError) (fault : DratFault) → IsErrAnd result (λ e. e ≡ error) → result ≡ Err (errors.Fault fault) → error ≡ errors.Fault fault
@@ -70,20 +69,20 @@ passed_on (Ok value) error fault is e = absurd is
 passed_on (Err other) error fault is e = let same : other ≡ errors.Fault fault = cc in sym is ∙ same
 
 -- what has no end, where the proof ends
-pub ends : (w : Waits) (form : Form) (bytes : List ℕ) (count before : ℕ) (lits : List ℤ) (answer : Result (Option Lemma) DratFault) → form ≡ w.form → bytes ≡ w.bytes → 0 < length bytes → has_end w.form w.bytes ≡ false → tail form (count + 1) before bytes ≡ answer → to_come (at w.form count before w.bytes lits) [] ≡ with_next (count + 1) answer no_more
-ends w form bytes count before lits answer is_form is_bytes some none e =
+pub ends : (form : Form) (w : WaitingState) (bytes : List ℕ) (count before : ℕ) (lits : List ℤ) (answer : Result (Option Lemma) DratFault) → bytes ≡ w.bytes → 0 < length bytes → has_end form w.bytes ≡ false → tail form (count + 1) before bytes ≡ answer → to_come (at form count before w.bytes lits) [] ≡ with_next (count + 1) answer no_more
+ends form w bytes count before lits answer is_bytes some none e =
     let more : 0 < length w.bytes = rw (← is_bytes) some in
-    ap (proof_from w.form count before) (append-nil w.bytes)
-    ∙ proof_from-last w.form count before w.bytes more none
-    ∙ ap (λ a. with_next (count + 1) a no_more) (ap (λ (g : Form). tail g (count + 1) before w.bytes) (sym is_form) ∙ ap (λ (t : List ℕ). tail form (count + 1) before t) (sym is_bytes) ∙ e)
+    ap (proof_from form count before) (append-nil w.bytes)
+    ∙ proof_from-last form count before w.bytes more none
+    ∙ ap (λ a. with_next (count + 1) a no_more) (ap (λ (t : List ℕ). tail form (count + 1) before t) (sym is_bytes) ∙ e)
 
-pub none_left : (w w'' : Waits) (bytes : List ℕ) (count before : ℕ) (lits : List ℤ) → bytes ≡ w.bytes → w'' ≡ left w (length bytes) → to_come (at w''.form count before w''.bytes lits) [] ≡ no_more
-none_left w w'' bytes count before lits is_bytes rest =
+pub none_left : (form : Form) (w w'' : WaitingState) (bytes : List ℕ) (count before : ℕ) (lits : List ℤ) → bytes ≡ w.bytes → w'' ≡ left w (length bytes) → to_come (at form count before w''.bytes lits) [] ≡ no_more
+none_left form w w'' bytes count before lits is_bytes rest =
     let empty : drop (length bytes) w.bytes ≡ [] = ap (λ (t : List ℕ). drop (length t) w.bytes) is_bytes ∙ drop-length w.bytes in
-    rw (rest, empty) (proof_from-none w.form count before)
+    rw (rest, empty) (proof_from-none form count before)
 
-pub taken_last : (w w'' : Waits) (form : Form) (bytes : List ℕ) (count before : ℕ) (lits lits' : List ℤ) (kind : Kind) → form ≡ w.form → bytes ≡ w.bytes → 0 < length bytes → has_end w.form w.bytes ≡ false → tail form (count + 1) before bytes ≡ Ok (Some (record { kind = kind; lits = lits' })) → w'' ≡ left w (length bytes)
-    → to_come (at w.form count before w.bytes lits) [] ≡ before_proof (taken kind (at w''.form (count + 1) (before + length bytes) w''.bytes lits')) (to_come (at w''.form (count + 1) (before + length bytes) w''.bytes lits') [])
-taken_last w w'' form bytes count before lits lits' kind is_form is_bytes some none e rest =
-    ends w form bytes count before lits (Ok (Some (record { kind = kind; lits = lits' }))) is_form is_bytes some none e
-    ∙ ap (before_proof (record { number = count + 1; lemma = record { kind = kind; lits = lits' } })) (sym (none_left w w'' bytes (count + 1) (before + length bytes) lits' is_bytes rest))
+pub taken_last : (form : Form) (w w'' : WaitingState) (bytes : List ℕ) (count before : ℕ) (lits lits' : List ℤ) (kind : Kind) → bytes ≡ w.bytes → 0 < length bytes → has_end form w.bytes ≡ false → tail form (count + 1) before bytes ≡ Ok (Some (record { kind = kind; lits = lits' })) → w'' ≡ left w (length bytes)
+    → to_come (at form count before w.bytes lits) [] ≡ before_proof (taken kind (at form (count + 1) (before + length bytes) w''.bytes lits')) (to_come (at form (count + 1) (before + length bytes) w''.bytes lits') [])
+taken_last form w w'' bytes count before lits lits' kind is_bytes some none e rest =
+    ends form w bytes count before lits (Ok (Some (record { kind = kind; lits = lits' }))) is_bytes some none e
+    ∙ ap (before_proof (record { number = count + 1; lemma = record { kind = kind; lits = lits' } })) (sym (none_left form w w'' bytes (count + 1) (before + length bytes) lits' is_bytes rest))

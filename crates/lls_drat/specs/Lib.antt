@@ -9,7 +9,6 @@ pub mod Stretch
 pub mod Proof
 pub mod Written
 pub mod Reading
-pub mod Waiting
 pub mod Takings
 pub mod Piece
 pub mod FaultText

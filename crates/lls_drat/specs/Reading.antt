@@ -1,6 +1,6 @@
 -- A proof that is read as its bytes come.
-use Rattle.std.specs.Prelude.{◌≡◌, ℕ, ℤ, Bool, ◌==◌, List, [], ◌++◌}
-use Rattle.std.specs.List.{list_any}
+use Rattle.std.specs.Prelude.{◌≡◌, ◌≤◌, ◌<◌, ◌+◌, ◌^◌, ℕ, ℤ, Bool, List, [], ◌++◌, length}
+use Rattle.lls_text.specs.WaitingBytes.{WaitingState, has_byte}
 use Rattle.lls_drat.specs.declared.form.Form.{Form}
 use Rattle.lls_drat.specs.declared.kind.Kind.{Kind}
 use Rattle.lls_drat.specs.declared.drat_fault.DratFault.{DratFault}
@@ -41,4 +41,10 @@ MeetsFault fault reading = (more : List ℕ) → to_come reading more ≡ at_fau
 
 -- whether some line or lemma has its end there
 abbrev pub has_end : Form → List ℕ → Bool
-has_end form bytes = list_any (λ b. b == end_byte form) bytes
+has_end form bytes = has_byte (end_byte form) bytes
+
+-- for private contracts alone: a reader of a proof of that form, of which so many lines or lemmas were taken, and so many bytes
+pub record IsReader (form : Form) (count before : ℕ) (waiting : WaitingState) : Type 0 where
+  pub end : waiting.end ≡ end_byte form
+  pub within : count ≤ before
+  pub room : before + length waiting.bytes + 1 < 2 ^ 64

@@ -13,7 +13,6 @@ mod number;
 mod numbers;
 mod reader;
 mod stretch;
-mod waiting;
 
 pub use drat_error::DratError;
 pub use drat_fault::DratFault;

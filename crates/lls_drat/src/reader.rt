@@ -13,11 +13,11 @@ ghost use Rattle.lls_drat.specs.Piece.{text_piece, piece, tail};
 
 use crate::line::read_line;
 use crate::stretch::{cut_fault, read_bytes};
-use crate::waiting::Waiting;
 use crate::{DratError, DratFault, Form, Kind};
 use lls_base::Memory;
 use lls_lit::Lit;
 use lls_prooflog::LineError;
+use lls_text::WaitingBytes;
 use std::alloc::Global;
 use std::marker::Model;
 
@@ -26,7 +26,8 @@ use std::marker::Model;
 /// It holds the bytes of the lemma that isn't whole yet, and the literals of one lemma, in a buffer that is filled anew for each.
 #[derive(Drop)]
 pub struct Reader {
-    waiting: Waiting,
+    form: Form,
+    waiting: WaitingBytes,
     /// How many lines or lemmas were taken.
     count: u64,
     /// How many bytes were taken.
@@ -35,20 +36,19 @@ pub struct Reader {
 }
 
 impl Model for Reader {
-    ghost use Rattle.std.specs.Prelude.{◌+◌, ◌<◌, ◌≤◌, ◌^◌, length};
-    ghost use Rattle.lls_drat.specs.Reading.{Reading};
+    ghost use Rattle.lls_drat.specs.Reading.{Reading, IsReader};
 
     ghost Value = { Reading };
 
     ghost view = { λ r. record {
-      form = r.waiting.form;
+      form = r.form;
       count = r.count;
       before = r.before;
       rest = r.waiting.bytes;
       lits = r.lits.items;
     } };
 
-    ghost invariant = { λ r. (r.count ≤ r.before) × (r.before + length r.waiting.bytes + 1 < 2 ^ 64) };
+    ghost invariant = { λ r. IsReader r.form r.count r.before r.waiting };
 }
 
 // What the first line or lemma of those that wait came to.
@@ -78,7 +78,8 @@ impl Reader {
             proof_of Form.Binary bytes ≡ all_lemmas lemmas → bytes ≡ flat_map (written Form.Binary) lemmas }
     {
         Reader {
-            waiting: Waiting::new(alloc, form),
+            form,
+            waiting: WaitingBytes::new(alloc, form.end_byte()),
             count: 0,
             before: 0,
             lits: Vec::new(alloc),
@@ -111,7 +112,8 @@ impl Reader {
         if piece.len() as u64 > room {
             return Err(Memory);
         }
-        self.waiting.put(piece)
+        self.waiting.put(piece)?;
+        Ok(())
     }
 
     /// Takes the next lemma that has its end, and tells its kind; `lits` lends its literals. None where no further one has come
@@ -157,7 +159,7 @@ impl Reader {
         };
         let bytes = &self.waiting.bytes()[..len];
         let kind = read_piece(
-            self.waiting.form(),
+            self.form,
             self.count + 1,
             self.before,
             bytes,
@@ -187,7 +189,7 @@ impl Reader {
             return Ok(None);
         }
         let kind = read_tail(
-            self.waiting.form(),
+            self.form,
             self.count + 1,
             self.before,
             bytes,

@@ -1,5 +1,5 @@
 -- The first line of bytes that come in pieces, and what stands behind it.
-use Rattle.std.specs.Prelude.{◌≡◌, ◌-◌, ◌≤◌, ℕ, Bool, false, List, ◌∷◌, ◌++◌, length, take, drop}
+use Rattle.std.specs.Prelude.{◌≡◌, ℕ, Bool, false, List, ◌∷◌, ◌++◌}
 use Rattle.std.specs.List.{list_any}
 use Rattle.lls_text.specs.Lines.{line_feed, is_line_feed}
 
@@ -17,9 +17,3 @@ pub record TakesLine (bytes bytes' into into' : List ℕ) : Type 0 where
   pub line : List ℕ
   pub first : IsFirstLine bytes line bytes'
   pub behind : into' ≡ into ++ line
-
--- for private contracts alone: so many bytes were taken, and so many behind them were searched and have no LF
-pub record IsWaiting (bytes : List ℕ) (taken searched : ℕ) : Type 0 where
-  pub taken_within : taken ≤ length bytes
-  pub searched_within : searched ≤ length bytes - taken
-  pub no_line : has_line (take searched (drop taken bytes)) ≡ false

@@ -1,11 +1,11 @@
 // The bytes of a text that comes in pieces, until its lines are whole.
-ghost use Rattle.std.specs.Prelude.{◌≡◌, ◌+◌, ◌-◌, ◌<◌, ◌≤◌, ℕ, List, true, false, [], ◌∷◌, ◌++◌, length, take, drop, None, IfSome, Ok, OnOk, OnErr, IfOk};
-ghost use Rattle.std.specs.List.{position};
+ghost use Rattle.std.specs.Prelude.{◌≡◌, ◌++◌, ◌∷◌, [], ℕ, List, true, false, Ok, OnOk, OnErr, IfOk};
 ghost use Rattle.std.specs.Str.Lines.{strip_carriage_return};
-ghost use Rattle.lls_text.specs.Lines.{is_line_feed, lines_of};
+ghost use Rattle.lls_text.specs.Lines.{lines_of};
 ghost use Rattle.lls_prooflog.specs.FirstLine.{has_line, IsFirstLine, TakesLine};
 
 use lls_base::Memory;
+use lls_text::WaitingBytes;
 use std::alloc::Global;
 use std::marker::Model;
 
@@ -15,22 +15,18 @@ use std::marker::Model;
 /// behind it, and no byte is searched twice for the end of its line.
 #[derive(Drop)]
 pub struct Lines {
-    bytes: Vec<u8>,
-    /// How many of the bytes were taken.
-    taken: usize,
-    /// How many of the others, from the first on, were searched and have no LF.
-    searched: usize,
+    waiting: WaitingBytes,
 }
 
 impl Model for Lines {
-    ghost use Rattle.std.specs.Prelude.{List, ℕ, drop};
-    ghost use Rattle.lls_prooflog.specs.FirstLine.{IsWaiting};
+    ghost use Rattle.std.specs.Prelude.{◌≡◌, List, ℕ};
+    ghost use Rattle.lls_text.specs.Lines.{line_feed};
 
     ghost Value = { List ℕ };
 
-    ghost view = { λ l. drop l.taken l.bytes.items };
+    ghost view = { λ l. l.waiting.bytes };
 
-    ghost invariant = { λ l. IsWaiting l.bytes.items l.taken l.searched };
+    ghost invariant = { λ l. l.waiting.end ≡ line_feed };
 }
 
 impl Lines {
@@ -39,9 +35,7 @@ impl Lines {
         ensures { result ≡ [] }
     {
         Lines {
-            bytes: Vec::new(alloc),
-            taken: 0,
-            searched: 0,
+            waiting: WaitingBytes::new(alloc, b'\n'),
         }
     }
 
@@ -50,11 +44,7 @@ impl Lines {
         ensures ok { OnOk result (self.new ≡ self.old ++ piece.now) }
         ensures err { OnErr result (self.new ≡ self.old) }
     {
-        if self.bytes.len() - self.taken < self.taken {
-            drop_front(&mut self.bytes, self.taken);
-            self.taken = 0;
-        }
-        self.bytes.extend_from_slice(piece)?;
+        self.waiting.put(piece)?;
         Ok(())
     }
 
@@ -72,14 +62,11 @@ impl Lines {
         ensures lines { (line rest : List ℕ) → IsFirstLine self.old line rest →
             lines_of self.old ≡ strip_carriage_return line ∷ lines_of rest }
     {
-        let waiting = &self.bytes[self.taken..];
-        let Some(len) = line_len(waiting, self.searched) else {
-            self.searched = waiting.len();
+        let Some(len) = self.waiting.first_len() else {
             return Ok(false);
         };
-        into.extend_from_slice(&waiting[..len])?;
-        self.taken += len + 1;
-        self.searched = 0;
+        into.extend_from_slice(&self.waiting.bytes()[..len])?;
+        self.waiting.take(len + 1);
         Ok(true)
     }
 
@@ -87,37 +74,6 @@ impl Lines {
     pub fn rest(self) -> Vec<u8>
         ensures { result.items ≡ self }
     {
-        let mut bytes = self.bytes;
-        drop_front(&mut bytes, self.taken);
-        bytes
+        self.waiting.rest()
     }
-}
-
-// How many bytes stand before the first LF, where so many were searched and have none.
-fn line_len(bytes: &[u8], searched: usize) -> Option<usize>
-    requires within { searched ≤ length bytes.now }
-    requires searched { has_line (take searched bytes.now) ≡ false }
-    ensures within { IfSome result (λ len. len < length bytes.now) }
-    ensures line { IfSome result (λ len. IsFirstLine bytes.now (take len bytes.now) (drop (len + 1) bytes.now)) }
-    ensures none { result ≡ None → has_line bytes.now ≡ false }
-{
-    let behind = feed_place(&bytes[searched..])?;
-    Some(searched + behind)
-}
-
-// The place of the first LF.
-fn feed_place(bytes: &[u8]) -> Option<usize>
-    ensures { result ≡ position is_line_feed bytes.now }
-{
-    bytes.iter().position(|byte| *byte == b'\n')
-}
-
-// Takes so many bytes out at the front.
-fn drop_front(bytes: &mut Vec<u8>, count: usize)
-    requires { count ≤ length bytes.old.items }
-    ensures { bytes.new.items ≡ drop count bytes.old.items }
-{
-    let left = bytes.len() - count;
-    bytes.copy_within(count.., 0);
-    bytes.truncate(left);
 }

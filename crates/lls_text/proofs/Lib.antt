@@ -4,4 +4,5 @@ pub mod Printed
 pub mod NumberBytes
 pub mod LineCounts
 pub mod CappedDigits
+pub mod FirstEnds
 mod ShortDigits

@@ -2,3 +2,4 @@ pub mod Lines
 pub mod Words
 pub mod Seen
 pub mod Digits
+pub mod WaitingBytes

@@ -1,17 +1,14 @@
--- The first byte that ends a line or a lemma.
-use Rattle.std.proofs.Common.{◌≡◌, ℕ, suc, ◌+◌, ◌<◌, ◌≤◌, true, false, not, cond, eqb, ◌||◌, Bool, List, [], ◌∷◌, ◌++◌, length, take, drop, take-append-drop, refl, sym, ap, ◌∙◌, append_assoc, length-drop, arith}
+-- The first byte of a value.
+use Rattle.std.proofs.Common.{◌≡◌, ℕ, suc, ◌+◌, ◌<◌, ◌≤◌, true, false, not, cond, eqb, ◌||◌, List, [], ◌∷◌, ◌++◌, length, take, drop, take-append-drop, refl, sym, ap, ◌∙◌, append_assoc, length-drop, arith}
 use Rattle.std.specs.Prelude.{Some, None, nat_lt}
-use Rattle.std.specs.List.{list_any, position, position_or_len}
+use Rattle.std.specs.List.{position, position_or_len}
 use Rattle.std.proofs.Math.Seq.{take-add}
 use Rattle.std.proofs.lemmas.List.{drop-drop}
 use Rattle.std.proofs.lemmas.Bool.{eqb-true}
 use Rattle.std.proofs.lemmas.Bool.Decides.{nat_tests}
 use Rattle.std.proofs.lemmas.Option.{same_Some}
 use Rattle.std.proofs.lemmas.List.Folds.{list_any-append}
-use Rattle.lls_drat.specs.Waiting.{IsFirstEnd}
-
-abbrev pub has_byte : ℕ → List ℕ → Bool
-has_byte end bytes = list_any (λ b. eqb b end) bytes
+use Rattle.lls_text.specs.WaitingBytes.{IsFirstEnd, has_byte}
 
 abbrev end_at : ℕ → List ℕ → ℕ
 end_at end bytes = position_or_len (λ b. eqb b end) bytes
