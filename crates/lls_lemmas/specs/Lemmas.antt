@@ -4,7 +4,7 @@ use Rattle.std.specs.List.{list_any}
 use Rattle.std.specs.FinSet as set
 use Rattle.std.specs.Ordering.{int_cmp}
 use Rattle.lls_lit.specs.Literal.{negation}
-use Rattle.lls_lit.specs.Formula.{Clause, Cnf}
+use Rattle.lls_lit.specs.Formula.{Clause, Cnf, IsUnsatisfiable}
 use Rattle.lls_prooflog.specs.UnitWalk.{Live, find_clause, is_among, unit_walk}
 use Rattle.lls_prooflog.specs.Steps.{fault_of}
 use Rattle.lls_prooflog.specs.Spent.{LogState, EachStep, log_start, log_after, live_after}
@@ -131,3 +131,36 @@ pub record HoldsForGood (formula : Cnf) (steps : List Step) (lits : Clause) : Ty
 pub record DeletesOne (formula : Cnf) (old new : List Step) (lits : Clause) : Type 0 where
   pub was_live : HasClause formula old lits
   pub deleted : new ≡ old ++ Del (was_live.id ∷ []) ∷ []
+
+-- a lemma that unit propagation gives was added, and there may be more of them
+pub record TakesImplied (old new : LemmasState) (lits : Clause) : Type 0 where
+  pub adds : AddsLemma old.formula old.steps new.steps lits
+  pub live : IsLive old.formula new.steps lits
+  pub none_redundant : new.has_redundant ≡ old.has_redundant
+  pub settled : new.settled ≡ true
+  pub going : new.refuted ≡ false
+
+-- one was added that unit propagation doesn't give
+pub record TakesRedundant (old new : LemmasState) (lits : Clause) : Type 0 where
+  pub adds : AddsLemma old.formula old.steps new.steps lits
+  pub live : IsLive old.formula new.steps lits
+  pub not_given : old.settled ≡ true → IsNotImplied old.formula old.steps lits
+  pub told : new.has_redundant ≡ true
+  pub settled : new.settled ≡ true
+  pub going : new.refuted ≡ false
+
+-- one wasn't added, since no hints whatever show that it may be
+pub record TurnsDown (old new : LemmasState) (lits : Clause) : Type 0 where
+  pub adds : AddsUnits old.formula old.steps new.steps
+  pub not_implied : IsNotImplied old.formula new.steps lits
+  pub not_addable : IsNotAddable old.formula new.steps lits
+  pub stays : old.settled ≡ true → new ≡ old
+  pub none_redundant : new.has_redundant ≡ old.has_redundant
+  pub settled : new.settled ≡ true
+  pub going : new.refuted ≡ false
+
+-- the empty clause was added, so nothing satisfies the formula
+pub record IsAtEnd (state : LemmasState) : Type 0 where
+  pub refuted : state.refuted ≡ true
+  pub ends : EndsEmpty state.steps
+  pub unsatisfiable : IsUnsatisfiable state.formula

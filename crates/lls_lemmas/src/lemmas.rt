@@ -5,7 +5,7 @@ ghost use Rattle.lls_prooflog.specs.Spent.{EachStep, IsGood, log_start};
 ghost use Rattle.lls_store.specs.Changes.{empty_trail};
 ghost use Rattle.lls_store.specs.Store.{empty_store};
 ghost use Rattle.lls_lemmas.specs.Behind.{PushesLemma};
-ghost use Rattle.lls_lemmas.specs.Lemmas.{is_tautology, AddsLemma, AddsUnits, AreRising, Begins, DeletesOne, EndsEmpty, GoesOnWell, HasClause, HasNoFault, HoldsForGood, IsLive, IsNotAddable, IsNotImplied, KeepsLive, KeepsPlain};
+ghost use Rattle.lls_lemmas.specs.Lemmas.{is_tautology, AddsLemma, AddsUnits, AreRising, Begins, DeletesOne, EndsEmpty, GoesOnWell, HasClause, HasNoFault, HoldsForGood, IsAtEnd, IsLive, IsNotAddable, IsNotImplied, KeepsLive, KeepsPlain, TakesImplied, TakesRedundant, TurnsDown};
 
 use crate::answers::{Added, Deleted};
 use crate::deleting::{delete_clause, is_needed};
@@ -144,28 +144,11 @@ impl<'f, S: Store> Lemmas<'f, S> {
         ensures well { GoesOnWell self.old.formula self.old.steps self.new.steps }
         ensures keeps { KeepsLive self.old.formula self.old.steps self.new.steps }
         ensures adds { AddsUnits self.old.formula self.old.steps self.new.steps ⊎ AddsLemma self.old.formula self.old.steps self.new.steps lits.now }
-        ensures adds_implied { result ≡ Ok Added.Implied → AddsLemma self.old.formula self.old.steps self.new.steps lits.now }
-        ensures adds_redundant { result ≡ Ok Added.Redundant → AddsLemma self.old.formula self.old.steps self.new.steps lits.now }
-        ensures adds_none { result ≡ Ok Added.NotImplied → AddsUnits self.old.formula self.old.steps self.new.steps }
-        ensures implied { result ≡ Ok Added.Implied → IsLive self.old.formula self.new.steps lits.now }
-        ensures redundant { result ≡ Ok Added.Redundant → IsLive self.old.formula self.new.steps lits.now }
-        ensures not_given { result ≡ Ok Added.Redundant → self.old.settled ≡ true → IsNotImplied self.old.formula self.old.steps lits.now }
-        ensures told { result ≡ Ok Added.Redundant → self.new.has_redundant ≡ true }
-        ensures none_redundant { result ≡ Ok Added.Implied → self.new.has_redundant ≡ self.old.has_redundant }
-        ensures none_still { result ≡ Ok Added.NotImplied → self.new.has_redundant ≡ self.old.has_redundant }
-        ensures refuted { result ≡ Ok Added.Refuted → EndsEmpty self.new.steps }
-        ensures unsatisfiable { result ≡ Ok Added.Refuted → IsUnsatisfiable self.old.formula }
+        ensures implied { result ≡ Ok Added.Implied → TakesImplied self.old self.new lits.now }
+        ensures redundant { result ≡ Ok Added.Redundant → TakesRedundant self.old self.new lits.now }
+        ensures not_implied { result ≡ Ok Added.NotImplied → TurnsDown self.old self.new lits.now }
+        ensures refuted { result ≡ Ok Added.Refuted → IsAtEnd self.new }
         ensures tautology { result ≡ Ok Added.Tautology → (is_tautology lits.now ≡ true) × (self.new ≡ self.old) }
-        ensures not_implied { result ≡ Ok Added.NotImplied → IsNotImplied self.old.formula self.new.steps lits.now }
-        ensures not_addable { result ≡ Ok Added.NotImplied → IsNotAddable self.old.formula self.new.steps lits.now }
-        ensures stays { result ≡ Ok Added.NotImplied → self.old.settled ≡ true → self.new ≡ self.old }
-        ensures ended { result ≡ Ok Added.Refuted → self.new.refuted ≡ true }
-        ensures going { result ≡ Ok Added.Implied → self.new.refuted ≡ false }
-        ensures going_redundant { result ≡ Ok Added.Redundant → self.new.refuted ≡ false }
-        ensures going_on { result ≡ Ok Added.NotImplied → self.new.refuted ≡ false }
-        ensures settled { result ≡ Ok Added.Implied → self.new.settled ≡ true }
-        ensures settled_redundant { result ≡ Ok Added.Redundant → self.new.settled ≡ true }
-        ensures settled_still { result ≡ Ok Added.NotImplied → self.new.settled ≡ true }
         ensures done { self.old.refuted ≡ true → self.new ≡ self.old }
         ensures formula { self.new.formula ≡ self.old.formula }
         ensures vars { self.new.vars ≡ self.old.vars }
@@ -203,11 +186,7 @@ impl<'f, S: Store> Lemmas<'f, S> {
         ensures ended { result ≡ Ok Deleted.Refuted → self.old.refuted ≡ true }
         ensures ends { result ≡ Ok Deleted.Refuted → EndsEmpty self.old.steps }
         ensures behind_the_end { self.old.refuted ≡ true → result ≡ Ok Deleted.Refuted }
-        ensures redundant { self.new.has_redundant ≡ self.old.has_redundant }
-        ensures settled { self.new.settled ≡ self.old.settled }
-        ensures refuted { self.new.refuted ≡ self.old.refuted }
-        ensures formula { self.new.formula ≡ self.old.formula }
-        ensures vars { self.new.vars ≡ self.old.vars }
+        ensures same { self.new ≡ record self.old { steps = self.new.steps } }
     {
         if self.refuted {
             return Ok(Deleted::Refuted);

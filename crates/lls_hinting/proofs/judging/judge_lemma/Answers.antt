@@ -7,5 +7,6 @@ use Rattle.lls_hinting.proofs.judging.judge_lemma.Goals as goal
 pub returns-in-NotImplied-clause-says : goal.returns-in-NotImplied-clause-says
 returns-in-NotImplied-clause-says c =
     let went = c.in_ok-add-in-Addition.was ∙ ap Ok c.in-NotImplied.is in
-    let stays = c.add.ensures.stays went (settled_of c.args.lemmas.now c.requires.rest c.requires.going) in
-    (c.in-Addition.is, ap (λ (s : LemmasState). progress s.steps c.args.tally.now) stays, c.add.ensures.not_implied went, c.add.ensures.not_addable went)
+    let down = c.add.ensures.not_implied went in
+    let stays = down.stays (settled_of c.args.lemmas.now c.requires.rest c.requires.going) in
+    (c.in-Addition.is, ap (λ (s : LemmasState). progress s.steps c.args.tally.now) stays, down.not_implied, down.not_addable)

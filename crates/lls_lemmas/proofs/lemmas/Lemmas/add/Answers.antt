@@ -1,10 +1,10 @@
 use Rattle.std.proofs.Common.{◌≡◌, ◌≢◌, List, rules, refl, sym, ap, ◌∙◌, subst, inl, inr}
 use Rattle.std.specs.Prelude.{Ok}
-use Rattle.lls_lit.specs.Formula.{Clause, Cnf, IsUnsatisfiable}
+use Rattle.lls_lit.specs.Formula.{Clause, Cnf}
 use Rattle.lls_prooflog.specs.Spent.{LogState}
 use Rattle.lls_prooflog.specs.declared.step.Step.{Step}
 use Rattle.lls_lemmas.specs.Behind.{PushesLemma}
-use Rattle.lls_lemmas.specs.Lemmas.{AddsLemma, AddsUnit, AddsUnits, GoesOnBy, HasNoFault, IsNotAddable, LemmasState}
+use Rattle.lls_lemmas.specs.Lemmas.{AddsLemma, AddsUnit, AddsUnits, GoesOnBy, HasNoFault, IsAtEnd, IsNotAddable, IsNotImplied, LemmasState}
 use Rattle.lls_lemmas.specs.declared.answers.Added.TheVariants.{NotImplied}
 use Rattle.lls_lemmas.proofs.Logs.{adds_between, well-none, well-then}
 use Rattle.lls_lemmas.proofs.lemmas.Lemmas.add.Goals as goal
@@ -29,10 +29,10 @@ between a b s n m lits same first formula pushes formula' third =
     let R : Cnf → Type 0 = λ f. AddsUnits f n.steps m.steps in
     adds_between a.formula a.steps s.steps n.steps m.steps lits (subst Q same first) pushes (subst R (formula' ∙ formula ∙ ap (λ (x : LemmasState). x.formula) same) third)
 
-pub returns-then-self-clause-unsatisfiable : goal.returns-then-self-clause-unsatisfiable
-returns-then-self-clause-unsatisfiable g c =
+pub returns-then-self-clause-refuted : goal.returns-then-self-clause-refuted
+returns-then-self-clause-refuted g c =
     let i = c.self.invariant.1 in
-    λ is. subst IsUnsatisfiable (ap (λ (x : LemmasState). x.formula) c.self.view_is) (i.unsatisfiable c.if-self.true)
+    λ _. subst IsAtEnd c.self.view_is (record { refuted = c.if-self.true; ends = i.ends c.if-self.true; unsatisfiable = i.unsatisfiable c.if-self.true })
 
 pub returns-in_err-added-clause-well : goal.returns-in_err-added-clause-well
 returns-in_err-added-clause-well g c = two HasNoFault c.args.self.now c.has_both.new.self c.settle.new.self c.add_either.new.self c.has_both.ensures.same c.settle.ensures.well c.settle.ensures.formula c.add_either.ensures.well
@@ -45,15 +45,6 @@ returns-then-is_refuted-2-clause-well g c = three HasNoFault c.args.self.now c.h
 
 pub returns-clause-well : goal.returns-clause-well
 returns-clause-well g c = three HasNoFault c.args.self.now c.has_both.new.self c.settle.new.self c.add_either.new.self c.settle-2.new.self c.has_both.ensures.same c.settle.ensures.well c.settle.ensures.formula c.add_either.ensures.well c.add_either.ensures.formula c.settle-2.ensures.well
-
-pub returns-then-eq-clause-not_addable : goal.returns-then-eq-clause-not_addable
-returns-then-eq-clause-not_addable g c = λ _.
-    let lits = c.args.lits.now in
-    let added : c.in_ok-added.added ≡ NotImplied = search rules in
-    let went = c.in_ok-added.was ∙ ap Ok added in
-    let P : LemmasState → Type 0 = λ x. IsNotAddable c.settle.new.self.formula x.steps lits in
-    let Q : Cnf → Type 0 = λ f. IsNotAddable f c.add_either.new.self.steps lits in
-    subst Q (c.settle.ensures.formula ∙ ap (λ (x : LemmasState). x.formula) c.has_both.ensures.same) (subst P (sym (c.add_either.ensures.stays went)) (c.add_either.ensures.not_addable went))
 
 -- unit clauses, where nothing else came
 only_units : (a b s : LemmasState) (now : List Step) → b ≡ a → AddsUnits b.formula b.steps s.steps → now ≡ s.steps → AddsUnits a.formula a.steps now
@@ -77,11 +68,6 @@ returns-then-eq-clause-adds g c =
     let added : c.in_ok-added.added ≡ NotImplied = search rules in
     inl (only_units c.args.self.now c.has_both.new.self c.settle.new.self c.add_either.new.self.steps c.has_both.ensures.same c.settle.ensures.units (ap (λ (x : LemmasState). x.steps) (c.add_either.ensures.stays (c.in_ok-added.was ∙ ap Ok added))))
 
-pub returns-then-eq-clause-adds_none : goal.returns-then-eq-clause-adds_none
-returns-then-eq-clause-adds_none g c = λ _.
-    let added : c.in_ok-added.added ≡ NotImplied = search rules in
-    only_units c.args.self.now c.has_both.new.self c.settle.new.self c.add_either.new.self.steps c.has_both.ensures.same c.settle.ensures.units (ap (λ (x : LemmasState). x.steps) (c.add_either.ensures.stays (c.in_ok-added.was ∙ ap Ok added)))
-
 pub returns-in_err-settle-2-clause-adds : goal.returns-in_err-settle-2-clause-adds
 returns-in_err-settle-2-clause-adds g c =
     let other : c.in_ok-added.added ≢ NotImplied = search rules in
@@ -97,12 +83,45 @@ returns-clause-adds g c =
     let other : c.in_ok-added.added ≢ NotImplied = search rules in
     inr (between c.args.self.now c.has_both.new.self c.settle.new.self c.add_either.new.self c.settle-2.new.self c.args.lits.now c.has_both.ensures.same c.settle.ensures.units c.settle.ensures.formula (c.in_ok-added.ensures.pushes other) c.add_either.ensures.formula c.settle-2.ensures.units)
 
-pub returns-clause-adds_implied : goal.returns-clause-adds_implied
-returns-clause-adds_implied g c =
-    let other : c.in_ok-added.added ≢ NotImplied = search rules in
-    λ _. between c.args.self.now c.has_both.new.self c.settle.new.self c.add_either.new.self c.settle-2.new.self c.args.lits.now c.has_both.ensures.same c.settle.ensures.units c.settle.ensures.formula (c.in_ok-added.ensures.pushes other) c.add_either.ensures.formula c.settle-2.ensures.units
+pub returns-then-eq-clause-not_implied : goal.returns-then-eq-clause-not_implied
+returns-then-eq-clause-not_implied g c = λ _.
+    let lits = c.args.lits.now in
+    let added : c.in_ok-added.added ≡ NotImplied = search rules in
+    let went = c.in_ok-added.was ∙ ap Ok added in
+    let e = c.add_either.ensures in
+    let P : LemmasState → Type 0 = λ x. IsNotAddable c.settle.new.self.formula x.steps lits in
+    let Q : Cnf → Type 0 = λ f. IsNotAddable f c.add_either.new.self.steps lits in
+    let R : LemmasState → Type 0 = λ x. IsNotImplied c.settle.new.self.formula x.steps lits in
+    let S : Cnf → Type 0 = λ f. IsNotImplied f c.add_either.new.self.steps lits in
+    let formula = c.settle.ensures.formula ∙ ap (λ (x : LemmasState). x.formula) c.has_both.ensures.same in record {
+      adds = only_units c.args.self.now c.has_both.new.self c.settle.new.self c.add_either.new.self.steps c.has_both.ensures.same c.settle.ensures.units (ap (λ (x : LemmasState). x.steps) (e.stays went));
+      not_implied = subst S formula (subst R (sym (e.stays went)) (e.not_implied went));
+      not_addable = subst Q formula (subst P (sym (e.stays went)) (e.not_addable went));
+      stays = λ settled. e.stays went ∙ c.settle.ensures.settled (ap (λ (x : LemmasState). x.settled) c.has_both.ensures.same ∙ settled) ∙ c.has_both.ensures.same;
+      none_redundant = ap (λ (x : LemmasState). x.has_redundant) (e.stays went) ∙ c.settle.ensures.none_redundant ∙ ap (λ (x : LemmasState). x.has_redundant) c.has_both.ensures.same;
+      settled = search rules;
+      going = search rules;
+    }
 
-pub returns-clause-adds_redundant : goal.returns-clause-adds_redundant
-returns-clause-adds_redundant g c =
+pub returns-clause-implied : goal.returns-clause-implied
+returns-clause-implied g c = λ is.
     let other : c.in_ok-added.added ≢ NotImplied = search rules in
-    λ _. between c.args.self.now c.has_both.new.self c.settle.new.self c.add_either.new.self c.settle-2.new.self c.args.lits.now c.has_both.ensures.same c.settle.ensures.units c.settle.ensures.formula (c.in_ok-added.ensures.pushes other) c.add_either.ensures.formula c.settle-2.ensures.units
+    record {
+      adds = between c.args.self.now c.has_both.new.self c.settle.new.self c.add_either.new.self c.settle-2.new.self c.args.lits.now c.has_both.ensures.same c.settle.ensures.units c.settle.ensures.formula (c.in_ok-added.ensures.pushes other) c.add_either.ensures.formula c.settle-2.ensures.units;
+      live = search rules;
+      none_redundant = search rules;
+      settled = search rules;
+      going = search rules;
+    }
+
+pub returns-clause-redundant : goal.returns-clause-redundant
+returns-clause-redundant g c = λ is.
+    let other : c.in_ok-added.added ≢ NotImplied = search rules in
+    record {
+      adds = between c.args.self.now c.has_both.new.self c.settle.new.self c.add_either.new.self c.settle-2.new.self c.args.lits.now c.has_both.ensures.same c.settle.ensures.units c.settle.ensures.formula (c.in_ok-added.ensures.pushes other) c.add_either.ensures.formula c.settle-2.ensures.units;
+      live = search rules;
+      not_given = search rules;
+      told = search rules;
+      settled = search rules;
+      going = search rules;
+    }
