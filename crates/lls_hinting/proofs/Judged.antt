@@ -27,6 +27,7 @@ use Rattle.lls_hinting.specs.Behind.{IsBehind, Progress, TakesAll, progress_star
 use Rattle.lls_hinting.specs.Hinted.{AreHints, IsHinted}
 use Rattle.lls_hinting.specs.Judging.{HasGreater, IsJudged, IsProved, JudgeSays, StandSays, Surveyed, are_within, progress}
 use Rattle.lls_hinting.specs.Place.{Ended, EndsBehind, FaultBehind, Faulty, IsTooLong, Passed, Passes, Place, with_front}
+use Rattle.lls_hinting.specs.Outcome.{IsSaid}
 use Rattle.lls_hinting.specs.Refusal.{IsRefusal, addition, no_empty_text, not_implied_text}
 use Rattle.lls_hinting.specs.Steps.{IsOpened}
 use Rattle.lls_hinting.proofs.Passing.{at}
@@ -170,20 +171,30 @@ module _ (formula : Cnf) (start : List Step) (new : Progress) (well : GoesOnWell
     hints = hints;
   }
 
-  pub proved_refused : (vars : ℕ) (files : Option Files) (name : List ℕ) (form : Form) (number : ℕ) (text : Vec ℕ Global) → text.items ≡ not_implied_text number
+  proved_refused : (vars : ℕ) (files : Option Files) (name : List ℕ) (form : Form) (number : ℕ) (text : Vec ℕ Global) → text.items ≡ not_implied_text number
       → IsJudged formula vars files name form (progress_start start) new (Ok (NotImplied number)) → IsProved formula vars files name form (Ok (Refusal text))
   proved_refused vars None name form number text is judged = tt
   proved_refused vars (Some files) name form number text is judged = λ bytes found surveyed. stand_refused surveyed.lemmas number text.items (judged bytes found surveyed) is
 
-  pub proved_open : (vars : ℕ) (files : Option Files) (name : List ℕ) (form : Form) (text : Vec ℕ Global) → IsNotImplied formula new.steps [] → text.items ≡ no_empty_text
+  proved_open : (vars : ℕ) (files : Option Files) (name : List ℕ) (form : Form) (text : Vec ℕ Global) → IsNotImplied formula new.steps [] → text.items ≡ no_empty_text
       → IsJudged formula vars files name form (progress_start start) new (Ok Going) → IsProved formula vars files name form (Ok (Refusal text))
   proved_open vars None name form text open_ is judged = tt
   proved_open vars (Some files) name form text open_ is judged = λ bytes found surveyed. stand_open surveyed.lemmas text.items (judged bytes found surveyed) open_ is
 
-  pub proved_hinted : (vars : ℕ) (files : Option Files) (name : List ℕ) (form : Form) (hints : Hints) → EndsEmpty new.steps → AreHints formula new hints.bytes.items hints.text.items
+  proved_hinted : (vars : ℕ) (files : Option Files) (name : List ℕ) (form : Form) (hints : Hints) → EndsEmpty new.steps → AreHints formula new hints.bytes.items hints.text.items
       → IsJudged formula vars files name form (progress_start start) new (Ok Refuted) → IsProved formula vars files name form (Ok (Hinted hints))
   proved_hinted vars None name form hints ends are judged = tt
   proved_hinted vars (Some files) name form hints ends are judged = λ bytes found surveyed. stand_hinted surveyed.lemmas hints.bytes.items hints.text.items (judged bytes found surveyed) ends are
+
+  -- by what is said of it
+  pub proved_said : (vars : ℕ) (files : Option Files) (name : List ℕ) (form : Form) (stand : Stand) (outcome : Outcome) → (stand ≡ Going → IsNotImplied formula new.steps []) → (stand ≡ Refuted → EndsEmpty new.steps)
+      → IsSaid formula new stand outcome → IsJudged formula vars files name form (progress_start start) new (Ok stand) → IsProved formula vars files name form (Ok outcome)
+  proved_said vars files name form Going (Refusal text) open_ ends said judged = proved_open vars files name form text (open_ refl) said judged
+  proved_said vars files name form Going (Hinted hints) open_ ends said judged = absurd said
+  proved_said vars files name form Refuted (Refusal text) open_ ends said judged = absurd said
+  proved_said vars files name form Refuted (Hinted hints) open_ ends said judged = proved_hinted vars files name form hints (ends refl) said judged
+  proved_said vars files name form (NotImplied number) (Refusal text) open_ ends said judged = proved_refused vars files name form number text said judged
+  proved_said vars files name form (NotImplied number) (Hinted hints) open_ ends said judged = absurd said
 
 within_vars : (few vars : ℕ) (lemmas : List NumberedLemma) → few ≤ vars → are_within few lemmas ≡ true → are_within vars lemmas ≡ true
 within_vars few vars [] le all = refl

@@ -1,5 +1,5 @@
 // What the proof of a formula comes to: a proof with hints, or why there is none.
-ghost use Rattle.std.specs.Prelude.{◌≡◌, ◌≤◌, [], length, IfOk, count_by};
+ghost use Rattle.std.specs.Prelude.{◌≡◌, ◌≤◌, [], false, length, IfOk, count_by};
 ghost use Rattle.lls_lit.specs.Formula.{IsUnsatisfiable};
 ghost use Rattle.lls_prooflog.specs.Log.{ReadsAs, log_text};
 ghost use Rattle.lls_prooflog.specs.Spent.{EachStep, IsGood, is_addition, log_start};
@@ -7,7 +7,7 @@ ghost use Rattle.lls_lemmas.specs.Lemmas.{AreRising, Begins, EndsEmpty, GoesOnWe
 ghost use Rattle.lls_hinting.specs.Hinted.{AreHints, hints_text};
 ghost use Rattle.lls_hinting.specs.Judging.{IsProved, IsResting, progress};
 ghost use Rattle.lls_outside.specs.Moment.{files_at, shelf_at};
-ghost use Rattle.lls_hinting.specs.Outcome.{RequestComesTo};
+ghost use Rattle.lls_hinting.specs.Outcome.{IsSaid, RequestComesTo};
 ghost use Rattle.lls_hinting.specs.Refusal.{no_empty_text, not_implied_text};
 ghost use Rattle.lls_hinting.specs.Steps.{Reads};
 
@@ -75,7 +75,7 @@ fn prove<S: Shelf>(
     judged(alloc, shelf, name, form, vars, formula, lemmas)
 }
 
-// The same, with an engine that has the formula's clauses.
+// The same, with an engine that has the formula's clauses. They are let go before what is left of its log is written down.
 fn judged<S: Shelf>(
     alloc: Global,
     shelf: &mut S,
@@ -94,28 +94,50 @@ fn judged<S: Shelf>(
     ensures { Reads (IsProved formula.now vars (files_at (shelf_at S.Shelf shelf.old)) name.now form) result (shelf_at S.Shelf shelf.old) (shelf_at S.Shelf shelf.new) }
 {
     let mut tally = Tally::new();
-    let stand = judge_file(alloc, shelf, name, form, vars, &mut lemmas, &mut tally)?;
+    let stand = judge_file(alloc, shelf, name, form, vars, &mut lemmas, &mut tally);
+    let has_redundant = lemmas.has_redundant();
+    let log = lemmas.into_log();
+    Ok(said(alloc, formula, stand?, log, has_redundant, tally)?)
+}
+
+// What is said where lemmas came to that, and left this log.
+fn said(
+    alloc: Global,
+    formula: &Formula,
+    stand: Stand,
+    log: Log,
+    has_redundant: bool,
+    tally: Tally,
+) -> Result<Outcome, Memory>
+    requires well { EachStep HasNoFault (log_start formula.now) log.steps }
+    requires good { has_redundant ≡ false → EachStep IsGood (log_start formula.now) log.steps }
+    requires rising { AreRising (length formula.now.clauses) log.steps }
+    requires ends { stand ≡ Stand.Refuted → EndsEmpty log.steps }
+    requires unsatisfiable { stand ≡ Stand.Refuted → IsUnsatisfiable formula.now }
+    ensures { IfOk result (IsSaid formula.now (progress log.steps tally) stand) }
+{
     match stand {
         Stand::Going => Ok(Outcome::Refused(no_empty_text(alloc)?)),
-        Stand::Refuted => Ok(Outcome::Hinted(hinted(alloc, formula, lemmas, tally)?)),
+        Stand::Refuted => Ok(Outcome::Hinted(hinted(alloc, formula, log, has_redundant, tally)?)),
         Stand::NotImplied(number) => Ok(Outcome::Refused(not_implied_text(alloc, number)?)),
     }
 }
 
-// What lemmas that end with the empty clause come to. Their clauses are let go before their log is trimmed.
+// What a log comes to that ends with the empty clause.
 fn hinted(
     alloc: Global,
     formula: &Formula,
-    lemmas: Lemmas<WatchStore>,
+    log: Log,
+    has_redundant: bool,
     tally: Tally,
 ) -> Result<Hints, Memory>
-    requires formula { lemmas.formula ≡ formula.now }
-    requires ends { EndsEmpty lemmas.steps }
+    requires well { EachStep HasNoFault (log_start formula.now) log.steps }
+    requires good { has_redundant ≡ false → EachStep IsGood (log_start formula.now) log.steps }
+    requires rising { AreRising (length formula.now.clauses) log.steps }
+    requires ends { EndsEmpty log.steps }
     requires unsatisfiable { IsUnsatisfiable formula.now }
-    ensures { IfOk result (λ hints. AreHints formula.now (progress lemmas.entry.steps tally) hints.bytes.items hints.text.items) }
+    ensures { IfOk result (λ hints. AreHints formula.now (progress log.steps tally) hints.bytes.items hints.text.items) }
 {
-    let has_redundant = lemmas.has_redundant();
-    let log = lemmas.into_log();
     if has_redundant {
         return hints_of(alloc, formula, &log, tally);
     }
