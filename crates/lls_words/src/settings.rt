@@ -1,5 +1,5 @@
 // The values of a command's options.
-ghost use Rattle.std.specs.Prelude.{◌≡◌, ◌≤◌, map, find, All, IfOk};
+ghost use Rattle.std.specs.Prelude.{◌≡◌, ◌≤◌, map, find, All, IfOk, OnOk};
 ghost use Rattle.std.specs.Option.{option_map};
 ghost use Rattle.lls_base.specs.Results.{Gives};
 ghost use Rattle.lls_hensel.specs.Isotropy.{IsIsotropic};
@@ -80,47 +80,46 @@ impl Settings {
         }
     }
 
-    // The settings with the value of one option.
-    fn with_value(self, alloc: Global, given: &Given) -> Result<Settings, WordsError>
-        requires { AreSettled self }
-        ensures value { Gives WordsError.Memory (λ s. s) result (with_value self (seen_given given.now)) }
-        ensures allowed { IfOk result AreSettled }
+    // Sets the value of one option. After a fault nothing is said of the settings.
+    fn set(&mut self, alloc: Global, given: &Given) -> Result<(), WordsError>
+        requires { AreSettled self.old }
+        ensures value { Gives WordsError.Memory (λ _. self.new) result (with_value self.old (seen_given given.now)) }
+        ensures allowed { OnOk result (AreSettled self.new) }
     {
-        let mut settings = self;
         let value = given.value.as_bytes();
         let fault = WordsError::BadValue(given.place);
         match given.setting {
-            Setting::Rule => settings.rule = rule_at(given.place, value)?,
-            Setting::Low => settings.low = rule_at(given.place, value)?,
-            Setting::High => settings.high = rule_at(given.place, value)?,
-            Setting::Edge => settings.demands.edge = edge_in(value).ok_or(fault)?,
-            Setting::Symmetry => settings.demands.symmetry = read_symmetry(value).ok_or(fault)?,
-            Setting::Period => settings.demands.period = Some(period_at(given.place, value)?),
-            Setting::Exact => settings.demands.exact = exact_in(value).ok_or(fault)?,
+            Setting::Rule => self.rule = rule_at(given.place, value)?,
+            Setting::Low => self.low = rule_at(given.place, value)?,
+            Setting::High => self.high = rule_at(given.place, value)?,
+            Setting::Edge => self.demands.edge = edge_in(value).ok_or(fault)?,
+            Setting::Symmetry => self.demands.symmetry = read_symmetry(value).ok_or(fault)?,
+            Setting::Period => self.demands.period = Some(period_at(given.place, value)?),
+            Setting::Exact => self.demands.exact = exact_in(value).ok_or(fault)?,
             Setting::Live => {
-                settings.demands.bounds = bounds_at(alloc, given.place, value)?;
+                self.demands.bounds = bounds_at(alloc, given.place, value)?;
             }
             Setting::Differ => {
-                settings.demands.differ = Some(generations_in(value).ok_or(fault)?);
+                self.demands.differ = Some(generations_in(value).ok_or(fault)?);
             }
             Setting::But => {
                 let file = name_in(alloc, given.value)?;
-                settings.but = Some(NamedFile {
+                self.but = Some(NamedFile {
                     place: given.place,
                     file,
                 });
             }
-            Setting::Budget => settings.budget = budget_at(given.place, value)?,
-            Setting::Keep => settings.keep_all = keep_all_in(value).ok_or(fault)?,
-            Setting::Manner => settings.further.manner = Some(manner_in(value).ok_or(fault)?),
-            Setting::First => settings.further.first = Some(seed_in(&given.value).ok_or(fault)?),
-            Setting::As => settings.rle = rle_in(value).ok_or(fault)?,
-            Setting::Images => settings.formulation.images = images_in(value).ok_or(fault)?,
-            Setting::Formula => settings.formulation.form = form_in(value).ok_or(fault)?,
-            Setting::Crew => settings.crew = Some(searchers_at(given.place, value)?),
-            Setting::Turns => settings.turns = seed_in(&given.value).ok_or(fault)?,
+            Setting::Budget => self.budget = budget_at(given.place, value)?,
+            Setting::Keep => self.keep_all = keep_all_in(value).ok_or(fault)?,
+            Setting::Manner => self.further.manner = Some(manner_in(value).ok_or(fault)?),
+            Setting::First => self.further.first = Some(seed_in(&given.value).ok_or(fault)?),
+            Setting::As => self.rle = rle_in(value).ok_or(fault)?,
+            Setting::Images => self.formulation.images = images_in(value).ok_or(fault)?,
+            Setting::Formula => self.formulation.form = form_in(value).ok_or(fault)?,
+            Setting::Crew => self.crew = Some(searchers_at(given.place, value)?),
+            Setting::Turns => self.turns = seed_in(&given.value).ok_or(fault)?,
         }
-        Ok(settings)
+        Ok(())
     }
 }
 
@@ -193,7 +192,7 @@ fn gather(alloc: Global, givens: &[Given]) -> Result<Settings, WordsError>
 {
     let mut settings = Settings::default_values(alloc);
     for given in givens {
-        settings = settings.with_value(alloc, given)?;
+        settings.set(alloc, given)?;
     }
     Ok(settings)
 }
