@@ -1,8 +1,10 @@
 // A made problem: the search file that it is written to, and the search for its solution.
-ghost use Rattle.std.specs.Prelude.{◌≡◌, ◌≤◌, ℕ, List, length, string_bytes, IfOk, count_by};
+ghost use Rattle.std.specs.Prelude.{◌≡◌, ◌≢◌, ◌≤◌, ℕ, List, length, string_bytes, IfOk, count_by};
 ghost use Rattle.lls_gen.specs.Made.{made};
 ghost use Rattle.lls_problem.specs.Solution.{IsSolution};
+ghost use Rattle.lls_encode.specs.Formula.{formula_of};
 ghost use Rattle.lls_solver.specs.declared.solving.TheConstants.{MOST_BUDGET};
+ghost use Rattle.lls_solver.specs.Searching.{IsExhausted, KeepsAll};
 ghost use Rattle.lls_answers.specs.Questions as questions;
 ghost use Rattle.lls_answers.specs.Answer.{IsAnswer};
 ghost use Rattle.lls_answers.specs.Making.{IsSize, is_known, known_count, made_file, problem_lines, search_lines, summary_of};
@@ -113,17 +115,39 @@ pub fn solve_made(alloc: Global, pair: &Made, effort: Effort) -> Result<Answer<'
 {
     let formula = encode(alloc, &pair.problem, Form::Rows)?;
     let mut log = Log::new(alloc);
-    match solve(alloc, &formula, effort.budget, effort.keep_all, &mut log)? {
+    let outcome = solve(alloc, &formula, effort.budget, effort.keep_all, &mut log)?;
+    made_answer(alloc, pair, &formula, &outcome, &log, effort)
+}
+
+// What is answered where the search over the formula of a made problem ended so.
+fn made_answer(
+    alloc: Global,
+    pair: &Made,
+    formula: &Formula,
+    outcome: &Outcome,
+    log: &Log,
+    effort: Effort,
+) -> Result<Answer<'static>, Memory>
+    requires formula { formula.now ≡ formula_of pair.now.problem Form.Rows }
+    requires solution { IsSolution pair.now.problem pair.now.history }
+    requires two { length pair.now.history ≡ 2 }
+    requires found { outcome.now ≢ Outcome.Unsat }
+    requires spent { outcome.now ≡ Outcome.Undecided → IsExhausted formula.now effort.budget log.now.steps }
+    requires kept { KeepsAll effort.keep_all log.now.steps }
+    ensures { (seed size : ℕ) (name : List ℕ) → pair.now ≡ made seed size →
+        IfOk result (IsAnswer (questions.Make seed size name effort)) }
+{
+    match outcome {
         Outcome::Sat(_) => Ok(Answer {
             status: Status::Pattern,
-            text: Text::plain(summary(alloc, pair, &formula, "pattern")?),
+            text: Text::plain(summary(alloc, pair, formula, "pattern")?),
             file: None,
         }),
         Outcome::Unsat => unreachable!(),
         Outcome::Undecided => Ok(Answer {
             status: Status::Undecided,
-            text: Text::plain(summary(alloc, pair, &formula, "undecided")?),
-            file: Some(log_file(alloc, &log, effort.proof)?),
+            text: Text::plain(summary(alloc, pair, formula, "undecided")?),
+            file: Some(log_file(alloc, log, effort.proof)?),
         }),
     }
 }

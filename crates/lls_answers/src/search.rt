@@ -1,5 +1,5 @@
 // Searches: for a solution of a problem, for a rule between two and a solution by it, and for an assignment that satisfies a formula.
-ghost use Rattle.std.specs.Prelude.{◌≡◌, ◌≤◌, [], IfOk};
+ghost use Rattle.std.specs.Prelude.{◌≡◌, ◌≤◌, [], Ok, IfOk};
 ghost use Rattle.std.specs.Option.{ForSome};
 ghost use Rattle.lls_solver.specs.Searching.{IsOutcome};
 ghost use Rattle.lls_solver.specs.declared.solving.TheConstants.{MOST_BUDGET};
@@ -75,15 +75,32 @@ pub fn search<'f>(
     ensures { IfOk result (IsAnswer (questions.Search subject.now effort further.rle)) }
 {
     let mut log = Log::new(alloc);
-    match solve_by(alloc, subject, &effort, &further, &mut log)? {
+    let outcome = solve_by(alloc, subject, &effort, &further, &mut log)?;
+    answer_to(alloc, subject, &outcome, &log, effort, further.rle)
+}
+
+// What is answered where a search ended so, with that log.
+fn answer_to<'f>(
+    alloc: Global,
+    subject: &'f Subject,
+    outcome: &Outcome,
+    log: &Log,
+    effort: Effort,
+    rle: bool,
+) -> Result<Answer<'f>, Memory>
+    requires outcome { IsOutcome (subject_formula subject.now) effort.budget effort.keep_all log.now.steps (Ok outcome.now) }
+    requires printable { CanBePrinted subject.now }
+    ensures { IfOk result (IsAnswer (questions.Search subject.now effort rle)) }
+{
+    match outcome {
         Outcome::Sat(assignment) => Ok(Answer {
             status: Status::Pattern,
-            text: Text::plain(subject.show(alloc, &assignment, further.rle)?),
+            text: Text::plain(subject.show(alloc, assignment, rle)?),
             file: None,
         }),
-        Outcome::Unsat => absence_of(alloc, subject, &log, effort),
+        Outcome::Unsat => absence_of(alloc, subject, log, effort),
         Outcome::Undecided => {
-            let file = log_file(alloc, &log, effort.proof)?;
+            let file = log_file(alloc, log, effort.proof)?;
             Answer::of_text(alloc, Status::Undecided, subject.undecided(), Some(file))
         }
     }
