@@ -16,6 +16,7 @@ import unittest
 import xml.etree.ElementTree
 
 import documents
+import modules
 import rle
 import show
 
@@ -679,10 +680,19 @@ class Pattern(unittest.TestCase):
         self.assertEqual(ran("tools/pattern.py", "--help")[::2], (0, ""))
 
 
+class Modules(unittest.TestCase):
+    """What a module took is the time since the file before came, but for the first of a check."""
+
+    def test_of_two_checks_the_last(self):
+        earlier = [(10, "a"), (12, "b")]
+        last = [(3000, "c"), (3004, "d"), (3005, "e"), (3007, "d")]
+        self.assertEqual(modules.spent(reversed(earlier + last)), {"d": 6, "e": 1})
+
+
 class Slips(unittest.TestCase):
     """Whatever words and files a script gets, it says a sentence and ends with a status that isn't 0: no traceback."""
 
-    SCRIPTS = "costs decided formula lemmas made pattern place pose problems refute show solutions"
+    SCRIPTS = "costs decided formula lemmas made modules pattern place pose problems refute show solutions"
 
     def test_words_and_files(self):
         binary = scratch(self, "binary", "")
