@@ -51,7 +51,7 @@ import tempfile
 import time
 
 import ending
-from learnt import clause_and_hints, live_behind, shortest
+from learnt import live_behind, shortest
 from pattern import pattern_of
 from refute import read_search_file
 from with_solver import without_making
@@ -653,9 +653,13 @@ class Steps:
     def search(self, piece, path, handed, taken):
         """Writes the steps of a search of a piece that had clauses of these ids from the pieces above it, and these of its own, each an id and its literals. Returns those
         that its next search takes, none where this one closes it."""
+        # They stand behind each clause that was learnt: a search learns none that has a literal of what is fixed, and one that stood twice would do no harm.
         outside = [b"%d" % lit for lit in negations(piece)]
+        behind = b" ".join([*outside, b"0"])
         ids, live = Ids(piece, [*handed, *(added for added, _ in taken)]), {}
         live.update(zip(own_ids(piece, len(handed)), (lits for _, lits in taken)))
+        # There are millions of lines, so what is done for each calls nothing that Python has no own words for.
+        id_of, write = ids.__getitem__, self.file.write
         with open(path, "rb") as file:
             for line in file:
                 added, _, rest = line.partition(b" ")
@@ -663,14 +667,15 @@ class Steps:
                     gone = [word for word in rest.split()[1:-1] if word in live]
                     self.delete([live.pop(word) and ids.pop(word) for word in gone])
                     continue
-                lits, hints = clause_and_hints(rest)
-                spaced = b" %s " % lits
-                more = [lit for lit in outside if b" %s " % lit not in spaced]
-                ids[added] = self.add(b" ".join([lits, *more] if lits else more), filter(None, map(ids.__getitem__, hints.split()[:-1])))
-                if not lits:
+                if rest.startswith(b"0 "):
+                    self.add(b" ".join(outside), filter(None, map(id_of, rest.split()[1:-1])))
                     self.delete([ids[word] for word in live])
                     return []
+                lits, _, hints = rest.partition(b" 0 ")
+                self.last += 1
+                ids[added] = b"%d" % self.last
                 live[added] = lits
+                write(b" ".join([ids[added], lits, behind, *filter(None, map(id_of, hints.split()[:-1])), b"0\n"]))
         kept = dict.fromkeys(shortest(live, MOST_CARRIED))
         self.delete([ids[word] for word in live if word not in kept])
         return [(ids[word], live[word]) for word in kept]
@@ -683,14 +688,10 @@ class Steps:
         return [added for added, _ in taken]
 
 
-class Counted(Steps):
-    """The same, of which only the ids are wanted."""
+class Nowhere:
+    """A file for steps of which only the ids are wanted."""
 
-    def add(self, clause, hints):
-        self.last += 1
-        return b"%d" % self.last
-
-    def delete(self, ids):
+    def write(self, text):
         pass
 
 
@@ -709,7 +710,7 @@ class Joined(Steps):
             self.tasks.append((piece, last, handed, f"{self.room}/{piece.name}"))
         if piece.name in self.leaves:
             return last + sum(map(additions_of, searches))
-        counted = Counted(None, last)
+        counted = Steps(Nowhere(), last)
         self.left[piece.name] = counted.searches(piece, handed)
         last = counted.last
         for part in piece.parts():
