@@ -14,17 +14,18 @@ use Rattle.lls_lrat.specs.FaultText.{check_error_text}
 use Rattle.lls_lrat.specs.Verdict.{Accepted, answer_of, verdict}
 use Rattle.lls_lrat.proofs.Logs.{accepted_log, verdict_of_lines}
 use Rattle.lls_trim.specs.declared.error.TrimError.TheVariants.{RatStep}
+use Rattle.lls_trim.specs.declared.trimming.Trimming.{Trimming}
 use Rattle.lls_trim.specs.FaultText.{trim_error_text}
 use Rattle.lls_trim.specs.Placed.{placed_from, steps_of_log, steps_of_text}
 use Rattle.lls_trim.specs.Needed.{IsFirstRat, NeedsNoRat}
 use Rattle.lls_trim.specs.Trimmed.{IsTrimmed}
-use Rattle.lls_trim.specs.Kept.{AreUsed, EndsEmpty, IsSublist, clauses_added}
+use Rattle.lls_trim.specs.Trimming.{IsTrimmingOf}
 use Rattle.lls_answers.specs.Questions as questions
 use Rattle.lls_answers.specs.declared.answer.Answer.{Answer}
 use Rattle.lls_answers.specs.declared.answer_file.AnswerFile.{AnswerFile}
 use Rattle.lls_answers.specs.declared.status.Status.TheVariants as statuses
 use Rattle.lls_answers.specs.Meaning.{said, shown_behind}
-use Rattle.lls_answers.specs.Trimming.{HasTrimmed, inferences_in, kept_text, IsTrim, kept, not_accepted, by_pivot, leaves_trimmed, trim_meaning}
+use Rattle.lls_answers.specs.Trimming.{HasTrimmed, inferences_of_text, kept_text, IsTrim, kept, not_accepted, by_pivot, leaves_trimmed, trim_meaning}
 use Rattle.lls_answers.specs.Answer.{IsAnswer}
 use Rattle.lls_outside.specs.Moment.{ShelfMoment, files_at}
 use Rattle.lls_answers.specs.Standing.{WroteFile}
@@ -38,39 +39,30 @@ placed_from-steps line (step ∷ steps) = ap (λ rest. (line, step) ∷ rest) (p
 steps_of_text-read : (text : List ℕ) (steps : List Step) → ReadsAs text steps → steps_of_text text ≡ steps_of_log steps
 steps_of_text-read text steps read = ap (placed_from 1) read ∙ placed_from-steps 1 steps
 
--- what a trim promises of its log
-pub record TrimsTo (formula : Cnf) (proof : List ℕ) (steps : List Step) : Type 0 where
-  pub trimmed : IsTrimmed formula (steps_of_text proof) steps
-  pub accepted : are_accepted (numbered formula.clauses) steps ≡ true
-  pub good : EachStep IsGood (log_start formula) steps
-  pub additions : list_all is_addition steps ≡ true
-  pub sublist : IsSublist (clauses_added steps) (clauses_added (map (λ placed. placed.1) (steps_of_text proof)))
-  pub used : AreUsed steps
-  pub empty : EndsEmpty steps
-  pub again : IsTrimmed formula (steps_of_log steps) steps
+has_trimmed : (formula : Cnf) (proof output : List ℕ) (trimming : Trimming) (file : AnswerFile) → file ≡ record { name = output; bytes = log_text trimming.log.steps } → ReadsAs file.bytes trimming.log.steps
+    → IsTrimmingOf formula (steps_of_text proof) trimming → HasTrimmed formula proof output file
+has_trimmed formula proof output trimming file named read left =
+    let steps = trimming.log.steps in
+    record {
+      steps = steps;
+      file_is = named;
+      trimmed = left.trimmed;
+      accepted = verdict_of_lines formula steps file.bytes read ∙ accepted_log formula steps left.accepted;
+      additions = left.additions;
+      sublist = left.sublist;
+      used = left.used;
+      empty = left.empty;
+      again = subst (λ placed. IsTrimmed formula placed steps) (sym (steps_of_text-read file.bytes steps read)) left.again;
+    }
 
-has_trimmed : (formula : Cnf) (proof output : List ℕ) (steps : List Step) (file : AnswerFile) → file ≡ record { name = output; bytes = log_text steps } → ReadsAs file.bytes steps
-    → TrimsTo formula proof steps → HasTrimmed formula proof output file
-has_trimmed formula proof output steps file named read to = record {
-  steps = steps;
-  file_is = named;
-  trimmed = to.trimmed;
-  accepted = verdict_of_lines formula steps file.bytes read ∙ accepted_log formula steps to.accepted;
-  additions = to.additions;
-  sublist = to.sublist;
-  used = to.used;
-  empty = to.empty;
-  again = subst (λ placed. IsTrimmed formula placed steps) (sym (steps_of_text-read file.bytes steps read)) to.again;
-}
-
-pub kept_answer : (formula : Cnf) (proof output : List ℕ) (steps : List Step) (file : AnswerFile) (answer : Answer) → file ≡ record { name = output; bytes = log_text steps } → ReadsAs file.bytes steps
-    → TrimsTo formula proof steps → verdict formula proof ≡ Accepted → NeedsNoRat (inferences_in formula proof)
-    → answer ≡ shown_behind file statuses.Done (kept_text (length steps) (length (inferences_in formula proof))) → IsAnswer (questions.Trim formula proof output) answer
+pub kept_answer : (formula : Cnf) (proof output : List ℕ) (trimming : Trimming) (file : AnswerFile) (answer : Answer) → file ≡ record { name = output; bytes = log_text trimming.log.steps } → ReadsAs file.bytes trimming.log.steps
+    → IsTrimmingOf formula (steps_of_text proof) trimming → verdict formula proof ≡ Accepted → NeedsNoRat (inferences_of_text formula proof)
+    → answer ≡ shown_behind file statuses.Done (kept_text (length trimming.log.steps) (length (inferences_of_text formula proof))) → IsAnswer (questions.Trim formula proof output) answer
 unfolding has_trimmed
-kept_answer formula proof output steps file answer named read to accepted none is =
+kept_answer formula proof output trimming file answer named read left accepted none is =
     subst (IsAnswer (questions.Trim formula proof output)) (sym is) (record {
-      answers = kept file (has_trimmed formula proof output steps file named read to);
-      holds = (accepted, none, unsatisfiable_by_propagation formula steps to.good to.accepted);
+      answers = kept file (has_trimmed formula proof output trimming file named read left);
+      holds = (accepted, none, unsatisfiable_by_propagation formula trimming.log.steps left.good left.accepted);
     })
 
 pub not_accepted_answer : (formula : Cnf) (proof output : List ℕ) (error : CheckError) (answer : Answer) → answer_of (verdict formula proof) ≡ Err error
@@ -83,7 +75,7 @@ not_accepted_answer formula proof output error answer bad is =
           absurd cc;
     })
 
-pub by_pivot_answer : (formula : Cnf) (proof output : List ℕ) (line : ℕ) (answer : Answer) → verdict formula proof ≡ Accepted → IsFirstRat (inferences_in formula proof) line
+pub by_pivot_answer : (formula : Cnf) (proof output : List ℕ) (line : ℕ) (answer : Answer) → verdict formula proof ≡ Accepted → IsFirstRat (inferences_of_text formula proof) line
     → answer ≡ said statuses.Refused (codes "refused: " ++ trim_error_text (RatStep line)) → IsAnswer (questions.Trim formula proof output) answer
 by_pivot_answer formula proof output line answer accepted first is =
     subst (IsAnswer (questions.Trim formula proof output)) (sym is) (record {

@@ -23,8 +23,8 @@ use Rattle.lls_answers.specs.Checks.{check_answer}
 use Rattle.lls_answers.specs.Meaning.{Meaning, OfFile, answered_by, leaves_none, said, shown_behind}
 
 -- the additions of a proof, up to and with the first empty one, each with what it comes from
-abbrev pub inferences_in : Cnf → List ℕ → List Inference
-inferences_in formula proof = inferences_of formula (steps_of_text proof)
+abbrev pub inferences_of_text : Cnf → List ℕ → List Inference
+inferences_of_text formula proof = inferences_of formula (steps_of_text proof)
 
 -- the file has what the empty clause of the proof rests on. That is an accepted proof without a deletion, whose clauses are some of the
 -- given ones; each but the last is of use, and the last alone is empty; and nothing can be trimmed from it
@@ -47,9 +47,9 @@ kept_text kept given = codes "kept " ++ decimal kept ++ codes " of " ++ decimal 
 -- addition that it rests on and that isn't by unit propagation
 pub data IsTrim (formula : Cnf) (proof output : List ℕ) : Answer → Type 0 where
   kept : (file : AnswerFile) (has : HasTrimmed formula proof output file)
-      → IsTrim formula proof output (shown_behind file statuses.Done (kept_text (length has.steps) (length (inferences_in formula proof))))
+      → IsTrim formula proof output (shown_behind file statuses.Done (kept_text (length has.steps) (length (inferences_of_text formula proof))))
   not_accepted : (error : CheckError) → answer_of (verdict formula proof) ≡ Err error → IsTrim formula proof output (check_answer (Err error))
-  by_pivot : (line : ℕ) → verdict formula proof ≡ Accepted → IsFirstRat (inferences_in formula proof) line
+  by_pivot : (line : ℕ) → verdict formula proof ≡ Accepted → IsFirstRat (inferences_of_text formula proof) line
       → IsTrim formula proof output (said statuses.Refused (codes "refused: " ++ trim_error_text (RatStep line)))
 
 -- the file of a trimmed proof, at the statuses at which it may have changed
@@ -67,8 +67,8 @@ leaves_trimmed formula proof output status files = leaves_none status files
 -- accepted, or rests on something else too
 abbrev pub trim_meaning : Cnf → List ℕ → List ℕ → Meaning
 trim_meaning formula proof output = record (answered_by (IsTrim formula proof output)) {
-  yes = (verdict formula proof ≡ Accepted) × NeedsNoRat (inferences_in formula proof) × IsUnsatisfiable formula;
-  no = verdict formula proof ≡ Accepted → NeedsNoRat (inferences_in formula proof) → ⊥;
+  yes = (verdict formula proof ≡ Accepted) × NeedsNoRat (inferences_of_text formula proof) × IsUnsatisfiable formula;
+  no = verdict formula proof ≡ Accepted → NeedsNoRat (inferences_of_text formula proof) → ⊥;
   writes = λ status. trimmed_at status output;
   leaves = leaves_trimmed formula proof output;
 }

@@ -1,5 +1,5 @@
 -- An accepted proof's additions rest on clauses of the formula and on additions before them.
-use Rattle.std.proofs.Common.{◌≡◌, ℕ, zero, suc, Bool, true, false, not, ◌||◌, cond, List, [], ◌∷◌, ◌++◌, length, map, Option, Some, None, refl, sym, ap, ◌∙◌, inl, inr, arith, eqb, length-append}
+use Rattle.std.proofs.Common.{◌≡◌, ℕ, zero, suc, Bool, true, false, not, ◌||◌, cond, List, [], ◌∷◌, ◌++◌, length, Option, Some, None, refl, sym, ap, ◌∙◌, inl, inr, arith, eqb, length-append}
 use Rattle.std.specs.Prelude.{ℤ, pos, negsuc, filter, slice_get, is_none}
 use Rattle.std.specs.List.{list_any}
 use Rattle.std.specs.Option.{option_map, option_or}
@@ -12,7 +12,7 @@ use Rattle.lls_prooflog.proofs.Soundness.{adds_well}
 use Rattle.lls_lrat.specs.Looked.{looked_at}
 use Rattle.lls_trim.specs.declared.source.Source.{Source}
 use Rattle.lls_trim.specs.declared.source.Source.TheVariants.{Given, Added}
-use Rattle.lls_trim.specs.Placed.{Placed}
+use Rattle.lls_trim.specs.Placed.{Placed, steps_in}
 use Rattle.lls_trim.specs.Inferences.{Inference, Before, at_start, with_name, behind, sources_of, inference_at, inferences_from, inferences_of}
 use Rattle.lls_trim.proofs.Walks.{ClosesAtEnd, Finds, looked_finds}
 
@@ -166,9 +166,6 @@ accepts live step steps e =
       | None ↦ λ good h. record { good = good; rest = h }
       | Some fault ↦ λ _ h. absurd cc
     ] refl e
-
-abbrev pub steps_in : Placed → List Step
-steps_in placed = map (λ p. p.1) placed
 
 -- what is founded, and ends with the empty clause
 pub record IsProof (clauses : List Clause) (done inferences : List Inference) : Type 0 where

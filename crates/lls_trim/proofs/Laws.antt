@@ -16,14 +16,14 @@ use Rattle.lls_prooflog.specs.Spent.{LogState, log_after, EachStep, IsGood, Adds
 use Rattle.lls_prooflog.proofs.Soundness.{good_by_propagation}
 use Rattle.lls_trim.specs.declared.source.Source.{Source}
 use Rattle.lls_trim.specs.declared.source.Source.TheVariants.{Given, Added}
-use Rattle.lls_trim.specs.Placed.{Placed}
+use Rattle.lls_trim.specs.Placed.{Placed, steps_in}
 use Rattle.lls_trim.specs.Inferences.{Inference, Before, behind, inference_at, inferences_from}
 use Rattle.lls_trim.specs.Needed.{sources_in, sources_at, IsNeeded, source, NeedsNoRat}
 use Rattle.lls_trim.specs.Trimmed.{is_marked, new_id, new_hint, new_step, AreMarked}
 use Rattle.lls_trim.specs.Marking.{IsBelow, AreOrdered, IsGivenWithin, AreGivenWithin}
 use Rattle.lls_trim.specs.Kept.{IsSublist, nothing, keeps, skips, clauses_added, EndsEmpty}
 use Rattle.lls_trim.proofs.Walks.{Finds, found_closes}
-use Rattle.lls_trim.proofs.Founded.{source_clause, AreClauses, RestsOn, FoundedBy, AreFounded, EndsAt, LastIsEmpty, find_clause-append, slice_get-last, steps_in}
+use Rattle.lls_trim.proofs.Founded.{source_clause, AreClauses, RestsOn, FoundedBy, AreFounded, EndsAt, LastIsEmpty, find_clause-append, slice_get-last}
 use Rattle.lls_trim.proofs.Renumbered.{written_at, new_id-marked, new_id-passed}
 
 -- the additions among these sources are marked

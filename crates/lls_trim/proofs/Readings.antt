@@ -15,10 +15,9 @@ use Rattle.lls_lrat.specs.declared.error.CheckError.{CheckError}
 use Rattle.lls_lrat.specs.declared.error.CheckError.TheVariants as errors
 use Rattle.lls_lrat.specs.Verdict.{Verdict, Accepted, BadLine, BadStep, NoEmpty, State, start, after_step, line_taken, take_line, step_taken, take_step, closing, verdict, log_verdict, answer_of}
 use Rattle.lls_lrat.proofs.Verdicts.{fold-ended}
-use Rattle.lls_trim.specs.Placed.{Placed, placed_from, steps_of_text, steps_of_log}
+use Rattle.lls_trim.specs.Placed.{Placed, placed_from, steps_in, steps_of_log, steps_of_text}
 use Rattle.lls_trim.specs.Inferences.{Before, behind, inference_at, put_step, inferences_from, inferences_of}
 use Rattle.lls_trim.specs.Recording.{Recording, begun, before, with_step, unless_fault, step_recorded, reading_recorded, take_reading, reading_taken, state_at, verdict_of, GoesOn}
-use Rattle.lls_trim.proofs.Founded.{steps_in}
 
 abbrev pub Reading : Type 0
 Reading = Result (Option Step) LineFault

@@ -1,6 +1,6 @@
 -- What holds of every trimmed proof, in the words of the public calls.
-use Rattle.std.proofs.Common.{◌≡◌, ◌≢◌, ℕ, zero, suc, ◌+◌, ◌≤◌, Bool, true, false, cond, List, [], ◌∷◌, length, map, Option, Some, None, refl, sym, ap, ◌∙◌, subst, arith}
-use Rattle.std.specs.Prelude.{ℤ, Result, Ok, Err, IfOk, OnOk, slice_get, is_none, find, count_by}
+use Rattle.std.proofs.Common.{◌≡◌, ◌≢◌, ℕ, zero, suc, ◌+◌, Bool, true, false, cond, List, [], ◌∷◌, length, map, Option, Some, None, refl, sym, ap, ◌∙◌, subst, arith}
+use Rattle.std.specs.Prelude.{ℤ, Result, Ok, Err, IfOk, OnOk, slice_get, is_none, find}
 use Rattle.std.specs.List.{enumerate_from}
 use Rattle.std.specs.Option.{option_map}
 use Rattle.lls_lit.specs.Formula.{Clause, Cnf}
@@ -8,7 +8,7 @@ use Rattle.lls_prooflog.specs.declared.step.Step.{Step}
 use Rattle.lls_prooflog.specs.declared.step.Step.TheVariants.{Add, Del}
 use Rattle.std.proofs.lemmas.Option.{same_Some}
 use Rattle.lls_prooflog.specs.Steps.{numbered, unit_walk, after, are_accepted}
-use Rattle.lls_prooflog.specs.Spent.{LogState, log_start, log_after, EachStep, IsGood, is_addition}
+use Rattle.lls_prooflog.specs.Spent.{LogState, log_start, log_after, EachStep, IsGood}
 use Rattle.lls_prooflog.proofs.Soundness.{walk_is_good}
 use Rattle.lls_lrat.specs.Looked.{beginnings, looked_at}
 use Rattle.lls_lrat.proofs.Looking.{find-map}
@@ -19,14 +19,14 @@ use Rattle.lls_trim.specs.declared.error.TrimError.{TrimError}
 use Rattle.lls_trim.specs.declared.error.TrimError.TheVariants.{Refused, Memory}
 use Rattle.lls_trim.specs.declared.trimming.Trimming.{Trimming}
 use Rattle.lls_trim.specs.FaultText.{refused}
-use Rattle.lls_trim.specs.Placed.{Placed, steps_of_log}
+use Rattle.lls_trim.specs.Placed.{Placed, steps_in, steps_of_log}
 use Rattle.lls_trim.specs.Inferences.{Inference, Before, at_start, behind, inference_at, sources_of, inferences_from, inferences_of}
 use Rattle.lls_trim.specs.Needed.{last, IsFirstRat, NeedsNoRat}
 use Rattle.lls_trim.specs.Trimmed.{is_marked, renumbered, AreMarked, Trims, IsTrimmed}
 use Rattle.lls_trim.specs.Marking.{AreOrdered}
-use Rattle.lls_trim.specs.Kept.{IsSublist, clauses_added, AreUsed}
-use Rattle.lls_trim.proofs.Founded.{AreFounded, LastIsEmpty, is_proof, steps_in}
-use Rattle.lls_trim.proofs.Laws.{IsClosed, KeepsWell, kept_well, kept-start, kept_sublist, inferences_fewer, closed_at, ordered_founded}
+use Rattle.lls_trim.specs.Trimming.{IsTrimmingOf}
+use Rattle.lls_trim.proofs.Founded.{AreFounded, LastIsEmpty, is_proof}
+use Rattle.lls_trim.proofs.Laws.{IsClosed, kept_well, kept-start, kept_sublist, inferences_fewer, closed_at, ordered_founded}
 use Rattle.lls_trim.proofs.Readings.{steps_in-log}
 use Rattle.lls_trim.proofs.Renumbered.{length-renumbered-le}
 use Rattle.lls_trim.proofs.Used.{are_used}
@@ -51,50 +51,42 @@ again_kept formula marks inferences m closed founded ends accepted =
       steps_are = steps_again given marks inferences m ordered closed ∙ ap (renumbered given (all_set (length new))) (sym same);
     }
 
--- what holds of a trim of an accepted proof, where each needed addition is by unit propagation
-pub record TrimsWell (formula : Cnf) (placed : Placed) (trimming : Trimming) : Type 0 where
-  pub well : KeepsWell (log_start formula) trimming.log.steps
-  pub used : AreUsed trimming.log.steps
-  pub sublist : IsSublist (clauses_added trimming.log.steps) (clauses_added (steps_in placed))
-  pub fewer : length trimming.log.steps ≤ count_by is_addition (steps_in placed)
-  pub within : length trimming.log.steps ≤ trimming.additions
-  pub again : IsTrimmed formula (steps_of_log trimming.log.steps) trimming.log.steps
-
 module _ (formula : Cnf) (placed : Placed) (accepted : are_accepted (numbered formula.clauses) (steps_in placed) ≡ true) where
-  trims_well : (trimming : Trimming) → IsTrimmed formula placed trimming.log.steps → trimming.additions ≡ length (inferences_of formula placed) → NeedsNoRat (inferences_of formula placed) → TrimsWell formula placed trimming
-  trims_well trimming t additions none =
+  trims_well : (trimming : Trimming) → IsTrimmed formula placed trimming.log.steps → trimming.additions ≡ length (inferences_of formula placed) → NeedsNoRat (inferences_of formula placed) → IsTrimmingOf formula placed trimming
+  trims_well trimming t counted none =
       let inferences = inferences_of formula placed in
       let proof = is_proof formula placed accepted in
       let closed = closed_at inferences t.marks t.marked none in
       let ended = λ (k : ℕ) (e : k + 1 ≡ length inferences). (t.marked.needed k).1 (last k e) in
       let well = kept_well formula.clauses t.marks inferences t.marked.as_many closed ended inferences [] (log_start formula) refl (kept-start formula.clauses t.marks) proof.founded proof.ends in
       let few = length-renumbered-le (length formula.clauses) t.marks inferences in
+      let left : IsTrimmed formula placed (renumbered (length formula.clauses) t.marks inferences) = record { marks = t.marks; marked = t.marked; steps_are = refl } in
       rw t.steps_are (record {
-        well = well;
-        again = again_kept formula t.marks inferences t.marked closed proof.founded proof.ends well.accepted;
-        used = are_used (length formula.clauses) t.marks inferences t.marked (ordered_founded formula.clauses inferences proof.founded);
+        trimmed = left;
+        counted = counted;
+        accepted = well.accepted;
+        good = well.good;
+        additions = well.additions;
         sublist = kept_sublist (length formula.clauses) t.marks placed (at_start formula) 0;
         fewer = omega (arith, few, inferences_fewer placed (at_start formula));
-        within = omega (arith, few, additions);
+        within = omega (arith, few, counted);
+        used = are_used (length formula.clauses) t.marks inferences t.marked (ordered_founded formula.clauses inferences proof.founded);
+        empty = well.ends_empty;
+        again = again_kept formula t.marks inferences t.marked closed proof.founded proof.ends well.accepted;
       })
 
-  by_result : {E : Type 0} (r : Result Trimming E) → IfOk r (λ t. IsTrimmed formula placed t.log.steps) → IfOk r (λ t. t.additions ≡ length (inferences_of formula placed)) → OnOk r (NeedsNoRat (inferences_of formula placed)) → IfOk r (TrimsWell formula placed)
-  by_result (Ok trimming) t additions none = trims_well trimming t additions none
-  by_result (Err e) t additions none = tt
+  by_result : {E : Type 0} (r : Result Trimming E) → IfOk r (λ t. IsTrimmed formula placed t.log.steps) → IfOk r (λ t. t.additions ≡ length (inferences_of formula placed)) → OnOk r (NeedsNoRat (inferences_of formula placed)) → IfOk r (IsTrimmingOf formula placed)
+  by_result (Ok trimming) t counted none = trims_well trimming t counted none
+  by_result (Err e) t counted none = tt
 
   -- a call that was given the additions, and so many clauses, trims well
   pub call_trims_well : {E : Type 0} (inferences : List Inference) (given : ℕ) (r : Result Trimming E) → inferences ≡ inferences_of formula placed → given ≡ length formula.clauses
-      → IfOk r (λ t. Trims given inferences t.log.steps) → IfOk r (λ t. t.additions ≡ length inferences) → OnOk r (NeedsNoRat inferences) → IfOk r (TrimsWell formula placed)
-  call_trims_well inferences given r same len trims additions none =
+      → IfOk r (λ t. Trims given inferences t.log.steps) → IfOk r (λ t. t.additions ≡ length inferences) → OnOk r (NeedsNoRat inferences) → IfOk r (IsTrimmingOf formula placed)
+  call_trims_well inferences given r same len trims counted none =
       by_result r
       (subst (λ (is : List Inference). IfOk r (λ t. Trims (length formula.clauses) is t.log.steps)) same (subst (λ (n : ℕ). IfOk r (λ t. Trims n inferences t.log.steps)) len trims))
-      (subst (λ (is : List Inference). IfOk r (λ t. t.additions ≡ length is)) same additions)
+      (subst (λ (is : List Inference). IfOk r (λ t. t.additions ≡ length is)) same counted)
       (subst (λ (is : List Inference). OnOk r (NeedsNoRat is)) same none)
-
--- a value that is Ok has what follows from what it has
-pub if_ok : {X E : Type 0} (P Q : X → Type 0) (r : Result X E) → IfOk r P → ((x : X) → P x → Q x) → IfOk r Q
-if_ok P Q (Ok x) p more = more x p
-if_ok P Q (Err e) p more = tt
 
 pub on_ok_any : {X E : Type 0} (P : Type 0) (r : Result X E) → P → OnOk r P
 on_ok_any P (Ok x) p = p

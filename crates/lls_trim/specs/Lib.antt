@@ -4,6 +4,7 @@ pub mod Inferences
 pub mod Needed
 pub mod Trimmed
 pub mod Kept
+pub mod Trimming
 pub mod Numbers
 pub mod Buffers
 pub mod Recording

@@ -1,5 +1,5 @@
 -- The steps of a proof, each with the number of its line.
-use Rattle.std.specs.Prelude.{ℕ, ◌+◌, List, [], ◌∷◌, Option, Some, None, Result, Ok, Err}
+use Rattle.std.specs.Prelude.{ℕ, ◌+◌, List, [], ◌∷◌, map, Option, Some, None, Result, Ok, Err}
 use Rattle.std.specs.List.{enumerate_from}
 use Rattle.lls_prooflog.specs.declared.line_fault.LineFault.{LineFault}
 use Rattle.lls_prooflog.specs.declared.step.Step.{Step}
@@ -26,3 +26,7 @@ steps_of_text text = placed_from 1 (read_lines text)
 -- each step of a log is a line
 abbrev pub steps_of_log : List Step → Placed
 steps_of_log steps = enumerate_from 1 steps
+
+-- the steps alone
+abbrev pub steps_in : Placed → List Step
+steps_in placed = map (λ p. p.1) placed

@@ -1,14 +1,12 @@
 // The trim of a log.
-ghost use Rattle.std.specs.Prelude.{◌≡◌, ◌≢◌, ◌≤◌, ℕ, true, Err, IfOk, IfErr, OnOk, length, count_by};
-ghost use Rattle.std.specs.List.{list_all};
-ghost use Rattle.lls_prooflog.specs.Spent.{EachStep, IsGood, log_start, is_addition};
+ghost use Rattle.std.specs.Prelude.{◌≡◌, ◌≢◌, ℕ, true, Err, IfOk, IfErr, OnOk};
+ghost use Rattle.lls_prooflog.specs.Spent.{EachStep, IsGood, log_start};
 ghost use Rattle.lls_prooflog.specs.Steps.{numbered, are_accepted};
 ghost use Rattle.lls_lrat.specs.Verdict.{Accepted, log_verdict, answer_of};
 ghost use Rattle.lls_trim.specs.Placed.{steps_of_log};
 ghost use Rattle.lls_trim.specs.Inferences.{inferences_of};
 ghost use Rattle.lls_trim.specs.Needed.{IsFirstRat, NeedsNoRat};
-ghost use Rattle.lls_trim.specs.Trimmed.{IsTrimmed};
-ghost use Rattle.lls_trim.specs.Kept.{IsSublist, clauses_added, AreUsed, EndsEmpty};
+ghost use Rattle.lls_trim.specs.Trimming.{IsTrimmingOf};
 
 use crate::inferences::Inferences;
 use crate::recorder::Recorder;
@@ -20,7 +18,7 @@ use std::alloc::Global;
 
 /// The same of a log, as `check` stands beside `check_bytes`. The line of a step is its number, from 1.
 pub fn trim(alloc: Global, formula: &Formula, log: &Log) -> Result<Trimming, TrimError>
-    ensures trimmed { IfOk result (λ trimming. IsTrimmed formula.now (steps_of_log log.now.steps) trimming.log.steps) }
+    ensures left { IfOk result (IsTrimmingOf formula.now (steps_of_log log.now.steps)) }
 
     // It is Ok where the steps are accepted and each needed addition is by unit propagation, and nowhere else.
     ensures accepted { OnOk result (are_accepted (numbered formula.now.clauses) log.now.steps ≡ true) }
@@ -37,24 +35,6 @@ pub fn trim(alloc: Global, formula: &Formula, log: &Log) -> Result<Trimming, Tri
         (error : CheckError) → result ≢ Err (TrimError.Refused error) }
     ensures not_rat { EachStep IsGood (log_start formula.now) log.now.steps →
         (line : ℕ) → result ≢ Err (TrimError.RatStep line) }
-
-    // The additions are counted up to and with the first empty clause.
-    ensures given { IfOk result (λ trimming. trimming.additions ≡ length (inferences_of formula.now (steps_of_log log.now.steps))) }
-
-    // The result is an accepted proof by unit propagation, without a deletion.
-    ensures accepted_again { IfOk result (λ trimming. are_accepted (numbered formula.now.clauses) trimming.log.steps ≡ true) }
-    ensures additions { IfOk result (λ trimming. list_all is_addition trimming.log.steps ≡ true) }
-    ensures good { IfOk result (λ trimming. EachStep IsGood (log_start formula.now) trimming.log.steps) }
-
-    // Its clauses are some of the given ones; each but the last is of use, and the last alone is empty.
-    ensures sublist { IfOk result (λ trimming. IsSublist (clauses_added trimming.log.steps) (clauses_added log.now.steps)) }
-    ensures fewer { IfOk result (λ trimming. length trimming.log.steps ≤ count_by is_addition log.now.steps) }
-    ensures within { IfOk result (λ trimming. length trimming.log.steps ≤ trimming.additions) }
-    ensures used { IfOk result (λ trimming. AreUsed trimming.log.steps) }
-    ensures empty { IfOk result (λ trimming. EndsEmpty trimming.log.steps) }
-
-    // There is nothing to be trimmed from it.
-    ensures again { IfOk result (λ trimming. IsTrimmed formula.now (steps_of_log trimming.log.steps) trimming.log.steps) }
 {
     let recorded = Recorded::of_log(alloc, formula, log)?;
     recorded.trim(alloc)

@@ -1,19 +1,15 @@
 // The trim of a proof's text.
-ghost use Rattle.std.specs.Prelude.{◌≡◌, ◌≢◌, ◌+◌, ◌<◌, ◌≤◌, ◌^◌, ℕ, true, false, Err, IfOk, IfErr, OnOk, length, map};
-ghost use Rattle.std.specs.List.{list_all};
+ghost use Rattle.std.specs.Prelude.{◌≡◌, ◌≢◌, ◌+◌, ◌<◌, ◌^◌, ℕ, false, Err, IfOk, IfErr, OnOk};
 ghost use Rattle.lls_base.specs.Results.{Gives};
 ghost use Rattle.lls_prooflog.specs.Line.{step_of_line};
-ghost use Rattle.lls_prooflog.specs.Spent.{EachStep, IsGood, log_start, is_addition};
-ghost use Rattle.lls_prooflog.specs.Steps.{numbered, are_accepted};
 ghost use Rattle.lls_lrat.specs.Checking.{progress_of};
 ghost use Rattle.lls_lrat.specs.Verdict.{Accepted, verdict, answer_of};
-ghost use Rattle.lls_trim.specs.Placed.{steps_of_text, steps_of_log};
+ghost use Rattle.lls_trim.specs.Placed.{steps_of_text};
 ghost use Rattle.lls_trim.specs.Inferences.{inferences_of};
 ghost use Rattle.lls_trim.specs.Needed.{IsFirstRat, NeedsNoRat};
-ghost use Rattle.lls_trim.specs.Trimmed.{IsTrimmed};
+ghost use Rattle.lls_trim.specs.Trimming.{IsTrimmingOf};
 ghost use Rattle.lls_trim.specs.Buffers.{names_in};
 ghost use Rattle.lls_trim.specs.Recording.{AreNumbered, recording_of, reading_recorded};
-ghost use Rattle.lls_trim.specs.Kept.{IsSublist, clauses_added, AreUsed, EndsEmpty};
 
 use crate::inferences::Inferences;
 use crate::recorder::Recorder;
@@ -29,7 +25,7 @@ use std::alloc::Global;
 /// number of clauses upwards, their literals as they stand there, and of their hints those that were looked at, each with the id that its
 /// clause has now. A text that `check_bytes` refuses is refused for the same fault.
 pub fn trim_bytes(alloc: Global, formula: &Formula, text: &[u8]) -> Result<Trimming, TrimError>
-    ensures trimmed { IfOk result (λ trimming. IsTrimmed formula.now (steps_of_text text.now) trimming.log.steps) }
+    ensures left { IfOk result (IsTrimmingOf formula.now (steps_of_text text.now)) }
 
     // It is Ok where the text is accepted and each needed addition is by unit propagation, and nowhere else.
     ensures accepted { OnOk result (verdict formula.now text.now ≡ Accepted) }
@@ -40,24 +36,6 @@ pub fn trim_bytes(alloc: Global, formula: &Formula, text: &[u8]) -> Result<Trimm
         IsFirstRat (inferences_of formula.now (steps_of_text text.now)) line }
     ensures rat_accepted { (line : ℕ) → result ≡ Err (TrimError.RatStep line) →
         verdict formula.now text.now ≡ Accepted }
-
-    // The additions are counted up to and with the first empty clause.
-    ensures given { IfOk result (λ trimming. trimming.additions ≡ length (inferences_of formula.now (steps_of_text text.now))) }
-
-    // The result is an accepted proof by unit propagation, without a deletion.
-    ensures accepted_again { IfOk result (λ trimming. are_accepted (numbered formula.now.clauses) trimming.log.steps ≡ true) }
-    ensures additions { IfOk result (λ trimming. list_all is_addition trimming.log.steps ≡ true) }
-    ensures good { IfOk result (λ trimming. EachStep IsGood (log_start formula.now) trimming.log.steps) }
-
-    // Its clauses are some of the given ones; each but the last is of use, and the last alone is empty.
-    ensures sublist { IfOk result (λ trimming. IsSublist (clauses_added trimming.log.steps)
-        (clauses_added (map (λ placed. placed.1) (steps_of_text text.now)))) }
-    ensures fewer { IfOk result (λ trimming. length trimming.log.steps ≤ trimming.additions) }
-    ensures used { IfOk result (λ trimming. AreUsed trimming.log.steps) }
-    ensures empty { IfOk result (λ trimming. EndsEmpty trimming.log.steps) }
-
-    // There is nothing to be trimmed from it.
-    ensures again { IfOk result (λ trimming. IsTrimmed formula.now (steps_of_log trimming.log.steps) trimming.log.steps) }
 {
     let inferences = record_text(alloc, formula, text)?;
     trim_inferences(alloc, formula.len(), &inferences)

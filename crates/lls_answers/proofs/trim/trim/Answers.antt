@@ -3,28 +3,16 @@ use Rattle.std.proofs.lemmas.Result.{IfOk-weaker}
 use Rattle.lls_answers.specs.declared.status.Status.TheVariants as statuses
 use Rattle.lls_answers.specs.Meaning.{shown_behind}
 use Rattle.lls_answers.specs.Trimming.{kept_text}
-use Rattle.lls_answers.proofs.Trims.{TrimsTo, kept_answer, not_accepted_answer, by_pivot_answer}
+use Rattle.lls_answers.proofs.Trims.{kept_answer, not_accepted_answer, by_pivot_answer}
 use Rattle.lls_answers.proofs.trim.trim.Goals as goal
 
 pub returns-in-Ok : goal.returns-in-Ok
 returns-in-Ok c =
     let formula = c.args.formula.now in
-    let proof = c.args.proof.now in
     let says = c.in-Ok.ensures in
-    let steps = c.in-Ok.trimming.log.steps in
     let file = c.in_ok-file-in-Ok.file in
-    let to : TrimsTo formula proof steps = record {
-      trimmed = says.trimmed;
-      accepted = says.accepted_again;
-      good = says.good;
-      additions = says.additions;
-      sublist = says.sublist;
-      used = says.used;
-      empty = says.empty;
-      again = says.again;
-    } in
-    kept_answer formula proof c.args.output steps file _ c.in_ok-file-in-Ok.ensures.file c.in_ok-file-in-Ok.ensures.read_again to says.accepted says.by_propagation
-    (ap (shown_behind file statuses.Done) (c.plain.ensures ∙ c.in_ok-text-in-Ok.ensures ∙ ap₂ kept_text c.len.ensures says.given))
+    kept_answer formula c.args.proof.now c.args.output c.in-Ok.trimming file _ c.in_ok-file-in-Ok.ensures.file c.in_ok-file-in-Ok.ensures.read_again says.left says.accepted says.by_propagation
+    (ap (shown_behind file statuses.Done) (c.plain.ensures ∙ c.in_ok-text-in-Ok.ensures ∙ ap₂ kept_text c.len.ensures says.left.counted))
 
 pub returns-in-Err-Refused : goal.returns-in-Err-Refused
 returns-in-Err-Refused c =

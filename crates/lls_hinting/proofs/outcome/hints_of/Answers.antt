@@ -1,4 +1,8 @@
-use Rattle.std.proofs.Common.{Err, ap, ◌∙◌, inl, inr}
+use Rattle.std.proofs.Common.{◌≤◌, ◌∙◌, List, Err, ap, inl, inr, length, subst}
+use Rattle.std.specs.Prelude.{count_by}
+use Rattle.lls_prooflog.specs.declared.step.Step.{Step}
+use Rattle.lls_prooflog.specs.Spent.{is_addition}
+use Rattle.lls_trim.proofs.Readings.{steps_in-log}
 use Rattle.lls_hinting.proofs.Hinting.{accepted_at_end, additions_fewer, are_hints}
 use Rattle.lls_hinting.specs.Judging.{progress}
 use Rattle.lls_hinting.proofs.outcome.hints_of.Goals as goal
@@ -10,11 +14,12 @@ unreachable-requires c =
 
 pub returns-in-Ok : goal.returns-in-Ok
 returns-in-Ok c =
-    let trimmed = c.in-Ok.ensures in
+    let trimming = c.in-Ok.ensures.left in
     let steps = c.args.log.now.steps in
     let kept = c.in-Ok.trimming.log.steps in
-    are_hints c.args.formula.now (progress steps c.args.tally) kept c.additions-given.result c.printed.result c.additions-given.ensures (additions_fewer kept steps trimmed.fewer)
-    c.printed.ensures.text c.printed.ensures.read_again trimmed.accepted_again c.requires.unsatisfiable (inl (record { left = trimmed.trimmed; additions = trimmed.additions; again = trimmed.again })) c.printed.ensures.said
+    let fewer = subst (λ (ss : List Step). length kept ≤ count_by is_addition ss) (steps_in-log 1 steps) trimming.fewer in
+    are_hints c.args.formula.now (progress steps c.args.tally) kept c.additions-given.result c.printed.result c.additions-given.ensures (additions_fewer kept steps fewer)
+    c.printed.ensures.text c.printed.ensures.read_again trimming.accepted c.requires.unsatisfiable (inl (record { left = trimming.trimmed; additions = trimming.additions; again = trimming.again })) c.printed.ensures.said
 
 pub returns-in_ok-rest-in-Err-RatStep : goal.returns-in_ok-rest-in-Err-RatStep
 returns-in_ok-rest-in-Err-RatStep c =

@@ -14,9 +14,9 @@ use Rattle.lls_trim.specs.declared.trimming.Trimming.{Trimming}
 use Rattle.lls_trim.specs.Placed.{steps_of_log}
 use Rattle.lls_trim.specs.Inferences.{Inference}
 use Rattle.lls_trim.specs.Needed.{IsFirstRat}
-use Rattle.lls_trim.specs.Trimmed.{IsTrimmed, Trims}
+use Rattle.lls_trim.specs.Trimming.{IsTrimmingOf}
 use Rattle.lls_trim.proofs.Readings.{steps_in-log}
-use Rattle.lls_trim.proofs.Theorem.{TrimsWell, call_trims_well, no_first_rat}
+use Rattle.lls_trim.proofs.Theorem.{call_trims_well, no_first_rat}
 use Rattle.lls_hinting.specs.Judging.{progress}
 use Rattle.lls_hinting.proofs.Hinting.{accepted_at_end, additions_fewer, are_hints}
 use Rattle.lls_hinting.proofs.outcome.trimmed.Goals as goal
@@ -42,12 +42,9 @@ returns-in-Ok-trim c =
     let does = c.in-Ok-trim.ensures in
     let accepted = ap (are_accepted (numbered formula.clauses)) (steps_in-log 1 steps) ∙ accepted_at_end formula steps c.requires.well c.requires.ends in
     let result : Result Trimming TrimError = Ok trimming in
-    let well : TrimsWell formula (steps_of_log steps) trimming =
+    let well : IsTrimmingOf formula (steps_of_log steps) trimming =
     call_trims_well formula (steps_of_log steps) accepted recorded.inferences (length recorded.formula.clauses) result
     c.in-Ok.ensures.inferences (ap (λ (f : Cnf). length f.clauses) c.in-Ok.ensures.formula) does.trims does.additions does.by_propagation in
-    let left : IsTrimmed formula (steps_of_log steps) trimming.log.steps =
-    subst (λ (is : List Inference). Trims (length formula.clauses) is trimming.log.steps) c.in-Ok.ensures.inferences
-    (subst (λ (f : Cnf). Trims (length f.clauses) recorded.inferences trimming.log.steps) c.in-Ok.ensures.formula does.trims) in
     let fewer = subst (λ (ss : List Step). length trimming.log.steps ≤ count_by is_addition ss) (steps_in-log 1 steps) well.fewer in
     are_hints formula (progress steps c.args.tally) trimming.log.steps c.additions-given.result c.printed.result c.additions-given.ensures (additions_fewer trimming.log.steps steps fewer)
-    c.printed.ensures.text c.printed.ensures.read_again well.well.accepted c.requires.unsatisfiable (inl (record { left = left; additions = well.well.additions; again = well.again })) c.printed.ensures.said
+    c.printed.ensures.text c.printed.ensures.read_again well.accepted c.requires.unsatisfiable (inl (record { left = well.trimmed; additions = well.additions; again = well.again })) c.printed.ensures.said
