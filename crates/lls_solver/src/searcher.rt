@@ -1,5 +1,5 @@
 // A searcher, which takes turns.
-ghost use Rattle.std.specs.Prelude.{◌≡◌, ◌≢◌, ◌≤◌, ◌==◌, ℕ, Bool, [], true, length, Ok, IfOk, IsTrue, OnErr, OnOk};
+ghost use Rattle.std.specs.Prelude.{◌≡◌, ◌≢◌, ◌≤◌, ◌==◌, ℕ, ◌+◌, Bool, [], true, length, Ok, IfOk, IsTrue, OnErr, OnOk};
 ghost use Rattle.std.specs.List.{list_any};
 ghost use Rattle.lls_store.specs.Changes.{empty_trail};
 ghost use Rattle.lls_store.specs.Sound.{IsSound};
@@ -24,6 +24,7 @@ use crate::values::values_of;
 use lls_analyse::Analyser;
 use lls_base::Memory;
 use lls_cnf::{Assignment, Formula};
+use lls_lit::Var;
 use lls_prooflog::Log;
 use lls_store::Store;
 use std::alloc::Global;
@@ -101,9 +102,7 @@ impl<S: Store + Drop> Searcher<S> {
         requires vars { (S.state store).vars ≡ formula.now.vars }
         ensures { IfOk result (λ searcher. searcher ≡ record { store = S.state store; trail = course }) }
     {
-        let vars = formula.vars();
-        let analyser = Analyser::new(alloc, vars)?;
-        let policy = Policy::new(alloc, vars, store.count() as usize, manner)?;
+        let (analyser, policy) = tables_of(alloc, formula.vars(), store.count() as usize, manner)?;
         Ok(Searcher {
             store,
             course,
@@ -111,6 +110,22 @@ impl<S: Store + Drop> Searcher<S> {
             policy,
         })
     }
+}
+
+// What a searcher has besides for so many variables and clauses.
+fn tables_of(
+    alloc: Global,
+    vars: u32,
+    clauses: usize,
+    manner: Manner,
+) -> Result<(Analyser, Policy), Memory>
+    requires { vars ≤ Var.MOST }
+    ensures analyser { IfOk result (λ pair. pair.0.vars ≡ vars) }
+    ensures policy { IfOk result (λ pair. pair.1 ≡ record { levels = vars + 1; clauses = clauses }) }
+{
+    let analyser = Analyser::new(alloc, vars)?;
+    let policy = Policy::new(alloc, vars, clauses, manner)?;
+    Ok((analyser, policy))
 }
 
 impl<S: Store> Searcher<S> {
