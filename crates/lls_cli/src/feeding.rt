@@ -25,12 +25,12 @@ pub fn feed_file<'f, S: Shelf>(
 ) -> Result<Feed<'f>, Fault>
     ensures { Reads (IsFed formula.now (files_of S.Shelf shelf.old) name.now) result (shelf_at S.Shelf shelf.old) (shelf_at S.Shelf shelf.new) }
 {
-    let mut feed = Feed::new(alloc, formula)?;
     match shelf.open_input(name.text()) {
         Ok(()) => {}
         Err(OpenFault::Absent) => return Err(Fault::Outside(OutsideFault::NoFile)),
         Err(OpenFault::Failed) => return Err(Fault::Outside(OutsideFault::OpenFailed)),
     }
+    let mut feed = Feed::new(alloc, formula)?;
     feed_rest(shelf, &mut feed)?;
     Ok(feed)
 }
