@@ -11,16 +11,24 @@ use Rattle.lls_answers.specs.Subject as subjects
 abbrev pub IsLong : Period → Type 0
 IsLong period = (4 ≤ period.length) ⊎ ((period.length ≡ 3) × (period.dx ≡ pos 0) × (period.dy ≡ pos 0))
 
--- a long period, or none and an open edge, as where generations before a known one are asked for
-abbrev pub IsSteady : Option Period → Edge → Type 0
-IsSteady (Some period) edge = IsLong period
-IsSteady None Bare = Unit {0}
-IsSteady None Framed = ⊥
+abbrev pub IsLongPeriod : Option Period → Type 0
+IsLongPeriod (Some period) = IsLong period
+IsLongPeriod None = ⊥
 
+-- a long period
 abbrev pub AreSteady : Demands → Type 0
-AreSteady demands = IsSteady demands.period demands.edge
+AreSteady demands = IsLongPeriod demands.period
+
+-- no period and an open edge, as where generations before a known one are asked for
+pub record AreAiming (demands : Demands) : Type 0 where
+  pub period : demands.period ≡ None
+  pub edge : demands.edge ≡ Bare
 
 -- the demands of a problem by its own rule are. With an open rule, or of a formula, none are looked at
 abbrev pub IsSteadySubject : Subject → Type 0
 IsSteadySubject (subjects.Problem asked) = AreSteady asked.problem.demands
 IsSteadySubject subject = ⊥
+
+abbrev pub IsAimingSubject : Subject → Type 0
+IsAimingSubject (subjects.Problem asked) = AreAiming asked.problem.demands
+IsAimingSubject subject = ⊥

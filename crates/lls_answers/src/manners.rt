@@ -1,6 +1,6 @@
 // In which manner a search is made.
 ghost use Rattle.std.specs.Prelude.{◌≡◌, ◌↔◌, None, Some, IsTrue};
-ghost use Rattle.lls_answers.specs.Manners.{AreSteady, IsLong};
+ghost use Rattle.lls_answers.specs.Manners.{AreAiming, AreSteady, IsLong};
 
 use lls_problem::{Demands, Edge, Period};
 use lls_solver::{Manner, Manners};
@@ -27,26 +27,36 @@ fn are_steady(demands: &Demands) -> bool
 {
     match demands.period {
         Some(period) => is_long(period),
-        None => match demands.edge {
-            Edge::Bare => true,
-            Edge::Framed => false,
-        },
+        None => false,
     }
 }
 
-/// The manners of a search for a problem's solution: those that are said, or else the one that mostly needs fewer clauses for what is
+// Whether it mostly takes less time to go towards the longest trail without a conflict.
+fn are_aiming(demands: &Demands) -> bool
+    ensures { IsTrue result ↔ AreAiming demands.now }
+{
+    match demands.edge {
+        Edge::Bare => demands.period.is_none(),
+        Edge::Framed => false,
+    }
+}
+
+/// The manners of a search for a problem's solution: those that are said, or else the one that mostly takes least for what is
 /// demanded.
 pub fn manners_of(said: Option<Manners>, demands: &Demands) -> Manners
     ensures said { (manners : Manners) → said ≡ Some manners → result ≡ manners }
     ensures steady { said ≡ None → AreSteady demands.now → result ≡ Manners.Alone Manner.Steady }
-    ensures restless { said ≡ None → (AreSteady demands.now → ⊥) → result ≡ Manners.Alone Manner.Restless }
+    ensures aiming { said ≡ None → AreAiming demands.now → result ≡ Manners.Alone Manner.Aiming }
+    ensures restless { said ≡ None → (AreSteady demands.now → ⊥) → (AreAiming demands.now → ⊥) → result ≡ Manners.Alone Manner.Restless }
 {
     if let Some(manners) = said {
         return manners;
     }
     if are_steady(demands) {
-        Manners::Alone(Manner::Steady)
-    } else {
-        Manners::Alone(Manner::Restless)
+        return Manners::Alone(Manner::Steady);
     }
+    if are_aiming(demands) {
+        return Manners::Alone(Manner::Aiming);
+    }
+    Manners::Alone(Manner::Restless)
 }

@@ -9,7 +9,7 @@ ghost use Rattle.lls_answers.specs.Opened.{opened_text};
 ghost use Rattle.lls_answers.specs.Subject.{most_open_cells, CanBePrinted, HasNone, Shows, asked_with, formula_asked, formula_opened, none_text, opened_with, subject_formula, undecided_text};
 ghost use Rattle.lls_outside.specs.Grown.{Writes};
 ghost use Rattle.lls_answers.specs.Subject as subjects;
-ghost use Rattle.lls_answers.specs.Manners.{IsSteadySubject};
+ghost use Rattle.lls_answers.specs.Manners.{IsAimingSubject, IsSteadySubject};
 
 use crate::absence::{print_no_rule, print_none, print_unsatisfiable};
 use crate::asked::{Asked, OpenAsked};
@@ -148,7 +148,8 @@ impl Subject {
     pub fn manners(&self, said: Option<Manners>) -> Manners
         ensures said { (manners : Manners) → said ≡ Some manners → result ≡ manners }
         ensures steady { said ≡ None → IsSteadySubject self.now → result ≡ Manners.Alone Manner.Steady }
-        ensures restless { said ≡ None → (IsSteadySubject self.now → ⊥) → result ≡ Manners.Alone Manner.Restless }
+        ensures aiming { said ≡ None → IsAimingSubject self.now → result ≡ Manners.Alone Manner.Aiming }
+        ensures restless { said ≡ None → (IsSteadySubject self.now → ⊥) → (IsAimingSubject self.now → ⊥) → result ≡ Manners.Alone Manner.Restless }
     {
         match &self.about {
             About::Problem(asked) => manners_of(said, asked.problem.demands()),

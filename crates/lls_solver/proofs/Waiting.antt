@@ -1,8 +1,8 @@
 -- The variables that wait in an order, as some are taken out of it and put in, and as a trail grows.
 use Rattle.std.proofs.Common.{◌≡◌, ◌≢◌, inl, inr, ℕ, zero, suc, ◌+◌, ◌-◌, ◌<◌, ◌≤◌, Bool, true, false, cond, List, [], ◌∷◌, ◌++◌, length, get_or, set, take, drop, Some, None, refl, sym, ap, subst, ◌∙◌, arith, true≢false}
-use Rattle.std.specs.Prelude.{ℤ, All, slice_get, count_by, nat_le, ◌||◌}
+use Rattle.std.specs.Prelude.{ℤ, All, slice_get, count_by, nat_le, replicate, ◌||◌}
 use Rattle.std.specs.List.{sum_by}
-use Rattle.std.proofs.lemmas.List.{get_or-set_other, get_or-set_same, take-append-drop}
+use Rattle.std.proofs.lemmas.List.{get_or-replicate, get_or-set_other, get_or-set_same, take-append-drop}
 use Rattle.std.proofs.lemmas.List.Elements.{All-from_recursion, recursion_from_All}
 use Rattle.std.proofs.lemmas.Bool.{or_cases}
 use Rattle.std.specs.List.{AllByRecursion as ByRecursion}
@@ -21,6 +21,7 @@ use Rattle.std.proofs.lemmas.Bool.Decides.{Decides-int_eq}
 use Rattle.std.proofs.lemmas.List.Folds.{list_any-append}
 use Rattle.lls_store.proofs.Values.{same_variable, variable_of-negation}
 use Rattle.lls_store.specs.Store.{GoesOn}
+use Rattle.lls_store.proofs.Tabled.{variable_bounds}
 use Rattle.lls_order.specs.Order.{OrderState, is_in, IsEmpty}
 use Rattle.lls_order.specs.Changes.{put_in, taken_out}
 use Rattle.lls_solver.specs.Course.{AreWaiting, AreWaitingBut, AllSet}
@@ -163,3 +164,13 @@ unset_front entries more l unset =
 pub waiting_on : (old new : TrailState) (order : OrderState) → GoesOn old new → AreWaiting old.entries order → AreWaiting new.entries order
 waiting_on old new order on waiting l within unset =
     waiting l within (unset_front old.entries on.added l (subst (λ (t : TrailState). IsUnset t.entries l) on.grown unset))
+
+-- all variables are in
+in_all : (order : OrderState) (vars v : ℕ) → order.inside ≡ replicate vars true → 1 ≤ v → v ≤ vars → is_in order v ≡ true
+in_all order vars zero inside some most = absurd (omega (arith, some))
+in_all order vars (suc n) inside some most = rw inside (get_or-replicate vars n true false (omega (arith, most)))
+
+pub waiting_all : (vars : ℕ) (order : OrderState) → order.vars ≡ vars → order.inside ≡ replicate vars true → AreWaiting [] order
+waiting_all vars order same inside l literal unset =
+    let bounds = variable_bounds order.vars (variable_of l) literal in
+    in_all order vars (variable_of l) inside bounds.0 (omega (arith, bounds.1, same))

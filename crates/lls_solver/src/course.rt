@@ -13,7 +13,8 @@ ghost use Rattle.lls_analyse.specs.Valued.{HaveValues};
 ghost use Rattle.lls_solver.specs.Course.{IsDecision, IsNext, IsOnCourse, AreWaiting, AllSet};
 
 use crate::manner::Manner;
-use crate::start::{Start, begin_at, order_of, phases_of};
+use crate::phases::Phases;
+use crate::start::{Start, begin_at, order_of};
 use lls_base::Memory;
 use lls_lit::{Lit, Var};
 use lls_order::EitherOrder;
@@ -21,15 +22,14 @@ use lls_store::{Store, Trail};
 use std::alloc::Global;
 use std::marker::Model;
 
-/// The values of variables, which of them are decided next, and the values that they had last.
+/// The values of variables, which of them are decided next, and which values they are decided to have.
 ///
 /// It is seen as its trail: order and phases choose decisions, of which no contract speaks.
 #[derive(Drop)]
 pub(crate) struct Course {
     pub(crate) trail: Trail,
     order: EitherOrder,
-    /// By variable, whether it was true last.
-    phases: Vec<bool>,
+    phases: Phases,
     /// By variable, at which conflict it was bumped last.
     bumped: Vec<u32>,
     conflict: u32,
@@ -46,7 +46,7 @@ impl Model for Course {
 
     ghost view = { λ c. c.trail };
 
-    ghost invariant = { λ c. IsCourse c.trail c.order.order (length c.phases.items) (length c.bumped.items) };
+    ghost invariant = { λ c. IsCourse c.trail c.order.order c.phases (length c.bumped.items) };
 }
 
 impl Course {
@@ -66,7 +66,7 @@ impl Course {
         Ok(Course {
             trail,
             order: order_of(alloc, vars, manner, start.first)?,
-            phases: phases_of(alloc, vars, start)?,
+            phases: Phases::new(alloc, vars, start, manner)?,
             bumped: vec![in alloc; 0; vars as usize]?,
             conflict: 1,
             effort: 0,
@@ -100,14 +100,15 @@ impl Course {
         self.effort
     }
 
-    /// Decides the next variable without a value, as it was last. None where all have values, else the new level.
+    /// Decides the next variable without a value, where unit propagation found no conflict. None where all have values, else the new level.
     pub(crate) fn decide(&mut self) -> Option<u32>
         ensures decided { IfSome result (λ _. IsDecision self.old self.new) }
         ensures none { IfNone result ((self.new ≡ self.old) × AllSet self.old.vars self.old.entries) }
         ensures kept { IsTrail self.new }
     {
         let var = next_without_value(&mut self.order, &self.trail)?;
-        let phase = self.phases[var.index()];
+        self.phases.reach(&self.trail);
+        let phase = self.phases.value(var);
         self.trail.decide(Lit::new(var, phase));
         Some(self.trail.current())
     }
@@ -213,14 +214,13 @@ fn bump_once(order: &mut EitherOrder, bumped: &mut [u32], conflict: u32, var: Va
     }
 }
 
-// Puts the variables whose values go with the levels above this one back into the order, and keeps their values for the
-// next time.
-fn release(order: &mut EitherOrder, phases: &mut [bool], trail: &Trail, level: u32)
+// Puts the variables whose values go with the levels above this one back into the order.
+fn release(order: &mut EitherOrder, phases: &mut Phases, trail: &Trail, level: u32)
     requires vars { order.old.order.vars ≡ trail.now.vars }
-    requires phases { length phases.old ≡ trail.now.vars }
+    requires phases { phases.old ≡ trail.now.vars }
     requires waiting { AreWaiting trail.now.entries order.old.order }
     ensures vars { order.new.order.vars ≡ order.old.order.vars }
-    ensures phases { length phases.new ≡ length phases.old }
+    ensures phases { phases.new ≡ phases.old }
     ensures waiting { AreWaiting (cut_to trail.now level).entries order.new.order }
 {
     let mut k = trail.len();
@@ -230,7 +230,7 @@ fn release(order: &mut EitherOrder, phases: &mut [bool], trail: &Trail, level: u
             return;
         }
         order.put_back(lit.var());
-        phases[lit.var().index()] = lit.is_positive();
+        phases.leave(lit);
         k -= 1;
     }
 }

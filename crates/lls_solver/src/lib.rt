@@ -12,6 +12,7 @@ mod loading;
 mod manner;
 mod mean;
 mod outcome;
+mod phases;
 mod policy;
 mod rare_restarts;
 mod restarts;

@@ -8,6 +8,8 @@ pub enum Manner {
     /// Decides first what it met most, of late more than before; restarts rarely, and goes on where the clauses are that forced the literals
     /// of what it learnt.
     Steady,
+    /// As a steady one, but goes towards the values of the longest trail that had no conflict, and not towards the last ones.
+    Aiming,
 }
 
 /// By which manner a formula is searched.

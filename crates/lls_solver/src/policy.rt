@@ -99,7 +99,7 @@ impl Policy {
     {
         match self.manner {
             Manner::Restless => &[],
-            Manner::Steady => &lits[lits.len().min(1)..],
+            Manner::Steady | Manner::Aiming => &lits[lits.len().min(1)..],
         }
     }
 
@@ -107,7 +107,7 @@ impl Policy {
     pub(crate) fn wants_restart(&self) -> bool {
         match self.manner {
             Manner::Restless => self.restarts.is_due(),
-            Manner::Steady => self.rare_restarts.is_due(),
+            Manner::Steady | Manner::Aiming => self.rare_restarts.is_due(),
         }
     }
 

@@ -33,7 +33,7 @@ pub(crate) fn order_of(
 {
     let mut order = match manner {
         Manner::Restless => EitherOrder::queue(alloc, vars)?,
-        Manner::Steady => EitherOrder::heap(alloc, vars)?,
+        Manner::Steady | Manner::Aiming => EitherOrder::heap(alloc, vars)?,
     };
     if let Some(seed) = first {
         begin_at(&mut order, drawn_variable(vars, seed));

@@ -1,4 +1,4 @@
-use Rattle.std.proofs.Common.{◌≡◌, length-set, ◌+◌, ◌-◌, true, sym, ap, ◌∙◌, subst, arith}
+use Rattle.std.proofs.Common.{◌≡◌, ◌+◌, ◌-◌, true, sym, ap, ◌∙◌, subst, arith}
 use Rattle.lls_lit.specs.Literal.{variable_of}
 use Rattle.lls_store.specs.Trail.{entry_of}
 use Rattle.lls_order.specs.Order.{is_in}
@@ -30,9 +30,9 @@ pub put_back-requires : goal.put_back-requires
 put_back-requires c =
     omega (arith, variable_read c.args.trail.now (c.loop-k.k - 1) c.lit-lit.result c.len-k.ensures.kept c.lit-lit.ensures, c.requires.vars, c.loop-k.invariant.vars)
 
-pub bounds-phases-index : goal.bounds-phases-index
-bounds-phases-index c =
-    omega (arith, variable_read c.args.trail.now (c.loop-k.k - 1) c.lit-lit.result c.len-k.ensures.kept c.lit-lit.ensures, c.index.ensures.place, c.var-in-loop-k.ensures.var, c.requires.phases, c.loop-k.invariant.phases)
+pub leave-requires : goal.leave-requires
+leave-requires c =
+    omega (arith, variable_read c.args.trail.now (c.loop-k.k - 1) c.lit-lit.result c.len-k.ensures.kept c.lit-lit.ensures, c.requires.phases, c.loop-k.invariant.phases)
 
 pub loop-k-preserved : goal.loop-k-preserved
 loop-k-preserved c =
@@ -43,7 +43,7 @@ loop-k-preserved c =
     let next : k + 1 ≡ c.loop-k.k = omega (arith, c.loop-k-test.true) in
     record {
       vars = ap (λ (o : EitherState). o.order.vars) c.put_back.ensures.put_in ∙ c.loop-k.invariant.vars;
-      phases = length-set c.loop-k.phases c.index.result c.is_positive.result ∙ c.loop-k.invariant.phases;
+      phases = c.leave.ensures ∙ c.loop-k.invariant.phases;
       within = omega (arith, c.loop-k.invariant.within);
       waiting = rw c.put_back.ensures.put_in (waiting_put t.entries c.loop-k.order.order v c.loop-k.invariant.waiting);
       above = above_next t c.args.level k read.entry read.at (above_told c.args.level read.entry.level c.is_above.result (test_told t k c.args.level c.lit-lit.result c.is_above.result read c.is_above.ensures) c.if-not-is_above.false) (subst (IsAbove t c.args.level) (sym next) c.loop-k.invariant.above);

@@ -7,7 +7,7 @@ use Rattle.lls_solver.proofs.course.release.Given as goal
 abbrev pub invariant-loop-k : goal.invariant-loop-k
 invariant-loop-k l = record {
   vars : l.order.order.vars ≡ l.initial.order.order.vars;
-  phases : length l.phases ≡ length l.initial.phases;
+  phases : l.phases ≡ l.initial.phases;
   within : l.k ≤ length l.trail.entries;
   waiting : AreWaiting l.trail.entries l.order.order;
   above : IsAbove l.trail l.level l.k;

@@ -6,6 +6,6 @@ invariant-loop-lit l = record {
   trail : l.self-inside.trail ≡ l.initial.self-inside.trail;
   inside : l.self-inside.order.order.inside ≡ l.initial.self-inside.order.order.inside;
   vars : l.self-inside.order.order.vars ≡ l.initial.self-inside.order.order.vars;
-  phases : length l.self-inside.phases.items ≡ length l.initial.self-inside.phases.items;
+  phases : l.self-inside.phases ≡ l.initial.self-inside.phases;
   bumped : length l.self-inside.bumped.items ≡ length l.initial.self-inside.bumped.items;
 }

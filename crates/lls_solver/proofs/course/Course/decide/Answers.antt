@@ -10,7 +10,7 @@ invariant_of-self-2 c =
     record {
       is_trail = c.current.ensures.kept;
       order_vars = rw c.decide.ensures (c.in_ok-var.ensures.vars ∙ c.self.invariant.order_vars);
-      phase_each = rw c.decide.ensures c.self.invariant.phase_each;
+      phase_each = rw c.decide.ensures (c.reach.ensures ∙ c.self.invariant.phase_each);
       bumped_each = rw c.decide.ensures c.self.invariant.bumped_each;
       waiting = rw c.decide.ensures (waiting_decided t.entries (record { lit = lit; level = t.current + 1; reason = None }) c.next_without_value.new.order.order c.in_ok-var.var c.new.ensures.var c.in_ok-var.ensures.some.others);
     }
