@@ -15,6 +15,11 @@ const RESTLESS: Approach = Approach {
     first: None,
 };
 
+const AIMING: Approach = Approach {
+    manners: Manners::Alone(Manner::Aiming),
+    first: None,
+};
+
 // A formula, the values that its variables begin with, the budget and whether all learnt clauses are kept; the values of the
 // assignment that is found, if there is one, and the log.
 type Row = (
@@ -102,6 +107,19 @@ const ROWS: [Row; 8] = [
     ),
 ];
 
+// 1 is decided false, so 5 is true, and then 2 is decided false: no conflict so far, and no trail is as long before the next. Of the two
+// clauses that watch 2 the later one comes first and forces -3, and the other one is false: 2 1 is learnt. At level 1 that makes 2 true,
+// then -4 is forced by the last clause, and the fourth is false: 1 is learnt. Now 5 is decided true, as it was on the longest trail, and
+// 2, 3 and 4, which had no value there, are decided false, as at first, where 2 was true last.
+const AIMED: Row = (
+    b"p cnf 5 5\n1 5 0 1 2 3 0 1 2 -3 0 1 -2 4 0 1 -2 -4 0",
+    &[],
+    10,
+    true,
+    Some(&[true, false, false, false, true]),
+    "6 2 1 0 3 2 0\n7 1 0 6 5 4 0\n",
+);
+
 fn assert_outcome(
     rt: &impl Abort,
     formula: &Formula,
@@ -126,13 +144,14 @@ fn search(
     alloc: Global,
     formula: &Formula,
     row: &Row,
+    approach: Approach,
     log: &mut Log,
 ) -> Result<(), Fail>
     requires { log.old.steps ≡ [] }
 {
     let (_, phases, budget, keep_all, values, _) = *row;
     assert!(rt; budget <= MOST_BUDGET);
-    let outcome = solve_from(alloc, formula, phases, RESTLESS, budget, keep_all, log)?;
+    let outcome = solve_from(alloc, formula, phases, approach, budget, keep_all, log)?;
     assert_outcome(rt, formula, &outcome, values)
 }
 
@@ -142,21 +161,21 @@ fn assert_steps(rt: &impl Abort, alloc: Global, log: &Log, steps: &str) -> Resul
     Ok(())
 }
 
-fn compare(rt: &impl Abort, alloc: Global, row: &Row) -> Result<(), Fail> {
+fn compare(rt: &impl Abort, alloc: Global, row: &Row, approach: Approach) -> Result<(), Fail> {
     let (text, _, _, _, _, steps) = *row;
     assert!(rt; text.len() <= MOST_DIMACS_BYTES);
     let formula = read_dimacs(alloc, text)?;
     let mut log = Log::new(alloc);
-    search(rt, alloc, &formula, row, &mut log)?;
+    search(rt, alloc, &formula, row, approach, &mut log)?;
     assert_steps(rt, alloc, &log, steps)
 }
 
 #[test]
 fn searches_are_as_worked(rt: HostRuntime) -> Result<(), Fail> {
     for row in &ROWS {
-        compare(&rt, rt.alloc(), row)?;
+        compare(&rt, rt.alloc(), row, RESTLESS)?;
     }
-    Ok(())
+    compare(&rt, rt.alloc(), &AIMED, AIMING)
 }
 
 // Whether a pigeon sits in a hole, or doesn't; both are counted from 0.
