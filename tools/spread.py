@@ -700,7 +700,10 @@ class Joined(Steps):
 
     def __init__(self, spread, file, pool, room):
         super().__init__(file, spread.clauses)
-        self.leaves, self.room, self.tasks, self.left = {leaf.name for leaf in spread.leaves()}, room, [], {}
+        leaves = list(spread.leaves())
+        self.leaves, self.room, self.tasks, self.left = {leaf.name for leaf in leaves}, room, [], {}
+        searches = [path for leaf in leaves for path in leaf.searches()]
+        self.additions = dict(zip(searches, pool.map(additions_of, searches)))
         self.plan(Piece(spread, "r"), self.last, [])
         self.written = pool.imap(write_steps, self.tasks)
 
@@ -709,7 +712,7 @@ class Joined(Steps):
         if searches := piece.searches():
             self.tasks.append((piece, last, handed, f"{self.room}/{piece.name}"))
         if piece.name in self.leaves:
-            return last + sum(map(additions_of, searches))
+            return last + sum(self.additions[path] for path in searches)
         counted = Steps(Nowhere(), last)
         self.left[piece.name] = counted.searches(piece, handed)
         last = counted.last
