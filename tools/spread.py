@@ -195,7 +195,7 @@ class Spread:
 
 
 def manners_of(options):
-    """Returns the manner that a search with these options goes about it by where none is said, as docs/usage.md has it, and the other one."""
+    """Returns the manner that a search with these options goes about it by where none is said, or steady where it is aiming, which has no word, and the other one."""
     said = dict(option[2:].split("=", 1) for option in options)
     period, *move = map(int, said.get("period", "0").split(","))
     stays = not any(move)
